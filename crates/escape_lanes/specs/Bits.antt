@@ -1,0 +1,40 @@
+use Rattle.std.specs.Prelude.{◌≡◌, ℕ, ◌-◌, ◌/◌, ◌%◌, Bool, true, false, List, [], ◌∷◌, ◌++◌, length, take, replicate, nat_eq, nat_le, ◌||◌, map, refl}
+use Rattle.std.proofs.Common.{zero, suc, ap, cond}
+use Rattle.std.proofs.lemmas.List.{length-map}
+
+-- the place of the first set lane, and the number of lanes where none is set
+unfoldable pub first_set : List Bool → ℕ
+first_set [] = 0
+first_set (true ∷ bs) = 0
+first_set (false ∷ bs) = suc (first_set bs)
+
+-- whether no lane is set
+unfoldable pub none_set : List Bool → Bool
+none_set [] = true
+none_set (true ∷ bs) = false
+none_set (false ∷ bs) = none_set bs
+
+-- the last n lanes cleared
+abbrev pub clear_last : ℕ → List Bool → List Bool
+clear_last n bs = take (length bs - n) bs ++ replicate n false
+
+-- the lowest k bits of n, lowest first
+unfoldable pub bits_of : ℕ → ℕ → List Bool
+bits_of zero n = []
+bits_of (suc k) n = nat_eq (n % 2) 1 ∷ bits_of k (n / 2)
+
+pub length-bits_of : (k n : ℕ) → length (bits_of k n) ≡ k
+unfolding bits_of
+length-bits_of zero n = refl
+length-bits_of (suc k) n = ap suc (length-bits_of k (n / 2))
+
+-- a lane of bytes is set where it is 255
+abbrev pub truths_of : List ℕ → List Bool
+truths_of = map (λ b. nat_eq b 255)
+
+-- each lane wholly set or wholly clear
+abbrev pub wide : List Bool → List ℕ
+wide = map (λ b. cond b 255 0)
+
+pub length-truths_of : (xs : List ℕ) → length (truths_of xs) ≡ length xs
+length-truths_of xs = length-map xs (λ b. nat_eq b 255)

@@ -1,0 +1,5 @@
+pub mod Mode
+pub mod Replacement
+pub mod Entry
+pub mod Bits
+pub mod Written

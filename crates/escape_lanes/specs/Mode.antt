@@ -1,0 +1,11 @@
+-- What is written: a JSON string literal, or HTML.
+use Rattle.std.specs.Prelude.{Bool, true, false}
+
+pub data Mode : Type 0 where
+  json : Mode
+  html : Mode
+
+-- the mode that the constant parameter `HTML` of the public calls names
+abbrev pub mode_of : Bool → Mode
+mode_of true = html
+mode_of false = json

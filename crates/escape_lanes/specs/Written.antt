@@ -1,0 +1,25 @@
+use Rattle.std.specs.Prelude.{◌≡◌, ℕ, List, length}
+use Rattle.std.specs.Borrow.{MutBor}
+use Rattle.escape_lanes.specs.declared.simd.target.Target.{Target}
+
+-- the bytes of the target
+abbrev pub bytes_of : {N : ℕ} → Target N → List ℕ
+bytes_of t = t.slice.now
+
+abbrev pub stored_of : {N : ℕ} → Target N → ℕ
+stored_of t = t.stored.count
+
+abbrev pub escaped_of : {N : ℕ} → Target N → ℕ
+escaped_of t = t.escaped.count
+
+abbrev pub quotes_of : {N : ℕ} → Target N → ℕ
+quotes_of t = t.quotes.count
+
+-- the target stands over this slice
+abbrev pub IsOver : {N : ℕ} → Target N → MutBor (List ℕ) → Type 0
+IsOver t dst = t.slice.ghost_name ≡ dst.ghost_name
+
+-- both stand over one slice
+pub record IsSameSlice {N : ℕ} (old new : Target N) : Type 0 where
+  pub reference : new.slice.ghost_name ≡ old.slice.ghost_name
+  pub len : length new.slice.now ≡ length old.slice.now

@@ -1,0 +1,4 @@
+//! What the kernels of `escape_simd` stand on.
+#![tactic(auto)]
+
+pub mod simd;

@@ -1,5 +1,6 @@
-use Rattle.std.specs.Prelude.{◌≡◌, ℕ, ◌-◌, ◌/◌, ◌%◌, Bool, true, false, List, [], ◌∷◌, ◌++◌, length, take, replicate, nat_eq, nat_le, ◌||◌, map, refl}
-use Rattle.std.proofs.Common.{zero, suc, ap, cond}
+-- Masks as lists of truth values, one for each lane, the first lane first.
+use Rattle.std.specs.Prelude.{◌≡◌, ℕ, ◌-◌, ◌/◌, ◌%◌, ◌^◌, Bool, true, false, List, [], ◌∷◌, ◌++◌, length, take, replicate, nat_eq, map, refl}
+use Rattle.std.proofs.Common.{zero, suc, ap, cond, not}
 use Rattle.std.proofs.lemmas.List.{length-map}
 
 -- the place of the first set lane, and the number of lanes where none is set
@@ -23,10 +24,26 @@ unfoldable pub bits_of : ℕ → ℕ → List Bool
 bits_of zero n = []
 bits_of (suc k) n = nat_eq (n % 2) 1 ∷ bits_of k (n / 2)
 
+-- k bits are k truth values
 pub length-bits_of : (k n : ℕ) → length (bits_of k n) ≡ k
 unfolding bits_of
 length-bits_of zero n = refl
 length-bits_of (suc k) n = ap suc (length-bits_of k (n / 2))
+
+-- the lowest k lanes of w bits each, lowest first: a lane is set where its bits aren't all zero
+unfoldable pub lanes_of : ℕ → ℕ → ℕ → List Bool
+lanes_of w zero n = []
+lanes_of w (suc k) n = not (nat_eq (n % 2 ^ w) 0) ∷ lanes_of w k (n / 2 ^ w)
+
+-- the lowest k lanes of four bits each
+abbrev pub nibbles_of : ℕ → ℕ → List Bool
+nibbles_of = lanes_of 4
+
+-- k lanes are k truth values
+pub length-lanes_of : (w k n : ℕ) → length (lanes_of w k n) ≡ k
+unfolding lanes_of
+length-lanes_of w zero n = refl
+length-lanes_of w (suc k) n = ap suc (length-lanes_of w k (n / 2 ^ w))
 
 -- a lane of bytes is set where it is 255
 abbrev pub truths_of : List ℕ → List Bool
@@ -36,5 +53,6 @@ truths_of = map (λ b. nat_eq b 255)
 abbrev pub wide : List Bool → List ℕ
 wide = map (λ b. cond b 255 0)
 
+-- as many truth values as lanes
 pub length-truths_of : (xs : List ℕ) → length (truths_of xs) ≡ length xs
 length-truths_of xs = length-map xs (λ b. nat_eq b 255)

@@ -1,3 +1,4 @@
+-- What a target holds, and what has been written to it.
 use Rattle.std.specs.Prelude.{◌≡◌, ℕ, List, length}
 use Rattle.std.specs.Borrow.{MutBor}
 use Rattle.escape_lanes.specs.declared.simd.target.Target.{Target}
@@ -6,20 +7,23 @@ use Rattle.escape_lanes.specs.declared.simd.target.Target.{Target}
 abbrev pub bytes_of : {N : ℕ} → Target N → List ℕ
 bytes_of t = t.slice.now
 
+-- how many vectors were stored, whole or the front of one
 abbrev pub stored_of : {N : ℕ} → Target N → ℕ
 stored_of t = t.stored.count
 
+-- how many escapes were written
 abbrev pub escaped_of : {N : ℕ} → Target N → ℕ
 escaped_of t = t.escaped.count
 
+-- how many quotes were written
 abbrev pub quotes_of : {N : ℕ} → Target N → ℕ
 quotes_of t = t.quotes.count
 
--- the target stands over this slice
+-- the target stands over this slice: what it holds when it ends is what the slice holds then
 abbrev pub IsOver : {N : ℕ} → Target N → MutBor (List ℕ) → Type 0
 IsOver t dst = t.slice.ghost_name ≡ dst.ghost_name
 
--- both stand over one slice
+-- both stand over one slice, which keeps its length
 pub record IsSameSlice {N : ℕ} (old new : Target N) : Type 0 where
   pub reference : new.slice.ghost_name ≡ old.slice.ghost_name
   pub len : length new.slice.now ≡ length old.slice.now

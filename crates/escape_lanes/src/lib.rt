@@ -2,3 +2,6 @@
 #![tactic(auto)]
 
 pub mod simd;
+pub mod tables;
+#[cfg(test)]
+mod tests;

@@ -3,7 +3,7 @@
 pub mod bits;
 pub mod sse2;
 pub mod target;
-pub mod ticks;
+mod ticks;
 pub mod traits;
 
 pub use traits::{BitMask, Mask, Simd};

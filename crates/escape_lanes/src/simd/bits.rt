@@ -1,9 +1,10 @@
-//! A number as its bits, lowest first.
+//! Numbers as bit masks, lowest bits first.
 ghost use Rattle.std.specs.Prelude.{◌≡◌, ℕ, length, refl};
-ghost use Rattle.escape_lanes.specs.Bits.{bits_of, length-bits_of};
+ghost use Rattle.escape_lanes.specs.Bits.{bits_of, lanes_of, nibbles_of, length-bits_of, length-lanes_of};
 
 use crate::simd::traits::BitMask;
 
+/// Lane `i` is bit `i`.
 impl BitMask for u16 {
     const LEN: usize = 16;
 
@@ -13,22 +14,137 @@ impl BitMask for u16 {
 
     ghost count = { length-bits_of 16 };
 
+    #[inline(always)]
     fn first_offset(&self) -> usize {
         self.trailing_zeros() as usize
     }
 
+    #[inline(always)]
     fn as_little_endian(&self) -> Self {
         *self
     }
 
+    #[inline(always)]
     fn all_zero(&self) -> bool {
         *self == 0
     }
 
+    #[inline(always)]
     fn clear_high_bits(&self, n: usize) -> Self {
-        if n == 0 {
-            return *self;
+        if n == 16 { 0 } else { *self & (u16::MAX >> n) }
+    }
+}
+
+/// Lane `i` is bit `i`.
+impl BitMask for u32 {
+    const LEN: usize = 32;
+
+    ghost LEN = { 32 };
+
+    ghost bits = { bits_of 32 };
+
+    ghost count = { length-bits_of 32 };
+
+    #[inline(always)]
+    fn first_offset(&self) -> usize {
+        self.trailing_zeros() as usize
+    }
+
+    #[inline(always)]
+    fn as_little_endian(&self) -> Self {
+        *self
+    }
+
+    #[inline(always)]
+    fn all_zero(&self) -> bool {
+        *self == 0
+    }
+
+    #[inline(always)]
+    fn clear_high_bits(&self, n: usize) -> Self {
+        if n == 32 { 0 } else { *self & (u32::MAX >> n) }
+    }
+}
+
+/// Lane `i` is bit `i`.
+impl BitMask for u64 {
+    const LEN: usize = 64;
+
+    ghost LEN = { 64 };
+
+    ghost bits = { bits_of 64 };
+
+    ghost count = { length-bits_of 64 };
+
+    #[inline(always)]
+    fn first_offset(&self) -> usize {
+        self.trailing_zeros() as usize
+    }
+
+    #[inline(always)]
+    fn as_little_endian(&self) -> Self {
+        *self
+    }
+
+    #[inline(always)]
+    fn all_zero(&self) -> bool {
+        *self == 0
+    }
+
+    #[inline(always)]
+    fn clear_high_bits(&self, n: usize) -> Self {
+        if n == 64 { 0 } else { *self & (u64::MAX >> n) }
+    }
+}
+
+/// Sixteen lanes of four bits each, as a vector of bytes narrowed to half its width gives them.
+///
+/// Lane `i` is bits `4i` to `4i + 3`, and is set where these aren't all zero.
+#[derive(Drop)]
+pub struct NeonBits(u64);
+
+impl NeonBits {
+    /// The sixteen lanes of any number.
+    ///
+    /// `NeonBits::new(0x200).first_offset()` is 2.
+    #[inline(always)]
+    pub fn new(u: u64) -> Self
+        ensures { ⟦<NeonBits as BitMask>⟧.bits result ≡ nibbles_of 16 u }
+    {
+        NeonBits(u)
+    }
+}
+
+impl BitMask for NeonBits {
+    const LEN: usize = 16;
+
+    ghost LEN = { 16 };
+
+    ghost bits = { λ m. nibbles_of 16 m.0 };
+
+    ghost count = { λ m. length-lanes_of 4 16 m.0 };
+
+    #[inline(always)]
+    fn first_offset(&self) -> usize {
+        (self.0.trailing_zeros() / 4) as usize
+    }
+
+    #[inline(always)]
+    fn as_little_endian(&self) -> Self {
+        NeonBits(self.0)
+    }
+
+    #[inline(always)]
+    fn all_zero(&self) -> bool {
+        self.0 == 0
+    }
+
+    #[inline(always)]
+    fn clear_high_bits(&self, n: usize) -> Self {
+        if n == 16 {
+            NeonBits(0)
+        } else {
+            NeonBits(self.0 & (u64::MAX >> (4 * n)))
         }
-        *self & ((1 << (16 - n)) - 1)
     }
 }

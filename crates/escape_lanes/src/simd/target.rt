@@ -4,8 +4,20 @@ ghost use Rattle.std.proofs.Math.Seq.{paste};
 ghost use Rattle.escape_lanes.specs.Written.{bytes_of, stored_of, escaped_of, quotes_of, IsOver, IsSameSlice};
 
 use crate::simd::ticks::Tally;
+pub use crate::simd::ticks::Ticks;
 use crate::simd::traits::Simd;
 
+/// A slice that a kernel with vectors of `N` bytes writes to, and nowhere else.
+///
+/// A contract sees its bytes and three counts: the vectors stored, the escapes written and the
+/// quotes written. The counts take no bytes, so a target is as large as the reference that it
+/// holds. Each call changes its own range and its own count, and leaves the rest.
+///
+/// ```notrust
+/// let mut target = Target::<16>::new(dst);
+/// target.quote(0);
+/// // when the target ends, `dst` holds what was written
+/// ```
 #[derive(Drop)]
 pub struct Target<'a, const N: usize> {
     slice: &'a mut [u8],
@@ -15,6 +27,8 @@ pub struct Target<'a, const N: usize> {
 }
 
 impl<'a, const N: usize> Target<'a, N> {
+    /// A target over `dst`, with its bytes and all counts at 0.
+    #[inline(always)]
     pub fn new(dst: &'a mut [u8]) -> Self
         ensures over { IsOver result dst.entry }
         ensures bytes { bytes_of result ≡ dst.old }
@@ -30,36 +44,18 @@ impl<'a, const N: usize> Target<'a, N> {
         }
     }
 
+    /// The number of bytes, which never changes.
+    #[inline(always)]
     pub fn len(&self) -> usize
         ensures { result ≡ length (bytes_of self.now) }
     {
         self.slice.len()
     }
 
-    pub fn quote(&mut self, at: usize)
-        requires { at < length (bytes_of self.old) }
-        ensures same_slice { IsSameSlice self.old self.new }
-        ensures bytes { bytes_of self.new ≡ slice_set (bytes_of self.old) at 34 }
-        ensures stored { stored_of self.new ≡ stored_of self.old }
-        ensures escaped { escaped_of self.new ≡ escaped_of self.old }
-        ensures quotes { quotes_of self.new ≡ quotes_of self.old + 1 }
-    {
-        self.slice[at] = 34;
-        self.quotes.raise();
-    }
-
-    pub fn escape(&mut self, at: usize, entry: &[u8; 8])
-        requires { at + 8 ≤ length (bytes_of self.old) }
-        ensures same_slice { IsSameSlice self.old self.new }
-        ensures bytes { bytes_of self.new ≡ paste (bytes_of self.old) at entry.now 8 }
-        ensures stored { stored_of self.new ≡ stored_of self.old }
-        ensures escaped { escaped_of self.new ≡ escaped_of self.old + 1 }
-        ensures quotes { quotes_of self.new ≡ quotes_of self.old }
-    {
-        self.slice[at..at + 8].copy_from_slice(entry);
-        self.escaped.raise();
-    }
-
+    /// Writes the `N` lanes of `v` at `at`.
+    ///
+    /// The vector has `N` lanes, and the target `N` bytes from `at` on.
+    #[inline(always)]
     pub fn store<S: Simd>(&mut self, at: usize, v: &S)
         requires lanes { S.LANES ≡ N }
         requires room { at + N ≤ length (bytes_of self.old) }
@@ -73,6 +69,10 @@ impl<'a, const N: usize> Target<'a, N> {
         self.stored.raise();
     }
 
+    /// Writes exactly the first `k` lanes of `v` at `at`.
+    ///
+    /// The vector has `N` lanes, `k` of which are written, and the target `k` bytes from `at` on.
+    #[inline(always)]
     pub fn store_front<S: Simd>(&mut self, at: usize, v: &S, k: usize)
         requires lanes { S.LANES ≡ N }
         requires count { k ≤ N }
@@ -87,5 +87,39 @@ impl<'a, const N: usize> Target<'a, N> {
         v.storeu(&mut lanes);
         self.slice[at..at + k].copy_from_slice(&lanes[..k]);
         self.stored.raise();
+    }
+
+    /// Writes the eight bytes of an entry at `at`.
+    ///
+    /// The target has eight bytes from `at` on.
+    #[inline(always)]
+    pub fn escape(&mut self, at: usize, entry: &[u8; 8])
+        requires { at + 8 ≤ length (bytes_of self.old) }
+        ensures same_slice { IsSameSlice self.old self.new }
+        ensures bytes { bytes_of self.new ≡ paste (bytes_of self.old) at entry.now 8 }
+        ensures stored { stored_of self.new ≡ stored_of self.old }
+        ensures escaped { escaped_of self.new ≡ escaped_of self.old + 1 }
+        ensures quotes { quotes_of self.new ≡ quotes_of self.old }
+    {
+        // A copy from a local is one move of eight bytes: it can't overlap the target.
+        let bytes = *entry;
+        self.slice[at..at + 8].copy_from_slice(&bytes);
+        self.escaped.raise();
+    }
+
+    /// Writes a quotation mark, 0x22, at `at`.
+    ///
+    /// The target has a byte at `at`.
+    #[inline(always)]
+    pub fn quote(&mut self, at: usize)
+        requires { at < length (bytes_of self.old) }
+        ensures same_slice { IsSameSlice self.old self.new }
+        ensures bytes { bytes_of self.new ≡ slice_set (bytes_of self.old) at 0x22 }
+        ensures stored { stored_of self.new ≡ stored_of self.old }
+        ensures escaped { escaped_of self.new ≡ escaped_of self.old }
+        ensures quotes { quotes_of self.new ≡ quotes_of self.old + 1 }
+    {
+        self.slice[at] = b'"';
+        self.quotes.raise();
     }
 }

@@ -4,7 +4,7 @@ ghost use Rattle.std.specs.Borrow.{ftrue};
 
 use std::marker::Model;
 
-/// A count. A clause reads it as `count`.
+/// A count, a whole number without limit. A clause reads it as `count`.
 #[derive(Drop)]
 pub struct Tally {
     pub ghost count: { ℕ },
@@ -15,18 +15,24 @@ impl Model for Tally {
 }
 
 impl Tally {
+    /// A count of 0.
+    #[inline(always)]
     pub(crate) fn new() -> Tally
         ensures { result.count ≡ 0 }
     {
         Tally {}
     }
 
+    // A count is never written to: the next one is a new value.
+    #[inline(always)]
     fn one_more(_before: &Tally) -> Tally
         ensures { result.count ≡ _before.now.count + 1 }
     {
         Tally {}
     }
 
+    /// Raises the count by one.
+    #[inline(always)]
     pub(crate) fn raise(&mut self)
         ensures { self.new.count ≡ self.old.count + 1 }
     {
@@ -34,7 +40,10 @@ impl Tally {
     }
 }
 
-/// How often a classifier was called.
+/// How often a classifier was called. A contract sees that number.
+///
+/// Only the classifiers raise it, by one in each call, and it can't be cloned: so a kernel that is
+/// lent the ticks of its caller has called a classifier as often as they rose.
 #[derive(Drop)]
 pub struct Ticks {
     tally: Tally,
@@ -47,6 +56,8 @@ impl Model for Ticks {
 }
 
 impl Ticks {
+    /// No call yet.
+    #[inline(always)]
     pub fn new() -> Self
         ensures { result ≡ 0 }
     {
@@ -55,6 +66,8 @@ impl Ticks {
         }
     }
 
+    /// One more call of a classifier.
+    #[inline(always)]
     pub(crate) fn tick(&mut self)
         ensures { self.new ≡ self.old + 1 }
     {

@@ -5,47 +5,69 @@ ghost use Rattle.escape_lanes.specs.Bits.{first_set, none_set, clear_last};
 
 use std::ops::{BitAnd, BitOr, BitOrAssign};
 
-/// A contract sees `LEN` truth values.
+/// The lanes of a mask as a number, to find the first that is set.
+///
+/// A contract sees `LEN` truth values, one for each lane, the first lane first.
 pub trait BitMask: Drop {
+    /// The number of lanes.
     const LEN: usize;
 
     ghost LEN: { ℕ };
 
+    // The truth values, lane by lane.
     ghost bits: { Self → List Bool };
 
+    /// The place of the first lane that is set, and `LEN` where none is.
     fn first_offset(&self) -> usize
         ensures { result ≡ first_set (bits self.now) };
 
+    /// The same lanes, in the order in which the lane of the lowest address is the lowest.
+    ///
+    /// They are held in that order, so this is the same mask.
     fn as_little_endian(&self) -> Self
         ensures { bits result ≡ bits self.now };
 
+    /// Whether no lane is set.
     fn all_zero(&self) -> bool
         ensures { result ≡ none_set (bits self.now) };
 
+    /// The mask with its last `n` lanes cleared and the others kept.
+    ///
+    /// `n` is at most `LEN`, and `LEN` clears all lanes.
     fn clear_high_bits(&self, n: usize) -> Self
         requires { n ≤ LEN }
         ensures { bits result ≡ clear_last n (bits self.now) };
 
+    // There are `LEN` of them.
     ghost count: { (m : Self) → length (bits m) ≡ LEN };
 }
 
-/// A contract sees a truth value for each lane.
+/// The answer of a comparison of two vectors, lane by lane.
+///
+/// A contract sees a truth value for each lane, as many as the mask's bit mask has. The operators
+/// act lane by lane: `a | b` has the lanes of either, `a & b` the lanes of both.
 pub trait Mask: Sized
     + Drop
     + BitOr<Self, Output = Self>
     + BitOrAssign
     + BitAnd<Self, Output = Self> {
+    /// The type of one element of the vectors that are compared.
     type Element;
 
+    /// The same truth values, as a number.
     type BitMask: BitMask;
 
+    // The truth values, lane by lane.
     ghost truths: { Self → List Bool };
 
+    /// The bit mask with the same truth values.
     fn bitmask(self) -> Self::BitMask
         ensures { Self.BitMask.bits result ≡ truths self };
 
+    // There are as many as the bit mask has.
     ghost width: { (m : Self) → length (truths m) ≡ Self.BitMask.LEN };
 
+    // The operators may always be used, and act lane by lane.
     ghost can_or: { (a b : Self) → Self.can_bitor a b };
 
     ghost or_is: { (a b c : Self) → Self.bitor_gives a b c → truths c ≡ zip2 ◌||◌ (truths a) (truths b) };
@@ -59,43 +81,59 @@ pub trait Mask: Sized
     ghost and_is: { (a b c : Self) → Self.bitand_gives a b c → truths c ≡ zip2 ◌&&◌ (truths a) (truths b) };
 }
 
-/// A contract sees `LANES` numbers below 256.
+/// A vector of bytes.
+///
+/// A contract sees `LANES` numbers from 0 to 255, the first lane first.
 pub trait Simd: Sized + Drop {
+    /// The number of lanes, which is the size of a vector in bytes: 16, 32 or 64 here.
     const LANES: usize;
 
+    /// The type of one element.
     type Element;
 
+    /// What a comparison answers.
     type Mask: Mask;
 
     ghost LANES: { ℕ };
 
+    // The numbers, lane by lane.
     ghost lanes: { Self → List ℕ };
 
+    // The number that an element stands for.
     ghost number: { Self.Element → ℕ };
 
+    /// The first `LANES` bytes of `src`, which has as many or more.
     fn loadu(src: &[u8]) -> Self
         requires { LANES ≤ length src.now }
         ensures { lanes result ≡ take LANES src.now };
 
+    /// Writes the lanes to the first `LANES` bytes of `dst`, which has as many or more, and leaves
+    /// the bytes after them alone.
     fn storeu(&self, dst: &mut [u8])
         requires { LANES ≤ length dst.old }
         ensures { dst.new ≡ lanes self.now ++ drop LANES dst.old };
 
+    /// The lanes that are equal in both vectors.
     fn eq(&self, rhs: &Self) -> Self::Mask
         ensures { Self.Mask.truths result ≡ zip2 nat_eq (lanes self.now) (lanes rhs.now) };
 
+    /// The element in every lane.
     fn splat(elem: Self::Element) -> Self
         ensures { lanes result ≡ replicate LANES (number elem) };
 
+    /// The lanes where this vector is at most the other one, as unsigned numbers.
     fn le(&self, rhs: &Self) -> Self::Mask
         ensures { Self.Mask.truths result ≡ zip2 nat_le (lanes self.now) (lanes rhs.now) };
 
+    // There are `LANES` of them, each below 256.
     ghost width: { (v : Self) → length (lanes v) ≡ LANES };
 
     ghost bytes: { (v : Self) (k : ℕ) → k < LANES → slice_index_or (lanes v) k 0 < 256 };
 
+    // A comparison answers a truth value for each lane.
     ghost mask_width: { Self.Mask.BitMask.LEN ≡ LANES };
 
+    // 16 lanes or more, and 64 at most.
     ghost few: { LANES ≤ 64 };
 
     ghost several: { 16 ≤ LANES };

@@ -2,7 +2,7 @@ use Rattle.std.proofs.Common.{arith}
 use Rattle.escape_lanes.proofs.simd.target.Target.store_front.Goals as goal
 
 pub whole_as_slice-storeu : goal.whole_as_slice-storeu
-whole_as_slice-storeu g c = let f = g.met.S.Simd.few in let l = c.requires.lanes in omega (arith, f, l)
+whole_as_slice-storeu g c = omega (arith, g.met.S.Simd.few, c.requires.lanes)
 
 pub shared_whole_as_front-copy_from_slice : goal.shared_whole_as_front-copy_from_slice
-shared_whole_as_front-copy_from_slice g c = let f = g.met.S.Simd.few in let l = c.requires.lanes in (c.requires.count, omega (arith, f, l))
+shared_whole_as_front-copy_from_slice g c = (c.requires.count, omega (arith, g.met.S.Simd.few, c.requires.lanes))

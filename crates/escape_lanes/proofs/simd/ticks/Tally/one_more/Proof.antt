@@ -13,7 +13,6 @@ use denote.Ref.{shr_vals, shr_Tells}
 use denote.Shadow.{pure_i}
 use denote.RattleType.{owns}
 use denote.Signature.{plain, types_at}
-use denote.Steps.{nothing}
 use denote.Triple.Entry.{alive}
 use denote.Triple.Walked.{Stays, stay_none_ref, Goes-none_ref, walk_of, says, ends_at}
 use Rattle.escape_lanes.specs.contracts.simd.ticks.Tally as tally

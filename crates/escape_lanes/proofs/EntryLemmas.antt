@@ -1,0 +1,87 @@
+-- The entries of the replacement tables, byte by byte, in any mode.
+use Rattle.std.proofs.Common.{◌≡◌, ℕ, ◌-◌, ◌<◌, ◌≤◌, Bool, true, false, cond, ◌&&◌, nat_le, List, length, take, replicate, map, get_or, refl, sym, ap, ◌∙◌, inl, inr, arith, length-append}
+use Rattle.std.proofs.Math.Seq.{take-append_seam}
+use Rattle.std.proofs.lemmas.Bool.Decides.{nat_tests}
+use Rattle.std.proofs.lemmas.Bool.{cases_Bool}
+use Rattle.std.proofs.lemmas.List.{length-replicate}
+use Rattle.std.proofs.lemmas.List.FromFn.{get_or-map-range_with_len}
+use Rattle.std.specs.List.{range_with_len}
+use Rattle.escape_lanes.specs.Mode.{Mode, json, html}
+use Rattle.escape_lanes.specs.Replacement.{needs_escape, replacement}
+use Rattle.escape_lanes.specs.Entry.{padded, entry_count, entry_bytes}
+
+-- a byte that needs an escape is below 128
+below_128 : (mode : Mode) (b : ℕ) → needs_escape mode b ≡ true → b < 128
+below_128 json b needed = grind (arith, nat_tests)
+below_128 html b needed = grind (arith, nat_tests)
+
+-- whether the replacement has two to six bytes, where one is needed
+abbrev has_two_to_six : Mode → ℕ → Bool
+has_two_to_six mode b = cond (needs_escape mode b) (nat_le 2 (length (replacement mode b)) && nat_le (length (replacement mode b)) 6) true
+
+-- by computation, for each byte below 128
+all_two_to_six : (mode : Mode) → map (has_two_to_six mode) (range_with_len 0 128) ≡ map (λ b. true) (range_with_len 0 128)
+unfolding replacement
+all_two_to_six json = refl
+all_two_to_six html = refl
+
+-- and so for any such byte
+two_to_six : (mode : Mode) (b : ℕ) → b < 128 → has_two_to_six mode b ≡ true
+two_to_six mode b h =
+    sym (get_or-map-range_with_len (has_two_to_six mode) 0 128 b b false h (omega arith))
+    ∙ ap (λ ts. get_or ts b false) (all_two_to_six mode)
+    ∙ get_or-map-range_with_len (λ b. true) 0 128 b b false h (omega arith)
+
+-- a byte that needs an escape
+module _ (mode : Mode) (b : ℕ) (needed : needs_escape mode b ≡ true) where
+  -- both bounds, as tests
+  in_range : (nat_le 2 (length (replacement mode b)) && nat_le (length (replacement mode b)) 6) ≡ true
+  in_range = rw needed at (two_to_six mode b (below_128 mode b needed))
+
+  -- its replacement has two bytes or more
+  pub two≤replacement : 2 ≤ length (replacement mode b)
+  two≤replacement = let within = in_range in grind (arith, nat_tests)
+
+  -- and six at most
+  pub replacement≤six : length (replacement mode b) ≤ 6
+  replacement≤six = let within = in_range in grind (arith, nat_tests)
+
+  -- its entry has that count
+  pub entry_count-needed : entry_count mode b ≡ length (replacement mode b)
+  entry_count-needed = rw needed refl
+
+  -- which is two or more
+  pub two≤entry_count : 2 ≤ entry_count mode b
+  two≤entry_count = rw needed two≤replacement
+
+  -- and six at most, so an entry has two zeros after it
+  pub entry_count≤six : entry_count mode b ≤ 6
+  entry_count≤six = rw needed replacement≤six
+
+  -- the bytes of the entry that count are the replacement
+  pub take-entry_bytes : take (entry_count mode b) (entry_bytes mode b) ≡ replacement mode b
+  take-entry_bytes = rw needed (take-append_seam (replacement mode b) (replicate (8 - length (replacement mode b)) 0))
+
+-- a byte that stands for itself has the count 0
+pub entry_count-clean : (mode : Mode) (b : ℕ) → needs_escape mode b ≡ false → entry_count mode b ≡ 0
+entry_count-clean mode b clean = rw clean refl
+
+-- and no other has
+pub clean_from_count : (mode : Mode) (b : ℕ) → entry_count mode b ≡ 0 → needs_escape mode b ≡ false
+clean_from_count mode b none =
+    elim (cases_Bool (needs_escape mode b)) [
+      | inl needed ↦ let two = two≤entry_count mode b needed in absurd (omega arith)
+      | inr clean ↦ clean
+    ]
+
+-- eight bytes, whatever the length of those that count
+length-padded : (xs : List ℕ) → length xs ≤ 8 → length (padded xs) ≡ 8
+length-padded xs h = simp (length-append, length-replicate) (omega arith)
+
+-- an entry has eight bytes
+pub length-entry_bytes : (mode : Mode) (b : ℕ) → length (entry_bytes mode b) ≡ 8
+length-entry_bytes mode b =
+    elim (cases_Bool (needs_escape mode b)) [
+      | inl needed ↦ let six = replacement≤six mode b needed in rw needed (length-padded (replacement mode b) (omega arith))
+      | inr clean ↦ rw clean refl
+    ]

@@ -1,0 +1,6 @@
+use Rattle.std.proofs.Common.{arith}
+use Rattle.escape_lanes.proofs.MaskLemmas.{zero-bits}
+use Rattle.escape_lanes.proofs.simd.bits.U64BitMask.all_zero.Goals as goal
+
+pub returns : goal.returns
+returns c = zero-bits 64 c.args.self.now (omega arith)

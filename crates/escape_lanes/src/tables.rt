@@ -1,0 +1,58 @@
+//! What stands for each byte of a text, written out for all 256 bytes.
+ghost use Rattle.std.specs.Prelude.{◌≡◌, [], slice_index, slice_index_or, if◌then◌else◌};
+ghost use Rattle.escape_lanes.specs.Mode.{json, html};
+ghost use Rattle.escape_lanes.specs.Replacement.{needs_escape};
+ghost use Rattle.escape_lanes.specs.Entry.{entry_count, entry_bytes};
+
+mod html;
+mod json;
+
+pub use html::{HTML_ESCAPE_TAB, HTML_NEED_ESCAPED};
+pub use json::{NEED_ESCAPED, QUOTE_TAB};
+
+/// The byte's entry in [`QUOTE_TAB`], by reference: the count of bytes that stand for it in a JSON
+/// string literal, and 0 where it stands for itself; then those bytes, padded with zeros to eight.
+#[inline(always)]
+pub fn json_entry(b: u8) -> &'static (u8, [u8; 8])
+    ensures count { result.now.0 ≡ entry_count json b }
+    ensures bytes { result.now.1 ≡ entry_bytes json b }
+{
+    &QUOTE_TAB[b as usize]
+}
+
+/// The byte's entry in [`HTML_ESCAPE_TAB`], by reference: the count of bytes that stand for it in
+/// HTML, and 0 where it stands for itself; then those bytes, padded with zeros to eight.
+#[inline(always)]
+pub fn html_entry(b: u8) -> &'static (u8, [u8; 8])
+    ensures count { result.now.0 ≡ entry_count html b }
+    ensures bytes { result.now.1 ≡ entry_bytes html b }
+{
+    &HTML_ESCAPE_TAB[b as usize]
+}
+
+/// The byte's row of the JSON tables: its mark in [`NEED_ESCAPED`] and its entry in [`QUOTE_TAB`].
+///
+/// `json_row(0x0b)` is `(1, (6, *b"\\u000b\0\0"))`, and `json_row(0x7f)` is `(0, (0, [0; 8]))`.
+#[inline(always)]
+pub fn json_row(b: u8) -> (u8, (u8, [u8; 8]))
+    ensures row { result ≡ (slice_index NEED_ESCAPED b, slice_index_or QUOTE_TAB b (0, [])) }
+    ensures need { result.0 ≡ (if needs_escape json b then 1 else 0) }
+    ensures count { result.1.0 ≡ entry_count json b }
+    ensures bytes { result.1.1 ≡ entry_bytes json b }
+{
+    (NEED_ESCAPED[b as usize], *json_entry(b))
+}
+
+/// The byte's row of the HTML tables: its mark in [`HTML_NEED_ESCAPED`] and its entry in
+/// [`HTML_ESCAPE_TAB`].
+///
+/// `html_row(b'&')` is `(1, (5, *b"&amp;\0\0\0"))`, and `html_row(b'a')` is `(0, (0, [0; 8]))`.
+#[inline(always)]
+pub fn html_row(b: u8) -> (u8, (u8, [u8; 8]))
+    ensures row { result ≡ (slice_index HTML_NEED_ESCAPED b, slice_index_or HTML_ESCAPE_TAB b (0, [])) }
+    ensures need { result.0 ≡ (if needs_escape html b then 1 else 0) }
+    ensures count { result.1.0 ≡ entry_count html b }
+    ensures bytes { result.1.1 ≡ entry_bytes html b }
+{
+    (HTML_NEED_ESCAPED[b as usize], *html_entry(b))
+}

@@ -1,7 +1,6 @@
 -- Masks as lists of truth values, one for each lane, the first lane first.
-use Rattle.std.specs.Prelude.{◌≡◌, ℕ, ◌-◌, ◌/◌, ◌%◌, ◌^◌, Bool, true, false, List, [], ◌∷◌, ◌++◌, length, take, replicate, nat_eq, map, refl}
-use Rattle.std.proofs.Common.{zero, suc, ap, cond, not}
-use Rattle.std.proofs.lemmas.List.{length-map}
+use Rattle.std.specs.Prelude.{◌≡◌, ℕ, ◌-◌, ◌/◌, ◌%◌, ◌^◌, Bool, true, false, List, [], ◌∷◌, ◌++◌, length, take, replicate, nat_eq, refl}
+use Rattle.std.proofs.Common.{zero, suc, ap, not}
 
 -- the place of the first set lane, and the number of lanes where none is set
 unfoldable pub first_set : List Bool → ℕ
@@ -44,15 +43,3 @@ pub length-lanes_of : (w k n : ℕ) → length (lanes_of w k n) ≡ k
 unfolding lanes_of
 length-lanes_of w zero n = refl
 length-lanes_of w (suc k) n = ap suc (length-lanes_of w k (n / 2 ^ w))
-
--- a lane of bytes is set where it is 255
-abbrev pub truths_of : List ℕ → List Bool
-truths_of = map (λ b. nat_eq b 255)
-
--- each lane wholly set or wholly clear
-abbrev pub wide : List Bool → List ℕ
-wide = map (λ b. cond b 255 0)
-
--- as many truth values as lanes
-pub length-truths_of : (xs : List ℕ) → length (truths_of xs) ≡ length xs
-length-truths_of xs = length-map xs (λ b. nat_eq b 255)

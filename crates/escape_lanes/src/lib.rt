@@ -1,4 +1,5 @@
-//! What the kernels of `escape_simd` stand on.
+//! What the kernels of `escape_simd` stand on: what a byte is, what a vector is, and how bytes are
+//! written and counted.
 #![tactic(auto)]
 
 pub mod simd;

@@ -1,9 +1,16 @@
 //! Vectors, masks and the target.
 
+pub mod avx2;
+pub mod avx512;
 pub mod bits;
+mod lanes;
+pub mod neon;
 pub mod sse2;
 pub mod target;
+#[cfg(test)]
+mod tests;
 mod ticks;
 pub mod traits;
+pub mod v128;
 
 pub use traits::{BitMask, Mask, Simd};

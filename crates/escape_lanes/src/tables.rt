@@ -6,9 +6,11 @@ ghost use Rattle.escape_lanes.specs.Entry.{entry_count, entry_bytes};
 
 mod html;
 mod json;
+mod nibble;
 
 pub use html::{HTML_ESCAPE_TAB, HTML_NEED_ESCAPED};
 pub use json::{NEED_ESCAPED, QUOTE_TAB};
+pub use nibble::{HTML_HI_NIBBLE_TAB, HTML_LO_NIBBLE_TAB};
 
 /// The byte's entry in [`QUOTE_TAB`], by reference: the count of bytes that stand for it in a JSON
 /// string literal, and 0 where it stands for itself; then those bytes, padded with zeros to eight.

@@ -1,35 +1,42 @@
-//! 16 lanes.
-ghost use Rattle.std.specs.Prelude.{◌≡◌, ℕ, ◌+◌, ◌<◌, ◌||◌, ◌&&◌, length, slice_index_or, refl};
+//! 16 bytes in a vector of `std::simd`. HTML is classified by six compares.
+ghost use Rattle.std.specs.Prelude.{◌≡◌, ◌+◌, ◌||◌, ◌&&◌, ℕ, map, nat_eq, refl};
 ghost use Rattle.std.specs.Simd.Lanes.{zip2};
 ghost use Rattle.std.proofs.Common.{◌∙◌, lit≤};
-ghost use Rattle.escape_lanes.specs.Bits.{bits_of, truths_of, wide, length-truths_of};
+ghost use Rattle.std.proofs.lemmas.List.{length-map};
+ghost use Rattle.escape_lanes.specs.Lanes.{AreBytes, AreWhole, set_lanes};
+ghost use Rattle.escape_lanes.specs.Mode.{html, mode_of};
+ghost use Rattle.escape_lanes.specs.Replacement.{needs_escape};
 
-use crate::simd::traits::{Mask, Simd};
+use crate::simd::lanes;
+use crate::simd::target::Ticks;
+use crate::simd::traits::{BitMask, Mask, Simd};
 use std::ops::{BitAnd, BitOr, BitOrAssign};
 use std::simd::prelude::*;
 
+/// A vector of 16 bytes.
 #[derive(Debug, Clone, Copy)]
 pub struct Simd128u {
     lanes: u8x16,
-    ghost full: { length lanes ≡ 16 },
-    ghost small: { (k : ℕ) → k < 16 → slice_index_or lanes k 0 < 256 },
+    ghost are_bytes: { AreBytes 16 lanes },
 }
 
+/// A truth value for each lane of a [`Simd128u`].
 #[derive(Debug, Clone, Copy)]
 pub struct Mask128 {
+    // 00 in a lane that is clear, and ff in one that is set.
     lanes: u8x16,
-    ghost full: { length lanes ≡ 16 },
-    ghost whole: { lanes ≡ wide (truths_of lanes) },
+    ghost are_whole: { AreWhole 255 16 lanes },
 }
 
 impl BitOr for Mask128 {
     type Output = Mask128;
 
-    ghost bitor_gives = { λ a b c. truths_of c.lanes ≡ zip2 ◌||◌ (truths_of a.lanes) (truths_of b.lanes) };
+    ghost bitor_gives = { λ a b c. set_lanes 255 c.lanes ≡ zip2 ◌||◌ (set_lanes 255 a.lanes) (set_lanes 255 b.lanes) };
 
+    #[inline(always)]
     fn bitor(self, rhs: Mask128) -> Mask128 {
         Mask128 {
-            lanes: self.lanes | rhs.lanes,
+            lanes: lanes::or(&self.lanes, &rhs.lanes),
         }
     }
 }
@@ -37,18 +44,20 @@ impl BitOr for Mask128 {
 impl BitAnd for Mask128 {
     type Output = Mask128;
 
-    ghost bitand_gives = { λ a b c. truths_of c.lanes ≡ zip2 ◌&&◌ (truths_of a.lanes) (truths_of b.lanes) };
+    ghost bitand_gives = { λ a b c. set_lanes 255 c.lanes ≡ zip2 ◌&&◌ (set_lanes 255 a.lanes) (set_lanes 255 b.lanes) };
 
+    #[inline(always)]
     fn bitand(self, rhs: Mask128) -> Mask128 {
         Mask128 {
-            lanes: self.lanes & rhs.lanes,
+            lanes: lanes::and(&self.lanes, &rhs.lanes),
         }
     }
 }
 
 impl BitOrAssign for Mask128 {
-    ghost bitor_assign_gives = { λ a b c. truths_of c.lanes ≡ zip2 ◌||◌ (truths_of a.lanes) (truths_of b.lanes) };
+    ghost bitor_assign_gives = { λ a b c. set_lanes 255 c.lanes ≡ zip2 ◌||◌ (set_lanes 255 a.lanes) (set_lanes 255 b.lanes) };
 
+    #[inline(always)]
     fn bitor_assign(&mut self, rhs: Mask128) {
         *self = *self | rhs;
     }
@@ -59,9 +68,9 @@ impl Mask for Mask128 {
 
     type BitMask = u16;
 
-    ghost truths = { λ m. truths_of m.lanes };
+    ghost truths = { λ m. set_lanes 255 m.lanes };
 
-    ghost width = { λ m. length-truths_of m.lanes ∙ m.full };
+    ghost width = { λ m. length-map m.lanes (λ b. nat_eq b 255) ∙ m.are_whole.full };
 
     ghost can_or = { λ a b. tt };
 
@@ -75,8 +84,9 @@ impl Mask for Mask128 {
 
     ghost and_is = { λ a b c h. h };
 
+    #[inline(always)]
     fn bitmask(self) -> u16 {
-        self.lanes.simd_eq(u8x16::splat(255)).to_bitmask() as u16
+        lanes::bits(&self.lanes) as u16
     }
 }
 
@@ -93,9 +103,9 @@ impl Simd for Simd128u {
 
     ghost number = { λ e. e };
 
-    ghost width = { λ v. v.full };
+    ghost width = { λ v. v.are_bytes.full };
 
-    ghost bytes = { λ v. v.small };
+    ghost bytes = { λ v. v.are_bytes.small };
 
     ghost mask_width = { refl };
 
@@ -103,37 +113,66 @@ impl Simd for Simd128u {
 
     ghost several = { lit≤ tt };
 
+    #[inline(always)]
     fn loadu(src: &[u8]) -> Self {
         Simd128u {
-            lanes: u8x16::from_slice(src),
+            lanes: lanes::load(src),
         }
     }
 
+    #[inline(always)]
     fn storeu(&self, dst: &mut [u8]) {
-        self.lanes.copy_to_slice(dst);
+        lanes::store(&self.lanes, dst);
     }
 
+    #[inline(always)]
     fn eq(&self, rhs: &Self) -> Mask128 {
         Mask128 {
-            lanes: self
-                .lanes
-                .simd_eq(rhs.lanes)
-                .select(u8x16::splat(255), u8x16::splat(0)),
+            lanes: lanes::eq(&self.lanes, &rhs.lanes),
         }
     }
 
+    #[inline(always)]
     fn splat(elem: u8) -> Self {
         Simd128u {
-            lanes: u8x16::splat(elem),
+            lanes: lanes::splat(elem),
         }
     }
 
+    #[inline(always)]
     fn le(&self, rhs: &Self) -> Mask128 {
         Mask128 {
-            lanes: self
-                .lanes
-                .simd_le(rhs.lanes)
-                .select(u8x16::splat(255), u8x16::splat(0)),
+            lanes: lanes::le(&self.lanes, &rhs.lanes),
         }
     }
+}
+
+/// The lanes whose bytes need an escape in HTML.
+#[inline(always)]
+fn html_needs(v: &u8x16) -> u8x16
+    requires { AreBytes 16 v.now }
+    ensures whole { AreWhole 255 16 result }
+    ensures lanes { set_lanes 255 result ≡ map (needs_escape html) v.now }
+{
+    let quotes = lanes::or(&lanes::is(v, b'"'), &lanes::is(v, b'\''));
+    let angles = lanes::or(&lanes::is(v, b'<'), &lanes::is(v, b'>'));
+    let others = lanes::or(&lanes::is(v, b'&'), &lanes::is(v, b'/'));
+    lanes::or(&lanes::or(&quotes, &angles), &others)
+}
+
+/// The lanes of `v` whose bytes need an escape: in HTML if `HTML`, else in JSON. It ticks once.
+///
+/// Where `v` begins with the bytes of `a<b`, lane 1 is set in HTML, and none of these in JSON.
+#[inline(always)]
+pub fn escaped_mask<const HTML: bool>(v: &Simd128u, ticks: &mut Ticks) -> u16
+    ensures lanes { ⟦<u16 as BitMask>⟧.bits result ≡ map (needs_escape (mode_of HTML)) (⟦<Simd128u as Simd>⟧.lanes v.now) }
+    ensures tick { ticks.new ≡ ticks.old + 1 }
+{
+    ticks.tick();
+    let needs = if HTML {
+        html_needs(&v.lanes)
+    } else {
+        lanes::json_needs(&v.lanes)
+    };
+    Mask128 { lanes: needs }.bitmask()
 }

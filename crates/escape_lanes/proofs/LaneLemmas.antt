@@ -1,0 +1,231 @@
+-- Lanes of vectors and of masks, at every width.
+use native.Mathlib.Nat.{pow-suc}
+use Rattle.std.proofs.Common.{Fits, take, ◌≡◌, ℕ, ◌<◌, ◌≤◌, ◌^◌, ◌+◌, ◌*◌, ◌/◌, ◌%◌, Bool, true, false, cond, ◌||◌, ◌&&◌, List, [], ◌∷◌, ◌++◌, length, drop, replicate, map, nat_eq, bit_or, bit_and, get_or, refl, sym, ap, ◌∙◌, zero, suc, arith}
+use Rattle.std.proofs.Math.Pow.{pow_mono}
+use Rattle.std.proofs.lemmas.Bool.{agree_below, agree_below_at}
+use Rattle.std.proofs.lemmas.List.{length-map, length-take-le, get_or-map, get_or-take, map_more, ext_get_or}
+use Rattle.std.proofs.lemmas.Bool.Decides.{nat_tests}
+use Rattle.std.proofs.lemmas.Nat.{and_mod, and_or_self, and_shr, or_disjoint, or_mod, or_shr}
+use Rattle.std.specs.Int.Bits.{and_zero_l, and_zero_r, or_add_and}
+use Rattle.std.proofs.lemmas.Simd.{get_or-zip2, put_chunk_is, length-zip2, tops_compared, bitmask_splat, mask_l-lt}
+use Rattle.std.specs.Simd.Lanes.{zip2, sel_l, mask_l, put_chunk, top}
+use mir.Syntax.{w8}
+use Rattle.escape_lanes.specs.Bits.{bits_of}
+use Rattle.escape_lanes.specs.Lanes.{AreBytes, AreWhole, set_lanes, mask_lanes}
+
+-- the lanes xs are a mask that is set where bs is
+pub record IsMask (one n : ℕ) (xs : List ℕ) (bs : List Bool) : Type 0 where
+  pub whole : AreWhole one n xs
+  pub lanes : set_lanes one xs ≡ bs
+
+set-mask : (one : ℕ) (bs : List Bool) → 0 < one → set_lanes one (mask_lanes one bs) ≡ bs
+set-mask one [] h = refl
+set-mask one (true ∷ bs) h = let e : nat_eq one one ≡ true = grind (arith, nat_tests) in rw (e, set-mask one bs h) refl
+set-mask one (false ∷ bs) h = let e : nat_eq 0 one ≡ false = grind (arith, nat_tests) in rw (e, set-mask one bs h) refl
+
+-- as many lanes as truth values
+length-mask : (one : ℕ) (bs : List Bool) → length (mask_lanes one bs) ≡ length bs
+length-mask one bs = length-map bs (λ b. cond b one 0)
+
+pub made : (one n : ℕ) (xs : List ℕ) (bs : List Bool) → 0 < one → xs ≡ mask_lanes one bs → length bs ≡ n → IsMask one n xs bs
+made one n xs bs h e l =
+    let lanes : set_lanes one xs ≡ bs = ap (set_lanes one) e ∙ set-mask one bs h in
+    record {
+      whole = record {
+        full = ap length e ∙ length-mask one bs ∙ l;
+        whole = e ∙ ap (mask_lanes one) (sym lanes);
+      };
+      lanes = lanes;
+    }
+
+zero_or : (n : ℕ) → bit_or 0 n ≡ n
+zero_or n = omega (arith, or_disjoint 0 n (and_zero_l n))
+
+or_zero : (n : ℕ) → bit_or n 0 ≡ n
+or_zero n = omega (arith, or_disjoint n 0 (and_zero_r n))
+
+and_self : (n : ℕ) → bit_and n n ≡ n
+and_self n = rw (zero_or n) at (and_or_self n 0)
+
+or_self : (n : ℕ) → bit_or n n ≡ n
+or_self n = omega (arith, or_add_and n n, and_self n)
+
+or-mask : (one : ℕ) (ps qs : List Bool) → zip2 bit_or (mask_lanes one ps) (mask_lanes one qs) ≡ mask_lanes one (zip2 ◌||◌ ps qs)
+or-mask one [] qs = refl
+or-mask one (p ∷ ps) [] = refl
+or-mask one (true ∷ ps) (true ∷ qs) = rw (or_self one, or-mask one ps qs) refl
+or-mask one (true ∷ ps) (false ∷ qs) = rw (or_zero one, or-mask one ps qs) refl
+or-mask one (false ∷ ps) (true ∷ qs) = rw (zero_or one, or-mask one ps qs) refl
+or-mask one (false ∷ ps) (false ∷ qs) = ap (λ ys. 0 ∷ ys) (or-mask one ps qs)
+
+and-mask : (one : ℕ) (ps qs : List Bool) → zip2 bit_and (mask_lanes one ps) (mask_lanes one qs) ≡ mask_lanes one (zip2 ◌&&◌ ps qs)
+and-mask one [] qs = refl
+and-mask one (p ∷ ps) [] = refl
+and-mask one (true ∷ ps) (true ∷ qs) = rw (and_self one, and-mask one ps qs) refl
+and-mask one (true ∷ ps) (false ∷ qs) = rw (and_zero_r one, and-mask one ps qs) refl
+and-mask one (false ∷ ps) (true ∷ qs) = rw (and_zero_l one, and-mask one ps qs) refl
+and-mask one (false ∷ ps) (false ∷ qs) = ap (λ ys. 0 ∷ ys) (and-mask one ps qs)
+
+-- as many lanes in both as in one
+length-both : {X Y : Type 0} (f : X → X → Y) (n : ℕ) (xs ys : List X) → length xs ≡ n → length ys ≡ n → length (zip2 f xs ys) ≡ n
+length-both f n xs ys l r = length-zip2 f xs ys (l ∙ sym r) ∙ l
+
+length-set : (one n : ℕ) (xs : List ℕ) → AreWhole one n xs → length (set_lanes one xs) ≡ n
+length-set one n xs l = length-map xs (λ b. nat_eq b one) ∙ l.full
+
+-- two masks, lane by lane
+module _ (one n : ℕ) (xs ys : List ℕ) (h : 0 < one) (l : AreWhole one n xs) (r : AreWhole one n ys) where
+  pub either : IsMask one n (zip2 bit_or xs ys) (zip2 ◌||◌ (set_lanes one xs) (set_lanes one ys))
+  either =
+      let e = ap (λ zs. zip2 bit_or zs ys) l.whole ∙ ap (λ zs. zip2 bit_or (mask_lanes one (set_lanes one xs)) zs) r.whole ∙ or-mask one (set_lanes one xs) (set_lanes one ys) in
+      made one n _ _ h e (length-both ◌||◌ n _ _ (length-set one n xs l) (length-set one n ys r))
+
+  pub both : IsMask one n (zip2 bit_and xs ys) (zip2 ◌&&◌ (set_lanes one xs) (set_lanes one ys))
+  both =
+      let e = ap (λ zs. zip2 bit_and zs ys) l.whole ∙ ap (λ zs. zip2 bit_and (mask_lanes one (set_lanes one xs)) zs) r.whole ∙ and-mask one (set_lanes one xs) (set_lanes one ys) in
+      made one n _ _ h e (length-both ◌&&◌ n _ _ (length-set one n xs l) (length-set one n ys r))
+
+-- a choice between all bits and none
+chosen : (bs : List Bool) (n : ℕ) → length bs ≡ n → sel_l bs (replicate n 255) (replicate n 0) ≡ mask_lanes 255 bs
+chosen [] n h = refl
+chosen (b ∷ bs) zero h = absurd (omega arith)
+chosen (b ∷ bs) (suc n) h = ap (λ ys. cond b 255 0 ∷ ys) (chosen bs n (omega arith))
+
+-- the mask of a comparison of two vectors
+pub compared : (t : ℕ → ℕ → Bool) (n : ℕ) (xs ys : List ℕ) → length xs ≡ n → length ys ≡ n
+    → IsMask 255 n (sel_l (map (top 7) (zip2 (λ a b. cond (t a b) 255 0) xs ys)) (replicate n 255) (replicate n 0)) (zip2 t xs ys)
+compared t n xs ys l r =
+    let k = length-both t n xs ys l r in
+    made 255 n _ _ (omega arith) (ap (λ bs. sel_l bs (replicate n 255) (replicate n 0)) (tops_compared w8 t xs ys) ∙ chosen (zip2 t xs ys) n k) k
+
+mask-half : (b : Bool) (m : ℕ) → (cond b 1 0 + 2 * m) / 2 ≡ m
+mask-half true m = omega arith
+mask-half false m = omega arith
+
+mask-bit : (b : Bool) (m : ℕ) → nat_eq ((cond b 1 0 + 2 * m) % 2) 1 ≡ b
+mask-bit true m = let e : (1 + 2 * m) % 2 ≡ 1 = omega arith in rw e refl
+mask-bit false m = let e : (0 + 2 * m) % 2 ≡ 0 = omega arith in rw e refl
+
+-- the bits of the number that has these bits
+pub bits-mask : (bs : List Bool) (k : ℕ) → length bs ≡ k → bits_of k (mask_l bs) ≡ bs
+unfolding bits_of
+bits-mask [] zero h = refl
+bits-mask [] (suc k) h = absurd (omega arith)
+bits-mask (b ∷ bs) zero h = absurd (omega arith)
+bits-mask (b ∷ bs) (suc k) h = rw (mask-bit b (mask_l bs), mask-half b (mask_l bs), bits-mask bs k (omega arith))
+
+-- the number that has a bit for each lane of a mask
+module _ (n : ℕ) (xs : List ℕ) (whole : AreWhole 255 n xs) (few : n ≤ 64) where
+  counted : mask_l (map (top 7) (zip2 (λ a b. cond (nat_eq a b) 255 0) xs (replicate n 255))) % 2 ^ 64 ≡ mask_l (set_lanes 255 xs)
+  counted = bitmask_splat w8 nat_eq xs n 255 whole.full few
+
+  pub bits-below : mask_l (map (top 7) (zip2 (λ a b. cond (nat_eq a b) 255 0) xs (replicate n 255))) % 2 ^ 64 < 2 ^ n
+  bits-below = rw counted (rw (length-set 255 n xs whole) at (mask_l-lt (set_lanes 255 xs)))
+
+  pub bits-set : bits_of n (mask_l (map (top 7) (zip2 (λ a b. cond (nat_eq a b) 255 0) xs (replicate n 255))) % 2 ^ 64) ≡ set_lanes 255 xs
+  bits-set = rw counted (bits-mask (set_lanes 255 xs) n (length-set 255 n xs whole))
+
+-- a store of a vector at the front of a slice
+pub stored_first : (d l : List ℕ) (n : ℕ) → length l ≡ n → n ≤ length d → put_chunk 0 d l ≡ l ++ drop n d
+stored_first d l n e h = put_chunk_is 0 d l (omega arith) ∙ rw e refl
+
+-- two tests that agree on every byte agree on every lane
+pub map-bytes : (f g : ℕ → Bool) (n : ℕ) (v : List ℕ) → AreBytes n v → agree_below f g 256 ≡ true → map f v ≡ map g v
+map-bytes f g n v bytes same =
+    ext_get_or false (map f v) (map g v) (length-map v f ∙ sym (length-map v g)) (λ i h.
+    let lt : i < length v = omega (arith, length-map v f) in
+    let k : i < n = omega (arith, bytes.full) in
+    get_or-map f v i 0 false lt ∙ agree_below_at f g 256 (get_or v i 0) same (bytes.small i k) ∙ sym (get_or-map g v i 0 false lt))
+
+bit-or : (p q : ℕ) → p < 2 → q < 2 → nat_eq (bit_or p q) 1 ≡ (nat_eq p 1 || nat_eq q 1)
+bit-or zero zero hp hq = refl
+bit-or zero (suc zero) hp hq = refl
+bit-or (suc zero) zero hp hq = refl
+bit-or (suc zero) (suc zero) hp hq = refl
+bit-or zero (suc (suc q)) hp hq = absurd (omega arith)
+bit-or (suc zero) (suc (suc q)) hp hq = absurd (omega arith)
+bit-or (suc (suc p)) q hp hq = absurd (omega arith)
+
+bit-and : (p q : ℕ) → p < 2 → q < 2 → nat_eq (bit_and p q) 1 ≡ (nat_eq p 1 && nat_eq q 1)
+bit-and zero zero hp hq = refl
+bit-and zero (suc zero) hp hq = refl
+bit-and (suc zero) zero hp hq = refl
+bit-and (suc zero) (suc zero) hp hq = refl
+bit-and zero (suc (suc q)) hp hq = absurd (omega arith)
+bit-and (suc zero) (suc (suc q)) hp hq = absurd (omega arith)
+bit-and (suc (suc p)) q hp hq = absurd (omega arith)
+
+-- two masks of one bit a lane, lane by lane
+pub bits-or : (k m n : ℕ) → bits_of k (bit_or m n) ≡ zip2 ◌||◌ (bits_of k m) (bits_of k n)
+unfolding bits_of
+bits-or zero m n = refl
+bits-or (suc k) m n = rw (or_mod m n 1, or_shr m n 1, bit-or (m % 2) (n % 2) (omega arith) (omega arith), bits-or k (m / 2) (n / 2)) refl
+
+pub bits-and : (k m n : ℕ) → bits_of k (bit_and m n) ≡ zip2 ◌&&◌ (bits_of k m) (bits_of k n)
+unfolding bits_of
+bits-and zero m n = refl
+bits-and (suc k) m n = rw (and_mod m n 1, and_shr m n 1, bit-and (m % 2) (n % 2) (omega arith) (omega arith), bits-and k (m / 2) (n / 2)) refl
+
+-- two vectors, joined lane by lane
+pub zipped : (f : ℕ → ℕ → ℕ) (n : ℕ) (xs ys zs : List ℕ) → length xs ≡ n → length ys ≡ n → length zs ≡ n
+    → ((k : ℕ) → k < n → get_or zs k 0 ≡ f (get_or xs k 0) (get_or ys k 0)) → zs ≡ zip2 f xs ys
+zipped f n xs ys zs l r m at =
+    let z = length-both f n xs ys l r in
+    ext_get_or 0 zs (zip2 f xs ys) (m ∙ sym z) (λ k h.
+    at k (omega arith) ∙ sym (get_or-zip2 f xs ys k 0 0 0 (omega arith) (omega arith)))
+
+-- a mask of 0 and 1 that was made by a test of the lanes of two vectors
+pub tested : (t : ℕ → ℕ → Bool) (n : ℕ) (xs ys zs : List ℕ) → length xs ≡ n → length ys ≡ n → length zs ≡ n
+    → ((k : ℕ) → k < n → get_or zs k 0 ≡ cond (t (get_or xs k 0) (get_or ys k 0)) 1 0) → IsMask 1 n zs (zip2 t xs ys)
+tested t n xs ys zs l r m at =
+    made 1 n zs (zip2 t xs ys) (omega arith) (zipped (λ a b. cond (t a b) 1 0) n xs ys zs l r m at ∙ tests xs ys) (length-both t n xs ys l r)
+  where
+    tests : (left right : List ℕ) → zip2 (λ a b. cond (t a b) 1 0) left right ≡ mask_lanes 1 (zip2 t left right)
+    tests [] right = refl
+    tests (a ∷ left) [] = refl
+    tests (a ∷ left) (b ∷ right) = ap (λ cs. cond (t a b) 1 0 ∷ cs) (tests left right)
+
+-- a mask of 0 and 1 that was made by a test of the lanes of a vector
+pub tested_one : (t : ℕ → Bool) (n : ℕ) (xs zs : List ℕ) → length xs ≡ n → length zs ≡ n
+    → ((k : ℕ) → k < n → get_or zs k 0 ≡ cond (t (get_or xs k 0)) 1 0) → IsMask 1 n zs (map t xs)
+tested_one t n xs zs l m at =
+    let e : zs ≡ mask_lanes 1 (map t xs) = ext_get_or 0 zs (mask_lanes 1 (map t xs)) (m ∙ sym (length-mask 1 (map t xs) ∙ length-map xs t ∙ l)) (λ k h.
+    let r : k < length xs = omega arith in
+    at k (omega arith) ∙ ap (λ b. cond b 1 0) (sym (get_or-map t xs k 0 false r))
+    ∙ sym (get_or-map (λ b. cond b 1 0) (map t xs) k false 0 (omega (arith, length-map xs t)))) in
+    made 1 n zs (map t xs) (omega arith) e (length-map xs t ∙ l)
+
+-- the first n bytes of a slice
+pub bytes-front : (n : ℕ) (xs : List ℕ) → n ≤ length xs → ((k : ℕ) → Fits w8 (get_or xs k 0)) → AreBytes n (take n xs)
+bytes-front n xs h fits = record {
+  full = length-take-le n xs h;
+  small = λ k l. rw (get_or-take n xs k 0 l) (fits k).fits;
+}
+
+mask-snoc : (bs : List Bool) (b : Bool) → mask_l (bs ++ b ∷ []) ≡ mask_l bs + cond b 1 0 * 2 ^ length bs
+mask-snoc [] b = omega arith
+mask-snoc (c ∷ bs) true = omega (arith, mask-snoc bs true, pow-suc 2 (length bs))
+mask-snoc (c ∷ bs) false = omega (arith, mask-snoc bs false)
+
+-- the number that has a bit for each of the first lanes of a mask of 0 and 1
+module _ (n : ℕ) (xs : List ℕ) (whole : AreWhole 1 n xs) (k : ℕ) (h : k < n) where
+  value : cond (nat_eq (get_or xs k 0) 1) 1 0 ≡ get_or xs k 0
+  value =
+      let r : k < length xs = omega (arith, whole.full) in
+      let e = ap (λ ys. get_or ys k 0) whole.whole in
+      sym (e ∙ get_or-map (λ b. cond b 1 0) (set_lanes 1 xs) k false 0 (omega (arith, length-set 1 n xs whole)) ∙ ap (λ b. cond b 1 0) (get_or-map (λ b. nat_eq b 1) xs k 0 false r))
+
+  counted_to : (j : ℕ) → j ≤ n → length (set_lanes 1 (take j xs)) ≡ j
+  counted_to j l = length-map (take j xs) (λ b. nat_eq b 1) ∙ length-take-le j xs (omega (arith, whole.full))
+
+  pub weighed : mask_l (set_lanes 1 (take (k + 1) xs)) ≡ mask_l (set_lanes 1 (take k xs)) + get_or xs k 0 * 2 ^ k
+  weighed =
+      ap mask_l (map_more (λ b. nat_eq b 1) xs k 0 (omega (arith, whole.full)))
+      ∙ mask-snoc (set_lanes 1 (take k xs)) (nat_eq (get_or xs k 0) 1)
+      ∙ rw (counted_to k (omega arith), value) refl
+
+  pub weighed-lt : n ≤ 16 → mask_l (set_lanes 1 (take (k + 1) xs)) < 65536
+  weighed-lt few =
+      let small = rw (counted_to (k + 1) (omega arith)) at (mask_l-lt (set_lanes 1 (take (k + 1) xs))) in
+      let most : 2 ^ (k + 1) ≤ 2 ^ 16 = pow_mono {i = k + 1} {j = 16} (omega arith) in
+      omega (arith, small, most)

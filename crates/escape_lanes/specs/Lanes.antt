@@ -1,0 +1,22 @@
+-- Vectors and masks as lists of lanes.
+use Rattle.std.specs.Prelude.{◌≡◌, ℕ, ◌<◌, Bool, List, length, map, nat_eq, slice_index_or, if◌then◌else◌}
+
+-- n lanes, each a byte
+pub record AreBytes (n : ℕ) (lanes : List ℕ) : Type 0 where
+  pub full : length lanes ≡ n
+  pub small : (k : ℕ) → k < n → slice_index_or lanes k 0 < 256
+
+-- A mask in lanes has one number, `one`, in each lane that is set, and 0 in the others.
+
+-- whether each lane is set
+abbrev pub set_lanes : ℕ → List ℕ → List Bool
+set_lanes one = map (λ b. nat_eq b one)
+
+-- the mask that is set in these lanes
+abbrev pub mask_lanes : ℕ → List Bool → List ℕ
+mask_lanes one = map (λ b. if b then one else 0)
+
+-- n lanes, each wholly clear or wholly set
+pub record AreWhole (one n : ℕ) (lanes : List ℕ) : Type 0 where
+  pub full : length lanes ≡ n
+  pub whole : lanes ≡ mask_lanes one (set_lanes one lanes)

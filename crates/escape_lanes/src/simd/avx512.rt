@@ -1,0 +1,178 @@
+//! 64 bytes in a vector of `std::simd`, with one bit a lane in the mask. HTML is classified by nibble
+//! tables.
+ghost use Rattle.std.specs.Prelude.{◌≡◌, ◌+◌, ◌||◌, ◌&&◌, ℕ, map, refl};
+ghost use Rattle.std.specs.Simd.Lanes.{zip2};
+ghost use Rattle.std.proofs.Common.{lit≤};
+ghost use Rattle.escape_lanes.specs.Bits.{bits_of, length-bits_of};
+ghost use Rattle.escape_lanes.specs.Lanes.{AreBytes};
+ghost use Rattle.escape_lanes.specs.Mode.{mode_of};
+ghost use Rattle.escape_lanes.specs.Nibble.{html_flags};
+ghost use Rattle.escape_lanes.specs.Replacement.{needs_escape};
+
+use crate::simd::lanes;
+use crate::simd::target::Ticks;
+use crate::simd::traits::{BitMask, Mask, Simd};
+use crate::tables::{HTML_HI_NIBBLE_TAB, HTML_LO_NIBBLE_TAB};
+use std::ops::{BitAnd, BitOr, BitOrAssign};
+use std::simd::prelude::*;
+
+/// A vector of 64 bytes.
+#[derive(Debug, Clone, Copy)]
+pub struct Simd512u {
+    lanes: u8x64,
+    ghost are_bytes: { AreBytes 64 lanes },
+}
+
+/// A truth value for each lane of a [`Simd512u`].
+#[derive(Debug, Clone, Copy)]
+pub struct Mask512 {
+    // Bit `i` is set where lane `i` is.
+    bits: u64,
+}
+
+impl BitOr for Mask512 {
+    type Output = Mask512;
+
+    ghost bitor_gives = { λ a b c. bits_of 64 c.bits ≡ zip2 ◌||◌ (bits_of 64 a.bits) (bits_of 64 b.bits) };
+
+    #[inline(always)]
+    fn bitor(self, rhs: Mask512) -> Mask512 {
+        Mask512 {
+            bits: self.bits | rhs.bits,
+        }
+    }
+}
+
+impl BitAnd for Mask512 {
+    type Output = Mask512;
+
+    ghost bitand_gives = { λ a b c. bits_of 64 c.bits ≡ zip2 ◌&&◌ (bits_of 64 a.bits) (bits_of 64 b.bits) };
+
+    #[inline(always)]
+    fn bitand(self, rhs: Mask512) -> Mask512 {
+        Mask512 {
+            bits: self.bits & rhs.bits,
+        }
+    }
+}
+
+impl BitOrAssign for Mask512 {
+    ghost bitor_assign_gives = { λ a b c. bits_of 64 c.bits ≡ zip2 ◌||◌ (bits_of 64 a.bits) (bits_of 64 b.bits) };
+
+    #[inline(always)]
+    fn bitor_assign(&mut self, rhs: Mask512) {
+        *self = *self | rhs;
+    }
+}
+
+impl Mask for Mask512 {
+    type Element = u8;
+
+    type BitMask = u64;
+
+    ghost truths = { λ m. bits_of 64 m.bits };
+
+    ghost width = { λ m. length-bits_of 64 m.bits };
+
+    ghost can_or = { λ a b. tt };
+
+    ghost or_is = { λ a b c h. h };
+
+    ghost can_or_assign = { λ a b. tt };
+
+    ghost or_assign_is = { λ a b c h. h };
+
+    ghost can_and = { λ a b. tt };
+
+    ghost and_is = { λ a b c h. h };
+
+    #[inline(always)]
+    fn bitmask(self) -> u64 {
+        self.bits
+    }
+}
+
+impl Simd for Simd512u {
+    const LANES: usize = 64;
+
+    type Element = u8;
+
+    type Mask = Mask512;
+
+    ghost LANES = { 64 };
+
+    ghost lanes = { λ v. v.lanes };
+
+    ghost number = { λ e. e };
+
+    ghost width = { λ v. v.are_bytes.full };
+
+    ghost bytes = { λ v. v.are_bytes.small };
+
+    ghost mask_width = { refl };
+
+    ghost few = { lit≤ tt };
+
+    ghost several = { lit≤ tt };
+
+    #[inline(always)]
+    fn loadu(src: &[u8]) -> Self {
+        Simd512u {
+            lanes: lanes::load(src),
+        }
+    }
+
+    #[inline(always)]
+    fn storeu(&self, dst: &mut [u8]) {
+        lanes::store(&self.lanes, dst);
+    }
+
+    #[inline(always)]
+    fn eq(&self, rhs: &Self) -> Mask512 {
+        Mask512 {
+            bits: lanes::bits(&lanes::eq(&self.lanes, &rhs.lanes)),
+        }
+    }
+
+    #[inline(always)]
+    fn splat(elem: u8) -> Self {
+        Simd512u {
+            lanes: lanes::splat(elem),
+        }
+    }
+
+    #[inline(always)]
+    fn le(&self, rhs: &Self) -> Mask512 {
+        Mask512 {
+            bits: lanes::bits(&lanes::le(&self.lanes, &rhs.lanes)),
+        }
+    }
+}
+
+/// The bits that both nibble tables have for each lane.
+#[inline(always)]
+fn nibble_flags(v: &u8x64) -> u8x64
+    requires { AreBytes 64 v.now }
+    ensures { result ≡ map html_flags v.now }
+{
+    let low = lanes::repeated(&HTML_LO_NIBBLE_TAB).swizzle_dyn_within::<16>(*v & u8x64::splat(15));
+    let high = lanes::repeated(&HTML_HI_NIBBLE_TAB).swizzle_dyn_within::<16>(*v >> u8x64::splat(4));
+    low & high
+}
+
+/// The lanes of `v` whose bytes need an escape: in HTML if `HTML`, else in JSON. It ticks once.
+///
+/// Where `v` begins with the bytes of `a<b`, lane 1 is set in HTML, and none of these in JSON.
+#[inline(always)]
+pub fn escaped_mask<const HTML: bool>(v: &Simd512u, ticks: &mut Ticks) -> u64
+    ensures lanes { ⟦<u64 as BitMask>⟧.bits result ≡ map (needs_escape (mode_of HTML)) (⟦<Simd512u as Simd>⟧.lanes v.now) }
+    ensures tick { ticks.new ≡ ticks.old + 1 }
+{
+    ticks.tick();
+    let needs = if HTML {
+        lanes::html_needs(&v.lanes, &nibble_flags(&v.lanes))
+    } else {
+        lanes::json_needs(&v.lanes)
+    };
+    lanes::bits(&needs)
+}

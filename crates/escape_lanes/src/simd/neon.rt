@@ -1,0 +1,202 @@
+//! 16 bytes in a vector of `std::simd`, with four bits a lane in the bit mask. HTML is classified by
+//! nibble tables.
+ghost use Rattle.std.specs.Prelude.{◌≡◌, ◌+◌, ◌||◌, ◌&&◌, ℕ, map, nat_eq, refl};
+ghost use Rattle.std.specs.Simd.Lanes.{zip2};
+ghost use Rattle.std.proofs.Common.{◌∙◌, lit≤};
+ghost use Rattle.std.proofs.lemmas.List.{length-map};
+ghost use Rattle.escape_lanes.specs.Bits.{nibbles_of};
+ghost use Rattle.escape_lanes.specs.Lanes.{AreBytes, AreWhole, set_lanes};
+ghost use Rattle.escape_lanes.specs.Mode.{mode_of};
+ghost use Rattle.escape_lanes.specs.Nibble.{html_flags};
+ghost use Rattle.escape_lanes.specs.Replacement.{needs_escape};
+
+use crate::simd::bits::NeonBits;
+use crate::simd::lanes;
+use crate::simd::target::Ticks;
+use crate::simd::traits::{BitMask, Mask, Simd};
+use crate::tables::{HTML_HI_NIBBLE_TAB, HTML_LO_NIBBLE_TAB};
+use std::ops::{BitAnd, BitOr, BitOrAssign};
+use std::simd::prelude::*;
+
+/// A vector of 16 bytes.
+#[derive(Debug, Clone, Copy)]
+pub struct Simd128u {
+    lanes: u8x16,
+    ghost are_bytes: { AreBytes 16 lanes },
+}
+
+/// A truth value for each lane of a [`Simd128u`].
+#[derive(Debug, Clone, Copy)]
+pub struct Mask128 {
+    // 00 in a lane that is clear, and ff in one that is set.
+    lanes: u8x16,
+    ghost are_whole: { AreWhole 255 16 lanes },
+}
+
+impl BitOr for Mask128 {
+    type Output = Mask128;
+
+    ghost bitor_gives = { λ a b c. set_lanes 255 c.lanes ≡ zip2 ◌||◌ (set_lanes 255 a.lanes) (set_lanes 255 b.lanes) };
+
+    #[inline(always)]
+    fn bitor(self, rhs: Mask128) -> Mask128 {
+        Mask128 {
+            lanes: lanes::or(&self.lanes, &rhs.lanes),
+        }
+    }
+}
+
+impl BitAnd for Mask128 {
+    type Output = Mask128;
+
+    ghost bitand_gives = { λ a b c. set_lanes 255 c.lanes ≡ zip2 ◌&&◌ (set_lanes 255 a.lanes) (set_lanes 255 b.lanes) };
+
+    #[inline(always)]
+    fn bitand(self, rhs: Mask128) -> Mask128 {
+        Mask128 {
+            lanes: lanes::and(&self.lanes, &rhs.lanes),
+        }
+    }
+}
+
+impl BitOrAssign for Mask128 {
+    ghost bitor_assign_gives = { λ a b c. set_lanes 255 c.lanes ≡ zip2 ◌||◌ (set_lanes 255 a.lanes) (set_lanes 255 b.lanes) };
+
+    #[inline(always)]
+    fn bitor_assign(&mut self, rhs: Mask128) {
+        *self = *self | rhs;
+    }
+}
+
+impl Mask for Mask128 {
+    type Element = u8;
+
+    type BitMask = NeonBits;
+
+    ghost truths = { λ m. set_lanes 255 m.lanes };
+
+    ghost width = { λ m. length-map m.lanes (λ b. nat_eq b 255) ∙ m.are_whole.full };
+
+    ghost can_or = { λ a b. tt };
+
+    ghost or_is = { λ a b c h. h };
+
+    ghost can_or_assign = { λ a b. tt };
+
+    ghost or_assign_is = { λ a b c h. h };
+
+    ghost can_and = { λ a b. tt };
+
+    ghost and_is = { λ a b c h. h };
+
+    #[inline(always)]
+    fn bitmask(self) -> NeonBits {
+        NeonBits::new(nibbles(&self.lanes))
+    }
+}
+
+impl Simd for Simd128u {
+    const LANES: usize = 16;
+
+    type Element = u8;
+
+    type Mask = Mask128;
+
+    ghost LANES = { 16 };
+
+    ghost lanes = { λ v. v.lanes };
+
+    ghost number = { λ e. e };
+
+    ghost width = { λ v. v.are_bytes.full };
+
+    ghost bytes = { λ v. v.are_bytes.small };
+
+    ghost mask_width = { refl };
+
+    ghost few = { lit≤ tt };
+
+    ghost several = { lit≤ tt };
+
+    #[inline(always)]
+    fn loadu(src: &[u8]) -> Self {
+        Simd128u {
+            lanes: lanes::load(src),
+        }
+    }
+
+    #[inline(always)]
+    fn storeu(&self, dst: &mut [u8]) {
+        lanes::store(&self.lanes, dst);
+    }
+
+    #[inline(always)]
+    fn eq(&self, rhs: &Self) -> Mask128 {
+        Mask128 {
+            lanes: lanes::eq(&self.lanes, &rhs.lanes),
+        }
+    }
+
+    #[inline(always)]
+    fn splat(elem: u8) -> Self {
+        Simd128u {
+            lanes: lanes::splat(elem),
+        }
+    }
+
+    #[inline(always)]
+    fn le(&self, rhs: &Self) -> Mask128 {
+        Mask128 {
+            lanes: lanes::le(&self.lanes, &rhs.lanes),
+        }
+    }
+}
+
+/// Four bits for each lane of a mask, the first lane's lowest.
+#[inline(always)]
+fn nibbles(mask: &u8x16) -> u64
+    requires { AreWhole 255 16 mask.now }
+    ensures { nibbles_of 16 result ≡ set_lanes 255 mask.now }
+{
+    // The middle byte of two neighbouring lanes has four bits of each.
+    let pairs = u16x8::from_le_bytes(*mask) >> u16x8::splat(4);
+    let bytes = (pairs & u16x8::splat(255)).cast::<u8>();
+    u64x1::from_le_bytes(bytes).to_array()[0]
+}
+
+/// The bits that both nibble tables have for each lane.
+#[inline(always)]
+fn nibble_flags(v: &u8x16) -> u8x16
+    requires { AreBytes 16 v.now }
+    ensures { result ≡ map html_flags v.now }
+{
+    let low = lanes::repeated(&HTML_LO_NIBBLE_TAB).swizzle_dyn_within::<16>(*v & u8x16::splat(15));
+    let high = lanes::repeated(&HTML_HI_NIBBLE_TAB).swizzle_dyn_within::<16>(*v >> u8x16::splat(4));
+    low & high
+}
+
+/// The lanes of `v` whose bytes need an escape: in HTML if `HTML`, else in JSON. It ticks once.
+///
+/// Where `v` begins with the bytes of `a<b`, lane 1 is set in HTML, and none of these in JSON.
+#[inline(always)]
+pub fn escaped_mask_vec<const HTML: bool>(v: &Simd128u, ticks: &mut Ticks) -> Mask128
+    ensures lanes { ⟦<Mask128 as Mask>⟧.truths result ≡ map (needs_escape (mode_of HTML)) (⟦<Simd128u as Simd>⟧.lanes v.now) }
+    ensures tick { ticks.new ≡ ticks.old + 1 }
+{
+    ticks.tick();
+    let needs = if HTML {
+        lanes::html_needs(&v.lanes, &nibble_flags(&v.lanes))
+    } else {
+        lanes::json_needs(&v.lanes)
+    };
+    Mask128 { lanes: needs }
+}
+
+/// The bit mask of [`escaped_mask_vec`], which is called once, so it ticks once.
+#[inline(always)]
+pub fn escaped_mask<const HTML: bool>(v: &Simd128u, ticks: &mut Ticks) -> NeonBits
+    ensures lanes { ⟦<NeonBits as BitMask>⟧.bits result ≡ map (needs_escape (mode_of HTML)) (⟦<Simd128u as Simd>⟧.lanes v.now) }
+    ensures tick { ticks.new ≡ ticks.old + 1 }
+{
+    escaped_mask_vec::<HTML>(v, ticks).bitmask()
+}

@@ -3,3 +3,9 @@ pub use Rattle.escape_lanes.specs.Replacement
 pub use Rattle.escape_lanes.specs.Written
 pub mod Output
 pub mod Runs
+pub mod Spelling
+pub mod Html
+pub mod Json
+pub mod Headline
+pub mod Laws
+pub mod Messages

@@ -1,0 +1,32 @@
+-- The first texts of a list, joined.
+use Rattle.std.proofs.Common.{◌≡◌, ℕ, zero, suc, ◌+◌, ◌<◌, ◌≤◌, List, [], ◌∷◌, ◌++◌, length, map, take, get_or, sym, ap, ◌∙◌, append_assoc, append-nil, add-one, arith}
+use Rattle.std.specs.List.{concat}
+use Rattle.std.proofs.lemmas.List.{get_or_default}
+use borrow.Author.Count.{below_more}
+use Rattle.escape_lanes.specs.Mode.{Mode}
+use Rattle.escape_simd.specs.Output.{inner}
+use Rattle.escape_simd.proofs.OutputLemmas.{inner-append}
+
+-- one more list, joined
+concat_suc : {X : Type 0} (f : X → List ℕ) (xs : List X) (n : ℕ) (d : X) → n < length xs → concat (take (suc n) (map f xs)) ≡ concat (take n (map f xs)) ++ f (get_or xs n d)
+concat_suc f [] n d inside = absurd (omega arith)
+concat_suc f (x ∷ xs) zero d inside = append-nil (f x)
+concat_suc f (x ∷ xs) (suc n) d inside =
+    ap (λ rest. f x ++ rest) (concat_suc f xs n d (omega arith)) ∙ sym (append_assoc (f x) (concat (take n (map f xs))) (f (get_or xs n d)))
+
+-- the bytes that a vector holds once one more text is written
+pub written_more : {X : Type 0} (mode : Mode) (f : X → List ℕ) (xs : List X) (n : ℕ) (d : X) (start before after : List ℕ) → n < length xs
+    → before ≡ start ++ inner mode (concat (take n (map f xs))) → after ≡ before ++ inner mode (f (get_or xs n d))
+    → after ≡ start ++ inner mode (concat (take (n + 1) (map f xs)))
+written_more mode f xs n d start before after inside so_far more =
+    let front = concat (take n (map f xs)) in
+    let next = f (get_or xs n d) in
+    let joined : concat (take (n + 1) (map f xs)) ≡ front ++ next = rw add-one (concat_suc f xs n d inside) in
+    more ∙ ap (λ bytes. bytes ++ inner mode next) so_far ∙ append_assoc start (inner mode front) (inner mode next) ∙ ap (λ bytes. start ++ bytes) (sym (inner-append mode (concat (take (n + 1) (map f xs))) front next joined))
+
+-- what holds of each of the first values, once it holds of one more
+pub each_more : {X : Type 0} (f : X → ℕ) (most : ℕ) (xs : List X) (n : ℕ) (e : X) → n < length xs
+    → ((k : ℕ) (d : X) → k < n → f (get_or xs k d) ≤ most) → f (get_or xs n e) ≤ most
+    → (k : ℕ) (d : X) → k < n + 1 → f (get_or xs k d) ≤ most
+each_more f most xs n e inside below here k d under =
+    below_more (λ j. f (get_or xs j d) ≤ most) n (λ j h. below j d h) (rw (get_or_default xs n d e inside) here) k under

@@ -1,0 +1,362 @@
+-- Laws of JSON literals.
+use Rattle.std.proofs.Common.{◌≡◌, ◌≢◌, ℕ, ◌+◌, ◌-◌, ◌*◌, ◌/◌, ◌%◌, ◌<◌, ◌≤◌, true, false, ◌⊎◌, List, [], ◌∷◌, ◌++◌, length, length-append, flat_map, encode_utf8, encode_utf8_all, Some, refl, sym, ap, ap₂, subst, subst₂, ◌∙◌, append_assoc, arith, inl, inr, IsUtf8, chars, le_trans, le_antisymm}
+use Rattle.std.specs.Char.{IsScalar, digit_value, digit_char}
+use Rattle.std.specs.Str.{all_scalars}
+use Rattle.std.specs.List.{AllZip, concat}
+use Rattle.std.proofs.lemmas.Bool.{cases_lt, cases_Bool}
+use Rattle.std.proofs.lemmas.Bool.Decides.{nat_tests}
+use Rattle.std.proofs.lemmas.List.{append_cancel_right}
+use Rattle.std.proofs.lemmas.Str.{encode_same, char_from_byte, length-encode, len_utf8_bounds, len_utf8_ascii, digit_value-digit_char, encodes-chars, scalars-chars}
+use Rattle.escape_lanes.specs.Mode.{json}
+use Rattle.escape_lanes.specs.Replacement.{replacement, needs_escape, control_escape}
+use Rattle.escape_simd.specs.Output.{inner, plain, quoted}
+use Rattle.escape_simd.specs.Json.{IsJsonItem, raw, short, hex, pair, IsHexForm, digits, IsHexDigit, short_escape, JsonDenotes, IsNotUpper, HasLowerDigits, IsLowerItem, IsLower, IsShortestJson, IsOnlyJson}
+use Rattle.escape_simd.specs.Spelling.{Spells}
+use Rattle.escape_simd.proofs.SpellingLemmas.{flat_map-encode_utf8_all, Spells-flat_map, Spells-one_text, pieces_le, only_pieces}
+use Rattle.escape_simd.proofs.ReplacementLemmas.{inner_clean, inner_needed}
+
+-- what stands for a character
+abbrev piece : ℕ → List ℕ
+piece c = inner json (encode_utf8 c)
+
+-- what stands for the bytes of a text, character by character
+pieces : (text : List ℕ) → inner json (encode_utf8_all text) ≡ flat_map piece text
+pieces text = flat_map-encode_utf8_all (replacement json) text
+
+-- a control character with no short form is written by four hex digits
+pub record IsWrittenByHex (c : ℕ) : Type 0 where
+  pub low : c < 32
+  pub written : replacement json c ≡ control_escape c
+
+-- the seven characters that are written short, and the others that need an escape
+pub needed_cases : (c : ℕ) → needs_escape json c ≡ true → (P : ℕ → Type 0) → P 0x08 → P 0x09 → P 0x0a → P 0x0c → P 0x0d → P 0x22 → P 0x5c → (IsWrittenByHex c → P c) → P c
+unfolding replacement
+needed_cases c need P p1 p2 p3 p4 p5 p6 p7 other =
+    let which : (c ≡ 0x08) ⊎ ((c ≡ 0x09) ⊎ ((c ≡ 0x0a) ⊎ ((c ≡ 0x0c) ⊎ ((c ≡ 0x0d) ⊎ ((c ≡ 0x22) ⊎ ((c ≡ 0x5c) ⊎ ((c < 32) × (replacement json c ≡ control_escape c)))))))) = grind (arith, nat_tests) in
+    let along = λ (x : ℕ) (e : c ≡ x) (p : P x). subst P (sym e) p in
+    elim which [
+      | inl e ↦ along 0x08 e p1
+      | inr (inl e) ↦ along 0x09 e p2
+      | inr (inr (inl e)) ↦ along 0x0a e p3
+      | inr (inr (inr (inl e))) ↦ along 0x0c e p4
+      | inr (inr (inr (inr (inl e)))) ↦ along 0x0d e p5
+      | inr (inr (inr (inr (inr (inl e))))) ↦ along 0x22 e p6
+      | inr (inr (inr (inr (inr (inr (inl e)))))) ↦ along 0x5c e p7
+      | inr (inr (inr (inr (inr (inr (inr h)))))) ↦ other (record { low = h.0; written = h.1 })
+    ]
+
+-- the eight short forms
+short_cases : (b c : ℕ) → short_escape b ≡ Some c → (P : ℕ → ℕ → Type 0) → P 0x22 0x22 → P 0x5c 0x5c → P 0x2f 0x2f → P 0x62 0x08 → P 0x66 0x0c → P 0x6e 0x0a → P 0x72 0x0d → P 0x74 0x09 → P b c
+unfolding short_escape
+short_cases b c e P p1 p2 p3 p4 p5 p6 p7 p8 =
+    let which : ((b ≡ 0x22) × (c ≡ 0x22)) ⊎ (((b ≡ 0x5c) × (c ≡ 0x5c)) ⊎ (((b ≡ 0x2f) × (c ≡ 0x2f)) ⊎ (((b ≡ 0x62) × (c ≡ 0x08)) ⊎ (((b ≡ 0x66) × (c ≡ 0x0c)) ⊎ (((b ≡ 0x6e) × (c ≡ 0x0a)) ⊎ (((b ≡ 0x72) × (c ≡ 0x0d)) ⊎ ((b ≡ 0x74) × (c ≡ 0x09)))))))) = grind (arith, nat_tests) in
+    let along = λ (x y : ℕ) (h : (b ≡ x) × (c ≡ y)) (p : P x y). subst₂ P (sym h.0) (sym h.1) p in
+    elim which [
+      | inl h ↦ along 0x22 0x22 h p1
+      | inr (inl h) ↦ along 0x5c 0x5c h p2
+      | inr (inr (inl h)) ↦ along 0x2f 0x2f h p3
+      | inr (inr (inr (inl h))) ↦ along 0x62 0x08 h p4
+      | inr (inr (inr (inr (inl h)))) ↦ along 0x66 0x0c h p5
+      | inr (inr (inr (inr (inr (inl h))))) ↦ along 0x6e 0x0a h p6
+      | inr (inr (inr (inr (inr (inr (inl h)))))) ↦ along 0x72 0x0d h p7
+      | inr (inr (inr (inr (inr (inr (inr h)))))) ↦ along 0x74 0x09 h p8
+    ]
+
+-- a hex digit that isn't upper-case is the one that writes its value
+lower_digit : (d : ℕ) → IsHexDigit d → IsNotUpper d → d ≡ digit_char (digit_value d)
+lower_digit d h k = grind (arith, nat_tests)
+
+-- the digit that writes a value isn't upper-case
+digit_char_not_upper : (v : ℕ) → v < 16 → IsNotUpper (digit_char v)
+digit_char_not_upper v h = grind (arith, nat_tests)
+
+-- the hex escape of a control character is a form of its value with lower-case digits
+control_form : (c : ℕ) → c < 32 → (form : IsHexForm (control_escape c) c) × HasLowerDigits form
+control_form c low =
+    let high : digit_value (digit_char (c / 16)) ≡ c / 16 = digit_value-digit_char (c / 16) (omega arith) in
+    let rest : digit_value (digit_char (c % 16)) ≡ c % 16 = digit_value-digit_char (c % 16) (omega arith) in
+    let worth : 0 * 0x1000 + 0 * 0x100 + digit_value (digit_char (c / 16)) * 0x10 + digit_value (digit_char (c % 16)) ≡ c = omega arith in
+    subst (λ value. (form : IsHexForm (control_escape c) value) × HasLowerDigits form) worth (
+      digits (omega arith) (omega arith) (omega arith) (omega arith),
+      (inl (omega arith), inl (omega arith), digit_char_not_upper (c / 16) (omega arith), digit_char_not_upper (c % 16) (omega arith)),
+    )
+
+-- forms that begin one byte list have one value
+hex_same : (i j x y : List ℕ) (u v : ℕ) → IsHexForm i u → IsHexForm j v → i ++ x ≡ j ++ y → (u ≡ v) × (x ≡ y)
+hex_same i j x y u v (digits _ _ _ _) (digits _ _ _ _) e = (cc, cc)
+
+-- what stands for a character is an item of it with no upper-case hex digit
+lower_item : (c : ℕ) → IsScalar c → IsLowerItem (piece c) c
+unfolding replacement short_escape
+lower_item c scalar =
+    let Lower : ℕ → Type 0 = λ x. IsLowerItem (replacement json x) x in
+    let along = λ (bytes : List ℕ) (e : piece c ≡ bytes) (item : IsLowerItem bytes c). subst (λ bytes. IsLowerItem bytes c) (sym e) item in
+    elim (cases_Bool (needs_escape json c)) [
+      | inl need ↦ along (replacement json c) (inner_needed json c need)
+          (needed_cases c need Lower (short refl, tt) (short refl, tt) (short refl, tt) (short refl, tt) (short refl, tt) (short refl, tt) (short refl, tt)
+          (λ h. let form = control_form c h.low in
+          subst (λ bytes. IsLowerItem bytes c) (sym h.written) (hex form.0 (inl (omega arith)), form.1)))
+      | inr clean ↦ along (encode_utf8 c) (inner_clean json c clean) (raw scalar (grind (arith, nat_tests)) (grind (arith, nat_tests)) (grind (arith, nat_tests)), tt)
+    ]
+
+-- Lengths
+
+-- a form has six bytes
+length-form : (i : List ℕ) (u : ℕ) → IsHexForm i u → length i ≡ 6
+length-form i u (digits _ _ _ _) = refl
+
+-- two forms have twelve bytes
+pub length-pair : (i j : List ℕ) (u v : ℕ) → IsHexForm i u → IsHexForm j v → length (i ++ j) ≡ 12
+length-pair i j u v f g = length-append i j ∙ ap₂ (λ a b. a + b) (length-form i u f) (length-form j v g)
+
+-- an escape has six bytes at most
+length-replacement-le : (c : ℕ) → needs_escape json c ≡ true → length (replacement json c) ≤ 6
+unfolding replacement
+length-replacement-le c need =
+    needed_cases c need (λ x. length (replacement json x) ≤ 6) (omega arith) (omega arith) (omega arith) (omega arith) (omega arith) (omega arith) (omega arith)
+    (λ h. omega (arith, ap length h.written))
+
+-- a character with a short form that needs an escape is written so
+short_written : (b c : ℕ) → short_escape b ≡ Some c → needs_escape json c ≡ true → replacement json c ≡ 0x5c ∷ b ∷ []
+unfolding replacement
+short_written b c e need = short_cases b c e (λ x y. needs_escape json y ≡ true → replacement json y ≡ 0x5c ∷ x ∷ [])
+    (λ _. refl) (λ _. refl) (λ n. absurd (cc)) (λ _. refl) (λ _. refl) (λ _. refl) (λ _. refl) (λ _. refl) need
+
+-- a character with a short form is below U+0080
+short_low : (b c : ℕ) → short_escape b ≡ Some c → c < 128
+short_low b c e = short_cases b c e (λ x y. y < 128) (omega arith) (omega arith) (omega arith) (omega arith) (omega arith) (omega arith) (omega arith) (omega arith)
+
+-- a raw item needs no escape
+raw_clean : (c : ℕ) → 32 ≤ c → c ≢ 0x22 → c ≢ 0x5c → needs_escape json c ≡ false
+raw_clean c h k l = grind (arith, nat_tests)
+
+-- a character that needs no escape is written by four bytes at most
+length-clean : (c : ℕ) → needs_escape json c ≡ false → length (piece c) ≤ 4
+length-clean c clean = let bound = (len_utf8_bounds c).1 in omega (arith, ap length (inner_clean json c clean), length-encode c)
+
+-- one below U+0080 is written by one byte
+length-low : (c : ℕ) → needs_escape json c ≡ false → c < 128 → length (piece c) ≡ 1
+length-low c clean low = ap length (inner_clean json c clean) ∙ length-encode c ∙ len_utf8_ascii c low
+
+-- a character is written by six bytes at most
+length-piece-le : (c : ℕ) → length (piece c) ≤ 6
+length-piece-le c =
+    elim (cases_Bool (needs_escape json c)) [
+      | inl need ↦ omega (arith, ap length (inner_needed json c need), length-replacement-le c need)
+      | inr clean ↦ omega (arith, length-clean c clean)
+    ]
+
+-- no item is shorter than what stands for the character
+pub least : (i : List ℕ) (c : ℕ) → IsJsonItem i c → length (piece c) ≤ length i
+least i c (raw scalar h k l) = omega (arith, ap length (inner_clean json c (raw_clean c h k l)))
+least i c (short {b = b} s) =
+    elim (cases_Bool (needs_escape json c)) [
+      | inl need ↦ omega (arith, ap length (inner_needed json c need ∙ short_written b c s need))
+      | inr clean ↦ omega (arith, length-low c clean (short_low b c s))
+    ]
+least i c (hex form _) = omega (arith, length-form i c form, length-piece-le c)
+least i c (pair {first = f} {second = s} {high = h} {low = l} first second _ _) =
+    omega (arith, length-pair f s h l first second, length-piece-le c)
+
+-- four lower-case hex digits of a control character
+control_only : (i : List ℕ) (c : ℕ) → (f : IsHexForm i c) → HasLowerDigits f → c < 32 → i ≡ control_escape c
+control_only i c (digits {d3 = d3} {d2 = d2} {d1 = d1} {d0 = d0} h3 h2 h1 h0) lower low =
+    let v3 : digit_value d3 ≡ 0 = omega arith in
+    let v2 : digit_value d2 ≡ 0 = omega arith in
+    let e3 : d3 ≡ 48 = lower_digit d3 h3 lower.0 ∙ ap digit_char v3 in
+    let e2 : d2 ≡ 48 = lower_digit d2 h2 lower.1 ∙ ap digit_char v2 in
+    let e1 : d1 ≡ digit_char (c / 16) = lower_digit d1 h1 lower.2 ∙ ap digit_char (omega arith) in
+    let e0 : d0 ≡ digit_char (c % 16) = lower_digit d0 h0 lower.3 ∙ ap digit_char (omega arith) in
+    cc
+
+-- six bytes stand for no character with a short form
+hex_written : (c : ℕ) → needs_escape json c ≡ true → 6 ≤ length (replacement json c) → IsWrittenByHex c
+unfolding replacement
+hex_written c need =
+    needed_cases c need (λ x. 6 ≤ length (replacement json x) → IsWrittenByHex x)
+    (λ h. absurd (omega arith)) (λ h. absurd (omega arith)) (λ h. absurd (omega arith)) (λ h. absurd (omega arith)) (λ h. absurd (omega arith)) (λ h. absurd (omega arith)) (λ h. absurd (omega arith))
+    (λ h _. h)
+
+-- an item with no upper-case digit that is as short as what stands for the character is that
+pub only : (i : List ℕ) (c : ℕ) → IsLowerItem i c → length i ≤ length (piece c) → i ≡ piece c
+only i c (raw scalar h k l, lower) small = sym (inner_clean json c (raw_clean c h k l))
+only i c (short {b = b} s, lower) small =
+    elim (cases_Bool (needs_escape json c)) [
+      | inl need ↦ sym (inner_needed json c need ∙ short_written b c s need)
+      | inr clean ↦ absurd (omega (arith, length-low c clean (short_low b c s)))
+    ]
+only i c (hex form apart, lower) small =
+    elim (cases_Bool (needs_escape json c)) [
+      | inl need ↦
+          let written = inner_needed json c need in
+          let h = hex_written c need (omega (arith, length-form i c form, ap length written)) in
+          control_only i c form lower h.low ∙ sym (written ∙ h.written)
+      | inr clean ↦ absurd (omega (arith, length-clean c clean, length-form i c form))
+    ]
+only i c (pair {first = f} {second = s} {high = h} {low = l} first second _ _, lower) small =
+    absurd (omega (arith, length-pair f s h l first second, length-piece-le c))
+
+-- No item begins another, and an item is of one character
+
+-- a raw character other than the backslash begins with no backslash
+not_backslash : (x y : List ℕ) (c : ℕ) → c ≢ 0x5c → encode_utf8 c ++ x ≢ 0x5c ∷ y
+not_backslash x y c other same = other (char_from_byte (0x5c ∷ y) x c (sym same) (omega arith) (omega arith))
+
+-- what an item that isn't raw begins with
+form_start : (i x : List ℕ) (u : ℕ) → IsHexForm i u → (rest : List ℕ) × (i ++ x ≡ 0x5c ∷ 0x75 ∷ rest)
+form_start i x u (digits _ _ _ _) = (_, refl)
+
+-- what a surrogate pair begins with
+pair_start : (j k x : List ℕ) (u : ℕ) → IsHexForm j u → (rest : List ℕ) × ((j ++ k) ++ x ≡ 0x5c ∷ 0x75 ∷ rest)
+pair_start j k x u f = let start = form_start j (k ++ x) u f in (start.0, append_assoc j k x ∙ start.1)
+
+-- `u` is no short form
+pub not_u : (b c : ℕ) → short_escape b ≡ Some c → b ≢ 0x75
+not_u b c s = short_cases b c s (λ z _. z ≢ 0x75) (omega arith) (omega arith) (omega arith) (omega arith) (omega arith) (omega arith) (omega arith) (omega arith)
+
+-- where a raw item begins another, both are of one character
+raw_alone : (j x y : List ℕ) (c d : ℕ) → c ≢ 0x5c → IsJsonItem j d → encode_utf8 c ++ x ≡ j ++ y → (c ≡ d) × (x ≡ y)
+raw_alone j x y c d other (raw _ _ _ _) same = encode_same c d x y same
+raw_alone j x y c d other (short {b = b} s) same = absurd (not_backslash x (b ∷ y) c other same)
+raw_alone j x y c d other (hex form _) same = let start = form_start j y d form in absurd (not_backslash x (0x75 ∷ start.0) c other (same ∙ start.1))
+raw_alone j x y c d other (pair {first = f} {second = s} {high = h} form _ _ _) same =
+    let start = pair_start f s y h form in absurd (not_backslash x (0x75 ∷ start.0) c other (same ∙ start.1))
+
+-- where a short item begins another, both are of one character
+short_alone : (j x y : List ℕ) (b c d : ℕ) → short_escape b ≡ Some c → IsJsonItem j d → 0x5c ∷ b ∷ x ≡ j ++ y → (c ≡ d) × (x ≡ y)
+short_alone j x y b c d s (raw _ _ _ l) same = absurd (not_backslash y (b ∷ x) d l (sym same))
+short_alone j x y b c d s (short {b = z} t) same = let letter : b ≡ z = cc in (cc, cc)
+short_alone j x y b c d s (hex form _) same =
+    let start = form_start j y d form in
+    let begins = same ∙ start.1 in
+    absurd (not_u b c s (cc))
+short_alone j x y b c d s (pair {first = f} {second = t} {high = h} form _ _ _) same =
+    let start = pair_start f t y h form in
+    let begins = same ∙ start.1 in
+    absurd (not_u b c s (cc))
+
+-- no item begins another, and an item is of one character alone
+pub apart : (i j x y : List ℕ) (c d : ℕ) → IsJsonItem i c → IsJsonItem j d → i ++ x ≡ j ++ y → (c ≡ d) × (x ≡ y)
+apart i j x y c d (raw _ _ _ l) item same = raw_alone j x y c d l item same
+apart i j x y c d (short {b = b} s) item same = short_alone j x y b c d s item same
+apart i j x y c d (hex form p) (raw _ _ _ l) same = let back = raw_alone i y x d c l (hex form p) (sym same) in (sym back.0, sym back.1)
+apart i j x y c d (hex form p) (short {b = b} s) same = let back = short_alone i y x b d c s (hex form p) (sym same) in (sym back.0, sym back.1)
+apart i j x y c d (hex form _) (hex also _) same = hex_same i j x y c d form also same
+apart i j x y c d (hex form range) (pair {first = f} {second = t} {high = h} first _ high _) same =
+    let one = hex_same i f x (t ++ y) c h form first (same ∙ append_assoc f t y) in
+    let equal = one.0 in
+    absurd (omega arith)
+apart i j x y c d (pair {first = f} {second = t} {high = h} {low = l} first second high low) (raw _ _ _ k) same =
+    let back = raw_alone (f ++ t) y x d c k (pair first second high low) (sym same) in (sym back.0, sym back.1)
+apart i j x y c d (pair {first = f} {second = t} {high = h} {low = l} first second high low) (short {b = b} s) same =
+    let back = short_alone (f ++ t) y x b d c s (pair first second high low) (sym same) in (sym back.0, sym back.1)
+apart i j x y c d (pair {first = f} {second = t} {high = h} first _ high _) (hex form range) same =
+    let one = hex_same j f y (t ++ x) d h form first (sym same ∙ append_assoc f t x) in
+    let equal = one.0 in
+    absurd (omega arith)
+apart i j x y c d (pair {first = f} {second = s} {high = h} {low = l} first second _ _) (pair {first = f'} {second = s'} {high = h'} {low = l'} first' second' _ _) same =
+    let highs = hex_same f f' (s ++ x) (s' ++ y) h h' first first' (sym (append_assoc f s x) ∙ same ∙ append_assoc f' s' y) in
+    let lows = hex_same s s' x y l l' second second' highs.1 in
+    (ap₂ (λ a b. 0x10000 + (a - 0xd800) * 0x400 + (b - 0xdc00)) highs.0 lows.0, lows.1)
+
+-- an item has a byte
+pub not_empty : (i : List ℕ) (c : ℕ) → IsJsonItem i c → 0 < length i
+not_empty i c (raw _ _ _ _) = let long = (len_utf8_bounds c).0 in omega (arith, length-encode c)
+not_empty i c (short s) = omega arith
+not_empty i c (hex form _) = omega (arith, length-form i c form)
+not_empty i c (pair {first = f} {second = s} {high = h} {low = l} first second _ _) = omega (arith, length-pair f s h l first second)
+
+-- The laws
+
+-- the output, character by character
+plain_pieces : (text : List ℕ) → plain json (encode_utf8_all text) ≡ quoted (flat_map piece text)
+plain_pieces text = ap quoted (pieces text)
+
+-- lower-case items are items
+items_of_lower : (items : List (List ℕ)) (text : List ℕ) → AllZip IsLowerItem items text → AllZip IsJsonItem items text
+items_of_lower [] [] h = tt
+items_of_lower [] (c ∷ cs) h = absurd h
+items_of_lower (i ∷ is) [] h = absurd h
+items_of_lower (i ∷ is) (c ∷ cs) h = (h.0.0, items_of_lower is cs h.1)
+
+-- what denotes a text by lower-case items denotes it
+denotes_from_lower : (bytes text : List ℕ) → IsLower bytes text → JsonDenotes bytes text
+denotes_from_lower bytes text h = record {
+  inside = h.inside;
+  spelled = record { items = h.spelled.items; each = items_of_lower h.spelled.items text h.spelled.each; joined = h.spelled.joined };
+  between = h.between;
+}
+
+-- the output denotes the text, by items with no upper-case hex digit
+plain_lower : (text : List ℕ) → all_scalars text ≡ true → IsLower (plain json (encode_utf8_all text)) text
+plain_lower text scalars = record {
+  inside = flat_map piece text;
+  spelled = Spells-flat_map IsLowerItem piece lower_item text scalars;
+  between = plain_pieces text;
+}
+
+-- two bytes more between quotation marks
+pub length-quoted : (bytes : List ℕ) → length (quoted bytes) ≡ length bytes + 2
+length-quoted bytes = omega (arith, length-append bytes (0x22 ∷ []))
+
+-- the output is a shortest literal of the text
+plain_shortest : (text : List ℕ) → all_scalars text ≡ true → IsShortestJson (plain json (encode_utf8_all text)) text
+plain_shortest text scalars = record {
+  denotes = denotes_from_lower (plain json (encode_utf8_all text)) text (plain_lower text scalars);
+  least = λ other denotes.
+      omega (
+        arith,
+        ap length (plain_pieces text),
+        length-quoted (flat_map piece text),
+        ap length denotes.between,
+        length-quoted denotes.inside,
+        pieces_le IsJsonItem piece least denotes.spelled.items text denotes.spelled.each,
+        ap length denotes.spelled.joined,
+      );
+}
+
+-- a shortest literal with no upper-case hex digit is the output
+pub only_plain : (bytes text : List ℕ) → all_scalars text ≡ true → IsShortestJson bytes text → IsLower bytes text → bytes ≡ plain json (encode_utf8_all text)
+only_plain bytes text scalars shortest lower =
+    let output = plain json (encode_utf8_all text) in
+    let short : length bytes ≤ length output = shortest.least output (plain_shortest text scalars).denotes in
+    let small : length (concat lower.spelled.items) ≤ length (flat_map piece text) =
+    omega (arith, ap length (plain_pieces text), length-quoted (flat_map piece text), ap length lower.between, length-quoted lower.inside, ap length lower.spelled.joined) in
+    let inside = lower.spelled.joined ∙ only_pieces IsLowerItem piece (λ i c item. least i c item.0) only lower.spelled.items text lower.spelled.each small in
+    lower.between ∙ ap quoted inside ∙ sym (plain_pieces text)
+
+-- a literal denotes one text at most
+pub one_text : (bytes t u : List ℕ) → JsonDenotes bytes t → JsonDenotes bytes u → t ≡ u
+one_text bytes t u p q =
+    let whole : 0x22 ∷ (p.inside ++ 0x22 ∷ []) ≡ 0x22 ∷ (q.inside ++ 0x22 ∷ []) = sym p.between ∙ q.between in
+    let same : p.inside ≡ q.inside = append_cancel_right p.inside q.inside (0x22 ∷ []) (cc) in
+    Spells-one_text IsJsonItem apart not_empty p.inside t u p.spelled (subst (λ bytes. Spells IsJsonItem bytes u) (sym same) q.spelled)
+
+-- what denotes the text and isn't longer has an upper-case hex digit, or is the output
+lower_not_longer : (bytes text : List ℕ) → all_scalars text ≡ true → IsLower bytes text → length bytes ≤ length (plain json (encode_utf8_all text)) → bytes ≡ plain json (encode_utf8_all text)
+lower_not_longer bytes text scalars lower not_longer =
+    let least = (plain_shortest text scalars).least in
+    only_plain bytes text scalars (record { denotes = denotes_from_lower bytes text lower; least = λ other denotes. le_trans not_longer (least other denotes) }) lower
+
+-- the output for the bytes of a text
+IsOnlyJson-plain : (text : List ℕ) → all_scalars text ≡ true → IsOnlyJson (plain json (encode_utf8_all text)) text
+IsOnlyJson-plain text scalars = record {
+  shortest = plain_shortest text scalars;
+  lower = plain_lower text scalars;
+  only = λ other shortest lower. only_plain other text scalars shortest lower;
+  others = λ other denotes differs. elim (cases_lt (length output) (length other)) [
+    | inl longer ↦ inl longer
+    | inr not_longer ↦
+        inr (le_antisymm not_longer ((plain_shortest text scalars).least other denotes), λ lower. differs (lower_not_longer other text scalars lower not_longer))
+  ];
+  one_text = λ other denotes. one_text output other text denotes (plain_shortest text scalars).denotes;
+}
+  where
+    output : List ℕ
+    output = plain json (encode_utf8_all text)
+
+-- as the clause of a call has it: of its `&str` and its output
+pub IsOnlyJson-output : (bytes output : List ℕ) → IsUtf8 bytes → output ≡ plain json bytes → IsOnlyJson output (chars bytes)
+IsOnlyJson-output bytes output utf8 same =
+    let whole = ap (plain json) (encodes-chars bytes utf8) in
+    subst (λ o. IsOnlyJson o (chars bytes)) (whole ∙ sym same) (IsOnlyJson-plain (chars bytes) (scalars-chars bytes utf8))

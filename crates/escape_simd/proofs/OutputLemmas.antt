@@ -1,0 +1,152 @@
+-- The laws as calls' clauses have them.
+use Rattle.std.proofs.Common.{◌≡◌, ℕ, ◌+◌, ◌*◌, ◌<◌, ◌≤◌, true, List, [], ◌∷◌, ◌++◌, length, length-append, take, drop, length-take, IsUtf8, chars, encode_utf8, encode_utf8_all, flat_map, refl, sym, ap, subst, ◌∙◌, arith, inl, inr}
+use Rattle.std.specs.Str.{all_scalars}
+use Rattle.std.specs.Char.{IsScalar}
+use Rattle.std.proofs.Math.Utf8.{scalar}
+use Rattle.std.specs.List.{AllByRecursion}
+use Rattle.std.proofs.lemmas.Bool.{and_parts, cases_Bool}
+use Rattle.std.proofs.lemmas.Bool.Decides.{nat_tests}
+use Rattle.std.proofs.lemmas.Str.{IsUtf8-append, IsUtf8-nil, IsUtf8-encode, encode_ascii, encodes-chars, scalars-chars}
+use Rattle.escape_lanes.specs.Mode.{Mode, json, html}
+use Rattle.escape_lanes.specs.Replacement.{replacement, needs_escape}
+use Rattle.escape_simd.specs.Output.{inner, plain, bound}
+use Rattle.escape_simd.specs.Html.{HtmlReads}
+use Rattle.escape_simd.specs.Json.{JsonDenotes}
+use Rattle.escape_simd.specs.Spelling.{IsTextOf}
+use Rattle.escape_simd.specs.Headline.{IsOnlyOutput}
+use Rattle.escape_simd.specs.Laws.{appended, IsOfOneText, HasOutputLength}
+use Rattle.std.proofs.lemmas.Grind.{flat_map-append}
+use Rattle.std.proofs.lemmas.List.{drop_at}
+use Rattle.escape_simd.proofs.SpellingLemmas.{flat_map-encode_utf8_all}
+use Rattle.escape_simd.proofs.ReplacementLemmas.{inner_clean, inner_needed}
+use Rattle.escape_simd.proofs.HtmlLemmas.{IsOnlyHtml-output, six_cases}
+use Rattle.escape_simd.proofs.JsonLemmas.{IsOnlyJson-output, needed_cases, length-quoted}
+
+-- the output for the bytes of a `&str`, in either mode
+IsOnlyOutput-plain : (mode : Mode) (bytes output : List ℕ) → IsUtf8 bytes → output ≡ plain mode bytes → IsOnlyOutput mode output (chars bytes)
+IsOnlyOutput-plain json bytes output utf8 same = IsOnlyJson-output bytes output utf8 same
+IsOnlyOutput-plain html bytes output utf8 same = IsOnlyHtml-output bytes output utf8 same
+
+-- the text of a `&str`, as its clauses name it
+pub IsTextOf-chars : (bytes : List ℕ) → IsUtf8 bytes → IsTextOf bytes (chars bytes)
+IsTextOf-chars bytes utf8 = record { scalars = scalars-chars bytes utf8; encoded = encodes-chars bytes utf8 }
+
+-- The output is text
+
+-- bytes below 128 are a text
+ascii_text : (bytes : List ℕ) → AllByRecursion (λ b. b < 128) bytes → IsUtf8 bytes
+ascii_text [] h = IsUtf8-nil
+ascii_text (b ∷ bs) h =
+    let head : IsScalar b = grind (arith, nat_tests, h.0) in
+    IsUtf8-append (b ∷ []) bs (subst IsUtf8 (encode_ascii b h.0) (IsUtf8-encode b head)) (ascii_text bs h.1)
+
+-- an escape is ASCII
+replacement_ascii : (mode : Mode) (b : ℕ) → needs_escape mode b ≡ true → AllByRecursion (λ x. x < 128) (replacement mode b)
+unfolding replacement
+replacement_ascii json b need =
+    needed_cases b need (λ x. AllByRecursion (λ y. y < 128) (replacement json x)) (omega arith) (omega arith) (omega arith) (omega arith) (omega arith) (omega arith) (omega arith)
+    (λ h. let low = h.low in subst (λ bytes. AllByRecursion (λ y. y < 128) bytes) (sym h.written) (grind (arith, nat_tests)))
+replacement_ascii html b need =
+    six_cases b need (λ x. AllByRecursion (λ y. y < 128) (replacement html x)) (omega arith) (omega arith) (omega arith) (omega arith) (omega arith) (omega arith)
+
+-- what stands for a character is a text
+IsUtf8-replacement : (mode : Mode) (c : ℕ) → IsScalar c → IsUtf8 (inner mode (encode_utf8 c))
+IsUtf8-replacement mode c character =
+    elim (cases_Bool (needs_escape mode c)) [
+      | inl need ↦ subst IsUtf8 (sym (inner_needed mode c need)) (ascii_text (replacement mode c) (replacement_ascii mode c need))
+      | inr clean ↦ subst IsUtf8 (sym (inner_clean mode c clean)) (IsUtf8-encode c character)
+    ]
+
+-- what stands for characters is a text
+IsUtf8-pieces : (mode : Mode) (text : List ℕ) → all_scalars text ≡ true → IsUtf8 (flat_map (λ c. inner mode (encode_utf8 c)) text)
+IsUtf8-pieces mode [] h = IsUtf8-nil
+IsUtf8-pieces mode (c ∷ cs) h =
+    let parts = and_parts (scalar c) (all_scalars cs) h in
+    IsUtf8-append (inner mode (encode_utf8 c)) (flat_map (λ c. inner mode (encode_utf8 c)) cs) (IsUtf8-replacement mode c parts.0) (IsUtf8-pieces mode cs parts.1)
+
+-- what stands for the bytes of a text is a text
+IsUtf8-inner : (mode : Mode) (bytes : List ℕ) → IsUtf8 bytes → IsUtf8 (inner mode bytes)
+IsUtf8-inner mode bytes utf8 =
+    let same = sym (flat_map-encode_utf8_all (replacement mode) (chars bytes)) ∙ ap (inner mode) (encodes-chars bytes utf8) in
+    subst IsUtf8 same (IsUtf8-pieces mode (chars bytes) (scalars-chars bytes utf8))
+
+-- the output for the bytes of a text is a text
+IsUtf8-plain : (mode : Mode) (bytes : List ℕ) → IsUtf8 bytes → IsUtf8 (plain mode bytes)
+IsUtf8-plain html bytes utf8 = IsUtf8-inner html bytes utf8
+IsUtf8-plain json bytes utf8 =
+    let quote = ascii_text (0x22 ∷ []) (omega arith, tt) in
+    IsUtf8-append (0x22 ∷ []) (inner json bytes ++ 0x22 ∷ []) quote (IsUtf8-append (inner json bytes) (0x22 ∷ []) (IsUtf8-inner json bytes utf8) quote)
+
+-- as the condition of a call has it
+pub IsUtf8-output : (mode : Mode) (bytes output : List ℕ) → IsUtf8 bytes → output ≡ plain mode bytes → IsUtf8 output
+IsUtf8-output mode bytes output utf8 same = subst IsUtf8 (sym same) (IsUtf8-plain mode bytes utf8)
+
+-- How long the output is
+
+-- a byte is written by one to six bytes
+length-replacement : (mode : Mode) (b : ℕ) → (1 ≤ length (replacement mode b)) × (length (replacement mode b) ≤ 6)
+unfolding replacement
+length-replacement json b = (grind (arith, nat_tests), grind (arith, nat_tests))
+length-replacement html b = (grind (arith, nat_tests), grind (arith, nat_tests))
+
+-- bytes are written by as many bytes at least, and six times as many at most
+length-inner : (mode : Mode) (bytes : List ℕ) → (length bytes ≤ length (inner mode bytes)) × (length (inner mode bytes) ≤ 6 * length bytes)
+length-inner mode [] = (omega arith, omega arith)
+length-inner mode (b ∷ bs) =
+    let one = length-replacement mode b in
+    let rest = length-inner mode bs in
+    let both = length-append (replacement mode b) (inner mode bs) in
+    (omega arith, omega arith)
+
+-- the scratch bound has room for more than what stands for the bytes
+pub length-inner-bound : (mode : Mode) (bytes : List ℕ) → length (inner mode bytes) + 32 ≤ bound mode (length bytes)
+length-inner-bound json bytes = let short = (length-inner json bytes).1 in omega arith
+length-inner-bound html bytes = let short = (length-inner html bytes).1 in omega arith
+
+-- where six bytes a byte have room, what stands for one more byte has
+pub room-inner : (mode : Mode) (bytes : List ℕ) (i to end len : ℕ) → i < length bytes → to + 6 * length bytes ≤ len → end ≡ to + length (inner mode (take i bytes)) → end + 6 ≤ len
+room-inner mode bytes i to end len inside room at =
+    let short = (length-inner mode (take i bytes)).1 in
+    let front = length-take i bytes in
+    omega arith
+
+-- equal outputs come from equal texts
+plain-injective : (mode : Mode) (xs ys : List ℕ) → IsUtf8 xs → IsUtf8 ys → plain mode xs ≡ plain mode ys → xs ≡ ys
+plain-injective mode xs ys p q same = sym (encodes-chars xs p) ∙ ap encode_utf8_all (chars_same mode same) ∙ encodes-chars ys q
+  where
+    chars_same : (m : Mode) → plain m xs ≡ plain m ys → chars xs ≡ chars ys
+    chars_same json e = (IsOnlyJson-output ys (plain json ys) q refl).one_text (chars xs) (subst (λ o. JsonDenotes o (chars xs)) e (IsOnlyJson-output xs (plain json xs) p refl).shortest.denotes)
+    chars_same html e = (IsOnlyHtml-output ys (plain html ys) q refl).one_text (chars xs) (subst (λ o. HtmlReads o (chars xs)) e (IsOnlyHtml-output xs (plain html xs) p refl).reads)
+
+-- how long the output is, with the quotation marks of JSON
+HasOutputLength-plain : (mode : Mode) (bytes : List ℕ) → HasOutputLength mode (length bytes) (plain mode bytes)
+HasOutputLength-plain json bytes = let long = length-inner json bytes in let quotes = length-quoted (inner json bytes) in record { at_least = omega arith; at_most = omega arith }
+HasOutputLength-plain html bytes = let long = length-inner html bytes in record { at_least = omega arith; at_most = omega arith }
+
+-- what stands for two byte lists joined
+pub inner-append : (mode : Mode) (bytes first second : List ℕ) → bytes ≡ first ++ second → inner mode bytes ≡ inner mode first ++ inner mode second
+inner-append mode bytes first second cut = ap (inner mode) cut ∙ flat_map-append (replacement mode) first second
+
+-- what was appended, where a vector is its old bytes and these
+appended-append : (old new added : List ℕ) → new ≡ old ++ added → appended old new ≡ added
+appended-append old new added same = ap (drop (length old)) same ∙ drop_at old added (length old) refl
+
+-- as the clauses of a call have it: of the bytes of its `&str` and of its output
+module _ (mode : Mode) (bytes output : List ℕ) (same : output ≡ plain mode bytes) where
+  pub HasOutputLength-output : HasOutputLength mode (length bytes) output
+  HasOutputLength-output = subst (HasOutputLength mode (length bytes)) (sym same) (HasOutputLength-plain mode bytes)
+
+  module _ (utf8 : IsUtf8 bytes) where
+    pub IsOnlyOutput-output : IsOnlyOutput mode output (chars bytes)
+    IsOnlyOutput-output = IsOnlyOutput-plain mode bytes output utf8 same
+
+    pub IsOfOneText-output : IsOfOneText mode bytes output
+    IsOfOneText-output other text e = plain-injective mode other bytes text utf8 (e ∙ same)
+
+-- as the clauses of a call that appends have it
+module _ (mode : Mode) (bytes old new : List ℕ) (utf8 : IsUtf8 bytes) (same : new ≡ old ++ plain mode bytes) where
+  pub IsOnlyOutput-appended : IsOnlyOutput mode (appended old new) (chars bytes)
+  IsOnlyOutput-appended = IsOnlyOutput-output mode bytes (appended old new) (appended-append old new (plain mode bytes) same) utf8
+
+  pub IsOfOneText-appended : IsOfOneText mode bytes (appended old new)
+  IsOfOneText-appended = IsOfOneText-output mode bytes (appended old new) (appended-append old new (plain mode bytes) same) utf8

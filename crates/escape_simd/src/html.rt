@@ -1,0 +1,87 @@
+//! HTML text in which six bytes are written as entities: `"`, `&`, `'`, `/`, `<` and `>`.
+ghost use Rattle.std.specs.Prelude.{◌≡◌, ◌+◌, ◌<◌, ◌≤◌, ◌↔◌, ◌++◌, length, chars, string_bytes, vec_len, vec_capacity, Err, IsOk, IsErr, IfOk, OnOk, OnErr};
+ghost use Rattle.escape_lanes.specs.Mode.{html};
+ghost use Rattle.escape_simd.specs.Output.{plain, bound};
+ghost use Rattle.escape_simd.specs.Html.{IsOnlyHtml, AmpersandsBeginEntities};
+ghost use Rattle.escape_simd.specs.Spelling.{IsTextOf};
+ghost use Rattle.escape_simd.specs.Laws.{appended, JoinsTexts, IsOfOneText, HasOutputLength};
+
+pub(crate) mod each;
+mod error;
+
+use crate::output::{append, scratch_bound, text};
+pub use each::escape_html_each;
+pub use error::{EscapeHtmlError, InputTooLarge};
+use std::alloc::Global;
+
+/// How many bytes a target must have for a text of `len` bytes: `6 * len + 32`.
+///
+/// The error says that this passes `usize::MAX`.
+///
+/// ```text
+/// html_capacity(10) == Ok(92)
+/// ```
+pub fn html_capacity(len: usize) -> Result<usize, InputTooLarge>
+    ensures exact { IfOk result (λ capacity. capacity ≡ bound html len) }
+    ensures too_large { IsErr result ↔ (usize.MAX < bound html len) }
+{
+    scratch_bound::<true>(len).ok_or(InputTooLarge)
+}
+
+/// The text as HTML without markup: none of `"`, `'`, `/`, `<` and `>` stands in it, and each `&`
+/// begins an entity. It is the only such that reads as the text.
+///
+/// An entity that already stands in the text is escaped again. The output has from `n` to `6 * n`
+/// bytes for a text of `n` bytes, and one request for `6 * n + 32` bytes is made.
+///
+/// # Errors
+///
+/// - [`EscapeHtmlError::TooLarge`]: `6 * n + 32` passes `usize::MAX`.
+/// - [`EscapeHtmlError::OutOfMemory`]: the request was refused.
+///
+/// ```text
+/// escape_html(alloc, "<a href='/x'>")? == "&lt;a href=&#x27;&#x2f;x&#x27;&gt;"
+/// ```
+pub fn escape_html(alloc: Global, value: &str) -> Result<String, EscapeHtmlError>
+    ensures characters { OnOk result (IsTextOf value.now (chars value.now)) }
+    ensures exact { IfOk result (λ output. string_bytes output ≡ plain html value.now) }
+    ensures headline { IfOk result (λ output. IsOnlyHtml (string_bytes output) (chars value.now)) }
+    ensures ampersands { IfOk result (λ output. AmpersandsBeginEntities (string_bytes output)) }
+    ensures joined { IfOk result (λ output. JoinsTexts html value.now (string_bytes output)) }
+    ensures equal_texts { IfOk result (λ output. IsOfOneText html value.now (string_bytes output)) }
+    ensures len { IfOk result (λ output. HasOutputLength html
+        (length value.now) (string_bytes output)) }
+    ensures too_large { (result ≡ Err (EscapeHtmlError.TooLarge (record {})))
+        ↔ (usize.MAX < bound html (length value.now)) }
+{
+    Ok(text::<true, Global>(alloc, value)?)
+}
+
+/// Appends the text as [`escape_html`] writes it to `dst`, whatever bytes `dst` holds.
+///
+/// It asks for room for `6 * n + 32` bytes past those of `dst` where `dst` has less, and for no
+/// memory where it has that.
+///
+/// # Errors
+///
+/// Those of [`escape_html`]. `dst` then holds its old bytes.
+///
+/// ```text
+/// let mut dst = vec![in alloc; 0xff]?;
+/// escape_html_into("<", &mut dst)?;
+/// dst.as_slice() == b"\xff&lt;"
+/// ```
+pub fn escape_html_into(value: &str, dst: &mut Vec<u8>) -> Result<(), EscapeHtmlError>
+    ensures exact { OnOk result (dst.new.items ≡ dst.old.items ++ plain html value.now) }
+    ensures headline { OnOk result (IsOnlyHtml
+        (appended dst.old.items dst.new.items) (chars value.now)) }
+    ensures equal_texts { OnOk result (IsOfOneText html value.now
+        (appended dst.old.items dst.new.items)) }
+    ensures unchanged { OnErr result (dst.new.items ≡ dst.old.items) }
+    ensures too_large { (result ≡ Err (EscapeHtmlError.TooLarge (record {})))
+        ↔ (usize.MAX < bound html (length value.now)) }
+    ensures has_room { vec_len dst.old + bound html (length value.now)
+        ≤ vec_capacity dst.old → IsOk result }
+{
+    Ok(append::<true, Global>(value, dst)?)
+}

@@ -1,0 +1,71 @@
+//! Why a text was not written as HTML.
+use crate::output::Refusal;
+use std::fmt;
+
+/// The scratch bound of a text, `6 * n + 32` for one of `n` bytes, passes `usize::MAX`.
+#[derive(Debug, Clone, Copy, PartialEq, Eq)]
+pub struct InputTooLarge;
+
+impl fmt::Display for InputTooLarge {
+    ghost use Rattle.std.specs.Prelude.{Some};
+    ghost use Rattle.escape_simd.specs.Messages.{input_too_large_text};
+
+    ghost output = { λ _. Some input_too_large_text };
+
+    fn fmt<W: fmt::Write>(&self, f: &mut fmt::Formatter<W>) -> fmt::Result {
+        f.write_str("input is too large to HTML-escape")
+    }
+}
+
+impl std::error::Error for InputTooLarge {}
+
+/// Why a text was not written as HTML.
+#[derive(Debug, Clone, Copy, PartialEq, Eq)]
+pub enum EscapeHtmlError {
+    /// The scratch bound of the text passes `usize::MAX`.
+    TooLarge(InputTooLarge),
+    /// The reservation of the scratch bound was refused.
+    OutOfMemory,
+}
+
+impl From<InputTooLarge> for EscapeHtmlError {
+    ghost use Rattle.escape_simd.specs.declared.html.error.EscapeHtmlError.TheVariants.{TooLarge};
+    ghost use Rattle.std.specs.Prelude.{◌≡◌};
+
+    ghost from_gives = { λ too_large error. error ≡ TooLarge too_large };
+
+    fn from(too_large: InputTooLarge) -> EscapeHtmlError {
+        EscapeHtmlError::TooLarge(too_large)
+    }
+}
+
+impl From<Refusal> for EscapeHtmlError {
+    ghost use Rattle.escape_simd.specs.declared.output.Refusal.TheVariants.{TooLarge as too_large};
+    ghost use Rattle.escape_simd.specs.declared.html.error.EscapeHtmlError.TheVariants.{TooLarge};
+    ghost use Rattle.std.specs.Prelude.{◌≡◌, ◌↔◌};
+
+    ghost from_gives = { λ refusal error. (error ≡ TooLarge (record {})) ↔ (refusal ≡ too_large) };
+
+    fn from(refusal: Refusal) -> EscapeHtmlError {
+        match refusal {
+            Refusal::TooLarge => EscapeHtmlError::TooLarge(InputTooLarge),
+            Refusal::OutOfMemory => EscapeHtmlError::OutOfMemory,
+        }
+    }
+}
+
+impl fmt::Display for EscapeHtmlError {
+    ghost use Rattle.std.specs.Prelude.{Some};
+    ghost use Rattle.escape_simd.specs.Messages.{escape_html_error_text};
+
+    ghost output = { λ error. Some (escape_html_error_text error) };
+
+    fn fmt<W: fmt::Write>(&self, f: &mut fmt::Formatter<W>) -> fmt::Result {
+        match self {
+            EscapeHtmlError::TooLarge(reason) => reason.fmt(f),
+            EscapeHtmlError::OutOfMemory => f.write_str("out of memory"),
+        }
+    }
+}
+
+impl std::error::Error for EscapeHtmlError {}

@@ -1,0 +1,85 @@
+//! JSON string literals, as RFC 8259 has them in section 7.
+ghost use Rattle.std.specs.Prelude.{◌≡◌, ◌+◌, ◌<◌, ◌≤◌, ◌↔◌, ◌++◌, length, chars, string_bytes, vec_len, vec_capacity, Err, IsOk, IsOkUnless, IfOk, OnOk, OnErr};
+ghost use Rattle.escape_lanes.specs.Mode.{json};
+ghost use Rattle.escape_simd.specs.Output.{plain, bound};
+ghost use Rattle.escape_simd.specs.Json.{IsOnlyJson};
+ghost use Rattle.escape_simd.specs.Spelling.{IsTextOf};
+ghost use Rattle.escape_simd.specs.Laws.{appended, JoinsTexts, IsOfOneText, HasOutputLength};
+
+mod error;
+
+use crate::output::{append, scratch_bound, text};
+pub use error::EscapeError;
+use std::alloc::Global;
+
+/// How many bytes a target must have for the literal of a text of `len` bytes: `6 * len + 35`.
+///
+/// The error is [`EscapeError::TooLarge`], where that passes `usize::MAX`.
+///
+/// ```text
+/// json_capacity(10) == Ok(95)
+/// ```
+pub fn json_capacity(len: usize) -> Result<usize, EscapeError>
+    ensures exact { IfOk result (λ capacity. capacity ≡ bound json len) }
+    ensures too_large { (result ≡ Err EscapeError.TooLarge) ↔ (usize.MAX < bound json len) }
+    ensures refusal { IsOkUnless result EscapeError.TooLarge }
+{
+    scratch_bound::<false>(len).ok_or(EscapeError::TooLarge)
+}
+
+/// The JSON string literal of a text, quotation marks included: the shortest with lower-case hex
+/// digits that denotes it (RFC 8259, section 7), and the only one.
+///
+/// Only `"`, `\` and the characters below U+0020 are escaped. The literal has from `n + 2` to
+/// `6 * n + 2` bytes for a text of `n` bytes, and one request for `6 * n + 35` bytes is made.
+///
+/// # Errors
+///
+/// - [`EscapeError::TooLarge`]: `6 * n + 35` passes `usize::MAX`.
+/// - [`EscapeError::OutOfMemory`]: the request was refused.
+///
+/// ```text
+/// escape(alloc, "a\"\n")? == "\"a\\\"\\n\""
+/// ```
+pub fn escape(alloc: Global, value: &str) -> Result<String, EscapeError>
+    ensures characters { OnOk result (IsTextOf value.now (chars value.now)) }
+    ensures exact { IfOk result (λ output. string_bytes output ≡ plain json value.now) }
+    ensures headline { IfOk result (λ output. IsOnlyJson (string_bytes output) (chars value.now)) }
+    ensures joined { IfOk result (λ output. JoinsTexts json value.now (string_bytes output)) }
+    ensures equal_texts { IfOk result (λ output. IsOfOneText json value.now (string_bytes output)) }
+    ensures len { IfOk result (λ output. HasOutputLength json
+        (length value.now) (string_bytes output)) }
+    ensures too_large { (result ≡ Err EscapeError.TooLarge)
+        ↔ (usize.MAX < bound json (length value.now)) }
+{
+    Ok(text::<false, Global>(alloc, value)?)
+}
+
+/// Appends the literal that [`escape`] answers to `dst`, whatever bytes `dst` holds.
+///
+/// It asks for room for `6 * n + 35` bytes past those of `dst` where `dst` has less, and for no
+/// memory where it has that.
+///
+/// # Errors
+///
+/// Those of [`escape`]. `dst` then holds its old bytes.
+///
+/// ```text
+/// let mut dst = vec![in alloc; 0xff]?;
+/// escape_into("\t", &mut dst)?;
+/// dst.as_slice() == b"\xff\"\\t\""
+/// ```
+pub fn escape_into(value: &str, dst: &mut Vec<u8>) -> Result<(), EscapeError>
+    ensures exact { OnOk result (dst.new.items ≡ dst.old.items ++ plain json value.now) }
+    ensures headline { OnOk result (IsOnlyJson
+        (appended dst.old.items dst.new.items) (chars value.now)) }
+    ensures equal_texts { OnOk result (IsOfOneText json value.now
+        (appended dst.old.items dst.new.items)) }
+    ensures unchanged { OnErr result (dst.new.items ≡ dst.old.items) }
+    ensures too_large { (result ≡ Err EscapeError.TooLarge)
+        ↔ (usize.MAX < bound json (length value.now)) }
+    ensures has_room { vec_len dst.old + bound json (length value.now)
+        ≤ vec_capacity dst.old → IsOk result }
+{
+    Ok(append::<false, Global>(value, dst)?)
+}

@@ -1,0 +1,43 @@
+//! Why a text was not written as a JSON string literal.
+use crate::output::Refusal;
+use std::fmt;
+
+/// Why a text was not written as a JSON string literal.
+#[derive(Debug, Clone, Copy, PartialEq, Eq)]
+pub enum EscapeError {
+    /// The scratch bound, `6 * n + 35` for a text of `n` bytes, passes `usize::MAX`.
+    TooLarge,
+    /// The reservation of the scratch bound was refused.
+    OutOfMemory,
+}
+
+impl From<Refusal> for EscapeError {
+    ghost use Rattle.escape_simd.specs.declared.output.Refusal.TheVariants.{TooLarge as too_large};
+    ghost use Rattle.escape_simd.specs.declared.json.error.EscapeError.TheVariants.{TooLarge};
+    ghost use Rattle.std.specs.Prelude.{◌≡◌, ◌↔◌};
+
+    ghost from_gives = { λ refusal error. (error ≡ TooLarge) ↔ (refusal ≡ too_large) };
+
+    fn from(refusal: Refusal) -> EscapeError {
+        match refusal {
+            Refusal::TooLarge => EscapeError::TooLarge,
+            Refusal::OutOfMemory => EscapeError::OutOfMemory,
+        }
+    }
+}
+
+impl fmt::Display for EscapeError {
+    ghost use Rattle.std.specs.Prelude.{Some};
+    ghost use Rattle.escape_simd.specs.Messages.{escape_error_text};
+
+    ghost output = { λ error. Some (escape_error_text error) };
+
+    fn fmt<W: fmt::Write>(&self, f: &mut fmt::Formatter<W>) -> fmt::Result {
+        f.write_str(match self {
+            EscapeError::TooLarge => "input is too large to JSON-escape",
+            EscapeError::OutOfMemory => "out of memory",
+        })
+    }
+}
+
+impl std::error::Error for EscapeError {}

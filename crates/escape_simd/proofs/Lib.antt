@@ -1,3 +1,8 @@
+pub mod Texts
+pub mod Stretches
+pub mod Lanes
+pub mod Costs
+pub mod Whole
 pub mod SpellingLemmas
 pub mod ReplacementLemmas
 pub mod HtmlLemmas

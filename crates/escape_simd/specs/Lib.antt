@@ -1,8 +1,13 @@
 pub use Rattle.escape_lanes.specs.Mode
 pub use Rattle.escape_lanes.specs.Replacement
+pub use Rattle.escape_lanes.specs.Entry
 pub use Rattle.escape_lanes.specs.Written
+pub mod Modes
 pub mod Output
 pub mod Runs
+pub mod Stretch
+pub mod Formatted
+pub mod Kernels
 pub mod Spelling
 pub mod Html
 pub mod Json

@@ -17,6 +17,16 @@ abbrev pub plain : Mode → List ℕ → List ℕ
 plain json bytes = quoted (inner json bytes)
 plain html bytes = inner html bytes
 
+-- what stands before what is written for the bytes, and after it
+abbrev pub quote_of : Mode → List ℕ
+quote_of json = 0x22 ∷ []
+quote_of html = []
+
+-- how many quotation marks these are together
+abbrev pub quote_count : Mode → ℕ
+quote_count json = 2
+quote_count html = 0
+
 -- how many bytes a target must have for a text of n bytes
 abbrev pub bound : Mode → ℕ → ℕ
 bound json n = 6 * n + 35

@@ -6,7 +6,7 @@ ghost use Rattle.escape_simd.specs.Spelling.{IsTextOf};
 ghost use Rattle.escape_simd.specs.Headline.{IsOnlyOutput};
 ghost use Rattle.escape_simd.specs.Laws.{JoinsTexts, IsOfOneText, HasOutputLength};
 
-use crate::plain::format_string;
+use crate::simd::avx2::format_string;
 use std::alloc::{AllocError, Allocator};
 
 /// Why a text was not escaped.

@@ -8,5 +8,5 @@ returns-clause-written g c =
     let part = c.format_string.new.dst in
     let count = c.format_string.result in
     let inside : count ≤ length part =
-    omega (arith, length-take count part, ap length c.format_string.ensures.bytes, c.format_string.ensures.count) in
-    take_into-put_mid c.args.begin _ count old part (omega arith) inside ∙ ap (λ bytes. take c.args.begin old ++ bytes) c.format_string.ensures.bytes
+    omega (arith, length-take count part, ap length c.format_string.ensures.written.exact, c.format_string.ensures.written.ends) in
+    take_into-put_mid c.args.begin _ count old part (omega arith) inside ∙ ap (λ bytes. take c.args.begin old ++ bytes) c.format_string.ensures.written.exact

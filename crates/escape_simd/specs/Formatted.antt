@@ -1,0 +1,30 @@
+-- What a kernel leaves behind.
+use Rattle.std.specs.Prelude.{◌≡◌, ℕ, ◌+◌, ◌*◌, ◌/◌, ◌≤◌, List, length, take, drop}
+use Rattle.escape_lanes.specs.Mode.{Mode}
+use Rattle.escape_lanes.specs.Written.{bytes_of, stored_of, escaped_of, quotes_of, IsSameSlice}
+use Rattle.escape_lanes.specs.declared.simd.target.Target.{Target}
+use Rattle.escape_simd.specs.Output.{plain, quote_count, bound}
+use Rattle.escape_simd.specs.Runs.{escaped_count, run_count}
+
+-- The plain escaping of the text stands at the front of the bytes.
+pub record IsWritten (lanes : ℕ) (mode : Mode) (text old new : List ℕ) (count : ℕ) : Type 0 where
+  pub exact : take count new ≡ plain mode text
+  pub ends : count ≡ length (plain mode text)
+  -- each byte of the text takes one to six bytes, besides the quotes
+  pub least : length text + quote_count mode ≤ count
+  pub most : count ≤ 6 * length text + quote_count mode
+  -- bytes left alone
+  pub kept_bound : drop (bound mode (length text)) new ≡ drop (bound mode (length text)) old
+  pub kept_past : drop (count + lanes) new ≡ drop (count + lanes) old
+
+-- The same in a target, at a cost of one vector stored, and `a_run` classified, for each run of escapes, and one for each
+-- vector that the text fills or begins.
+pub record IsFormatted {N : ℕ} (a_run : ℕ) (mode : Mode) (text : List ℕ) (old new : Target N) (count ticks_old ticks_new : ℕ) : Type 0 where
+  pub same_slice : IsSameSlice old new
+  pub written : IsWritten N mode text (bytes_of old) (bytes_of new) count
+  pub escaped : escaped_of new ≡ escaped_of old + escaped_count mode text
+  pub quotes : quotes_of new ≡ quotes_of old + quote_count mode
+  pub stored : stored_of new ≤ stored_of old + (run_count mode text + length text / N + 1)
+  -- each vector stored was classified
+  pub each_stored : ticks_old + stored_of new ≤ ticks_new + stored_of old
+  pub classified : ticks_new ≤ ticks_old + (a_run * run_count mode text + length text / N + 1)

@@ -1,0 +1,68 @@
+//! The output for a text in a slice, by the kernel that is told.
+ghost use Rattle.std.specs.Prelude.{◌≤◌, length, take, chars};
+ghost use Rattle.escape_lanes.specs.Mode.{json, html};
+ghost use Rattle.escape_simd.specs.Formatted.{IsWritten};
+ghost use Rattle.escape_simd.specs.Html.{IsOnlyHtml};
+ghost use Rattle.escape_simd.specs.Json.{IsOnlyJson};
+ghost use Rattle.escape_simd.specs.Kernels.{lanes_of};
+ghost use Rattle.escape_simd.specs.Laws.{AgreesWithEach, IsOfOneText};
+ghost use Rattle.escape_simd.specs.Output.{bound};
+
+use crate::kernel::Kernel;
+use crate::simd::{avx2, avx512, neon, sse2, v128};
+
+/// Writes the text as a JSON string literal (RFC 8259, section 7), its quotation marks included, to the
+/// front of `dst` by the kernel, and answers how many bytes it became.
+///
+/// `dst` must have at least `6 * n + 35` bytes for a text of `n` bytes:
+/// [`json_capacity`](crate::json::json_capacity). No byte from that place on changes, and none that is
+/// a vector or more past the last one written. Every kernel writes the same bytes.
+///
+/// ```text
+/// let mut dst = [0; 41];
+/// format_json_string(Kernel::Avx2, "x", &mut dst) == 3
+/// dst.starts_with(b"\"x\"")
+/// ```
+pub fn format_json_string(kernel: Kernel, value: &str, dst: &mut [u8]) -> usize
+    requires { bound json (length value.now) ≤ length dst.old }
+    ensures written { IsWritten (lanes_of kernel) json value.now dst.old dst.new result }
+    ensures headline { IsOnlyJson (take result dst.new) (chars value.now) }
+    ensures equal_texts { IsOfOneText json value.now (take result dst.new) }
+    ensures agree { AgreesWithEach json value.now result (take result dst.new) }
+{
+    match kernel {
+        Kernel::V128 => v128::format_string::<false>(value, dst),
+        Kernel::Sse2 => sse2::format_string::<false>(value, dst),
+        Kernel::Neon => neon::format_string::<false>(value, dst),
+        Kernel::Avx2 => avx2::format_string::<false>(value, dst),
+        Kernel::Avx512 => avx512::format_string::<false>(value, dst),
+    }
+}
+
+/// Writes the text as HTML with `"`, `&`, `'`, `/`, `<` and `>` as entities to the front of `dst` by the
+/// kernel, and answers how many bytes it became.
+///
+/// `dst` must have at least `6 * n + 32` bytes for a text of `n` bytes:
+/// [`html_capacity`](crate::html::html_capacity). No byte from that place on changes, and none that is
+/// a vector or more past the last one written. Every kernel writes the same bytes.
+///
+/// ```text
+/// let mut dst = [0; 38];
+/// format_html_string(Kernel::Avx2, "<", &mut dst) == 4
+/// dst.starts_with(b"&lt;")
+/// ```
+pub fn format_html_string(kernel: Kernel, value: &str, dst: &mut [u8]) -> usize
+    requires { bound html (length value.now) ≤ length dst.old }
+    ensures written { IsWritten (lanes_of kernel) html value.now dst.old dst.new result }
+    ensures headline { IsOnlyHtml (take result dst.new) (chars value.now) }
+    ensures equal_texts { IsOfOneText html value.now (take result dst.new) }
+    ensures agree { AgreesWithEach html value.now result (take result dst.new) }
+{
+    match kernel {
+        Kernel::V128 => v128::format_string::<true>(value, dst),
+        Kernel::Sse2 => sse2::format_string::<true>(value, dst),
+        Kernel::Neon => neon::format_string::<true>(value, dst),
+        Kernel::Avx2 => avx2::format_string::<true>(value, dst),
+        Kernel::Avx512 => avx512::format_string::<true>(value, dst),
+    }
+}

@@ -1,0 +1,4 @@
+pub use Rattle.escape_simd.specs.Output
+pub mod Fault
+pub mod Words
+pub mod Run

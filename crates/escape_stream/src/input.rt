@@ -1,0 +1,76 @@
+//! Reading an input to its end.
+ghost use Rattle.std.specs.Prelude.{◌⊎◌, ◌≡◌, ◌≤◌, ◌<◌, ◌+◌, take, drop, length, vec_len, IfOk, IfErr, OnOk};
+ghost use Rattle.std.specs.Io.KnownBytes.{Consumes, IsAtEnd};
+ghost use Rattle.escape_stream.specs.Run.{IsReadWhole};
+
+use crate::fault::ToolFault;
+use std::alloc::Allocator;
+use std::io::Read;
+
+/// The least room, in bytes, that a vector with none left grows by.
+const LEAST_GROWTH: usize = 64 * 1024;
+
+/// All that the input has left. It is read until a read gives nothing.
+///
+/// # Errors
+///
+/// `ReadFailed` where a read answers an error, of any kind, and `OutOfMemory` where room for
+/// more is refused, whichever comes first.
+pub(crate) fn read_whole<R: Read, A: Allocator>(
+    alloc: A,
+    input: &mut R,
+) -> Result<Vec<u8, A>, ToolFault>
+    ensures whole { IfOk result
+        (λ bytes. IsReadWhole (R.remaining input.old) (R.remaining input.new) bytes.items) }
+    ensures faults { IfErr result
+        (λ fault. (fault ≡ ToolFault.ReadFailed) ⊎ (fault ≡ ToolFault.OutOfMemory)) }
+{
+    let mut bytes = Vec::new(alloc);
+    let mut filled = 0;
+    loop {
+        make_room(&mut bytes, filled)?;
+        let count = read_after(input, bytes.as_mut_slice(), filled)?;
+        if count == 0 {
+            bytes.truncate(filled);
+            return Ok(bytes);
+        }
+        filled += count;
+    }
+}
+
+/// Makes the vector longer than `filled` bytes, where it isn't, by zeros. Its capacity then doubles
+/// at least.
+fn make_room<A: Allocator>(bytes: &mut Vec<u8, A>, filled: usize) -> Result<(), ToolFault>
+    requires { filled ≤ vec_len bytes.old }
+    ensures front { OnOk result (take filled bytes.new.items ≡ take filled bytes.old.items) }
+    ensures room { OnOk result (filled < vec_len bytes.new) }
+    ensures fault { IfErr result (λ fault. fault ≡ ToolFault.OutOfMemory) }
+{
+    if filled < bytes.len() {
+        return Ok(());
+    }
+    if bytes.reserve(LEAST_GROWTH).is_err() {
+        return Err(ToolFault::OutOfMemory);
+    }
+    let capacity = bytes.capacity();
+    if bytes.resize(capacity, 0).is_err() {
+        return Err(ToolFault::OutOfMemory);
+    }
+    Ok(())
+}
+
+/// One read, into what stands past the first `filled` bytes. Answers how many bytes it gave.
+fn read_after<R: Read>(input: &mut R, bytes: &mut [u8], filled: usize) -> Result<usize, ToolFault>
+    requires { filled < length bytes.old }
+    ensures front { take filled bytes.new ≡ take filled bytes.old }
+    ensures fits { IfOk result (λ count. filled + count ≤ length bytes.new) }
+    ensures read { IfOk result (λ count. Consumes (R.remaining input.old) (R.remaining input.new)
+        (take count (drop filled bytes.new))) }
+    ensures end { IfOk result (λ count. count ≡ 0 → IsAtEnd (R.remaining input.new)) }
+    ensures fault { IfErr result (λ fault. fault ≡ ToolFault.ReadFailed) }
+{
+    match input.read(&mut bytes[filled..]) {
+        Ok(count) => Ok(count),
+        Err(_) => Err(ToolFault::ReadFailed),
+    }
+}

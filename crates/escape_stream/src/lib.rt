@@ -1,0 +1,26 @@
+//! Escapes what a reader gives, as a JSON string literal or as HTML, to a writer.
+//!
+//! [`run`] reads its input to the end, escapes it by the kernel that it is told, and writes the
+//! output. [`choose`] reads the words of a program on this crate. From memory to memory:
+//!
+//! ```
+//! let mut input = b"<a".as_slice();
+//! let mut output = Vec::new(alloc);
+//! run(alloc, Mode::Html, Kernel::Avx2, &mut input, &mut output)?;
+//! // The output holds `&lt;a`.
+//! ```
+#![tactic(auto)]
+
+mod escaped;
+mod fault;
+mod input;
+mod output;
+mod stream;
+mod words;
+
+pub use fault::ToolFault;
+pub use stream::run;
+pub use words::{Mode, USAGE, choose};
+
+#[cfg(test)]
+mod tests;

@@ -1,0 +1,33 @@
+//! Writing an output whole.
+ghost use Rattle.std.specs.Prelude.{◌≡◌, OnOk, IfErr, OnErr};
+ghost use Rattle.std.specs.Io.KnownBytes.{Appends};
+ghost use Rattle.escape_stream.specs.Run.{AppendsBeginning};
+
+use crate::fault::ToolFault;
+use std::io::Write;
+
+/// Writes all the bytes, and flushes once.
+///
+/// # Errors
+///
+/// `WriteFailed` where a write takes nothing, or a write or the flush answers an error, of any
+/// kind.
+pub(crate) fn write_whole<W: Write>(output: &mut W, bytes: &[u8]) -> Result<(), ToolFault>
+    ensures whole { OnOk result
+        (Appends (W.contents output.old) (W.contents output.new) bytes.now) }
+    ensures beginning { OnErr result
+        (AppendsBeginning (W.contents output.old) (W.contents output.new) bytes.now) }
+    ensures fault { IfErr result (λ fault. fault ≡ ToolFault.WriteFailed) }
+{
+    let mut written = 0;
+    while written < bytes.len() {
+        match output.write(&bytes[written..]) {
+            Ok(count) if count > 0 => written += count,
+            _ => return Err(ToolFault::WriteFailed),
+        }
+    }
+    match output.flush() {
+        Ok(()) => Ok(()),
+        Err(_) => Err(ToolFault::WriteFailed),
+    }
+}

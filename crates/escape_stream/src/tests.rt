@@ -1,0 +1,316 @@
+//! What no clause says: that a run succeeds, which fault a reader's, a writer's or the memory's
+//! failure gives, and that a run flushes.
+ghost use Rattle.std.specs.Prelude.{◌≡◌, IfOk};
+ghost use Rattle.std.specs.Borrow.{ffalse};
+ghost use Rattle.escape_lanes.specs.Mode.{html};
+ghost use Rattle.escape_simd.specs.Output.{plain};
+
+use crate::escaped::escaped;
+use crate::input::read_whole;
+use crate::{Mode, ToolFault, USAGE, choose, run};
+use escape_simd::Kernel;
+use std::alloc::{AllocError, Allocator, Global};
+use std::io;
+use std::io::{ErrorKind, Read, Write};
+use std::test::Fail;
+
+const KERNELS: [Kernel; 5] = [
+    Kernel::V128,
+    Kernel::Sse2,
+    Kernel::Neon,
+    Kernel::Avx2,
+    Kernel::Avx512,
+];
+
+const MODES: [Mode; 2] = [Mode::Json, Mode::Html];
+
+/// Refuses every request for memory.
+#[derive(Clone, Copy)]
+struct NoMemory;
+
+unsafe impl Allocator for NoMemory {
+    ghost dealloc_token = { λ _ _ _. ffalse };
+
+    fn allocate(&self, _size: usize, _align: usize) -> Result<*mut u8, AllocError> {
+        Err(AllocError)
+    }
+
+    unsafe fn deallocate(&self, _ptr: *mut u8, _size: usize, _align: usize) {}
+}
+
+/// Gives its bytes one a call, then one error where it has one, and then the end.
+#[derive(Drop)]
+struct OneByOne<'a> {
+    bytes: &'a [u8],
+    error: Option<ErrorKind>,
+}
+
+impl Read for OneByOne<'_> {
+    fn read(&mut self, buf: &mut [u8]) -> io::Result<usize> {
+        if buf.is_empty() {
+            return Ok(0);
+        }
+        if let Some((first, rest)) = self.bytes.split_first() {
+            buf[0] = *first;
+            self.bytes = rest;
+            return Ok(1);
+        }
+        match self.error.take() {
+            Some(kind) => Err(kind.into()),
+            None => Ok(0),
+        }
+    }
+}
+
+/// Takes at most `step` bytes a call while it has room, and then none, or fails.
+#[derive(Drop)]
+struct Narrow {
+    held: Vec<u8>,
+    step: usize,
+    room: usize,
+    fails_when_full: bool,
+    fails_at_flush: bool,
+}
+
+impl Write for Narrow {
+    fn write(&mut self, buf: &[u8]) -> io::Result<usize> {
+        let count = buf.len().min(self.step).min(self.room);
+        if count == 0 && self.fails_when_full {
+            return Err(ErrorKind::Other.into());
+        }
+        self.held.extend_from_slice(&buf[..count])?;
+        self.room -= count;
+        Ok(count)
+    }
+
+    fn flush(&mut self) -> io::Result<()> {
+        if self.fails_at_flush {
+            return Err(ErrorKind::Other.into());
+        }
+        Ok(())
+    }
+}
+
+#[test]
+fn chooses_by_the_words(rt: HostRuntime) {
+    assert_eq!(rt; choose("html", None), Some((Mode::Html, Kernel::Avx2)));
+    assert_eq!(rt;
+        choose("html", Some("neon")),
+        Some((Mode::Html, Kernel::Neon))
+    );
+    assert_eq!(rt; choose("json", None), Some((Mode::Json, Kernel::Avx2)));
+    assert_eq!(rt;
+        choose("json", Some("avx512")),
+        Some((Mode::Json, Kernel::Avx512))
+    );
+    assert_eq!(rt;
+        choose("json", Some("v128")),
+        Some((Mode::Json, Kernel::V128))
+    );
+    assert_eq!(rt;
+        choose("json", Some("sse2")),
+        Some((Mode::Json, Kernel::Sse2))
+    );
+    assert_eq!(rt;
+        choose("html", Some("avx2")),
+        Some((Mode::Html, Kernel::Avx2))
+    );
+    assert_eq!(rt; choose("html", Some("AVX2")), None);
+    assert_eq!(rt; choose("json", Some("avx")), None);
+    assert_eq!(rt; choose("json", Some("")), None);
+    assert_eq!(rt; choose("xml", None), None);
+    assert_eq!(rt; choose("", None), None);
+}
+
+#[test]
+fn says_usage_and_faults(rt: HostRuntime) -> Result<(), Fail> {
+    assert_eq!(rt;
+        USAGE,
+        "usage: escape_tool json|html [v128|sse2|neon|avx2|avx512]"
+    );
+    for (fault, text) in [
+        (ToolFault::ReadFailed, "reading failed"),
+        (ToolFault::NotUtf8, "input is not UTF-8"),
+        (ToolFault::TooLarge, "input is too large"),
+        (ToolFault::OutOfMemory, "out of memory"),
+        (ToolFault::WriteFailed, "writing failed"),
+    ] {
+        let printed = fault.to_string(rt.alloc())?;
+        assert_eq!(rt; printed.as_str(), text);
+    }
+    Ok(())
+}
+
+#[test]
+fn escapes_the_whole_input(rt: HostRuntime) -> Result<(), Fail> {
+    let rows: [(Mode, &[u8], &[u8]); 8] = [
+        (Mode::Html, b"", b""),
+        (Mode::Json, b"", b"\"\""),
+        (
+            Mode::Html,
+            b"<a href='/x'>",
+            b"&lt;a href=&#x27;&#x2f;x&#x27;&gt;",
+        ),
+        (Mode::Html, b"&lt;", b"&amp;lt;"),
+        (Mode::Html, b"\xef\xbb\xbf\"a\n", b"\xef\xbb\xbf&quot;a\n"),
+        (Mode::Json, b"\n\x01\x7f", b"\"\\n\\u0001\x7f\""),
+        (Mode::Json, b"\x0b\\", b"\"\\u000b\\\\\""),
+        (Mode::Json, b"\xf0\x9d\x84\x9e/", b"\"\xf0\x9d\x84\x9e/\""),
+    ];
+    for kernel in KERNELS {
+        for (mode, bytes, want) in rows {
+            let mut input = bytes;
+            let mut output = vec![in rt.alloc(); 0xff]?;
+            let result = run(rt.alloc(), mode, kernel, &mut input, &mut output);
+            assert_eq!(rt; result, Ok(()), "{kernel:?} {bytes:?}");
+            assert_eq!(rt; &output[..1], [0xff].as_slice());
+            assert_eq!(rt; &output[1..], want, "{kernel:?} {bytes:?}");
+        }
+    }
+    Ok(())
+}
+
+#[test]
+fn refuses_what_is_not_utf8(rt: HostRuntime) -> Result<(), Fail> {
+    let rows: [&[u8]; 7] = [
+        b"\xc3",
+        b"\xed\xa0\x80",
+        b"\xf4\x90\x80\x80",
+        b"\xc0\xaf",
+        b"\xf0\x9d\x84",
+        b"a\xff",
+        b"a\xe2\x80",
+    ];
+    for mode in MODES {
+        for bytes in rows {
+            let mut input = bytes;
+            let mut output = vec![in rt.alloc(); 0xff]?;
+            let result = run(rt.alloc(), mode, Kernel::Avx2, &mut input, &mut output);
+            assert_eq!(rt; result, Err(ToolFault::NotUtf8), "{bytes:?}");
+            assert_eq!(rt; output.as_slice(), [0xff].as_slice(), "{bytes:?}");
+        }
+    }
+    Ok(())
+}
+
+#[test]
+fn reads_one_byte_a_call(rt: HostRuntime) -> Result<(), Fail> {
+    let mut input = OneByOne {
+        bytes: b"\xe2\x80\xa6",
+        error: None,
+    };
+    let mut output = Vec::new(rt.alloc());
+    let result = run(
+        rt.alloc(),
+        Mode::Html,
+        Kernel::Avx2,
+        &mut input,
+        &mut output,
+    );
+    assert_eq!(rt; result, Ok(()));
+    assert_eq!(rt; output.as_slice(), b"\xe2\x80\xa6".as_slice());
+    Ok(())
+}
+
+#[test]
+fn stops_at_a_failed_read(rt: HostRuntime) -> Result<(), Fail> {
+    for kind in [
+        ErrorKind::Other,
+        ErrorKind::Interrupted,
+        ErrorKind::WouldBlock,
+    ] {
+        for bytes in [b"<a".as_slice(), b"\xff".as_slice(), b"".as_slice()] {
+            let mut input = OneByOne {
+                bytes,
+                error: Some(kind),
+            };
+            let mut output = vec![in rt.alloc(); 0xff]?;
+            let result = run(
+                rt.alloc(),
+                Mode::Html,
+                Kernel::Avx2,
+                &mut input,
+                &mut output,
+            );
+            assert_eq!(rt; result, Err(ToolFault::ReadFailed), "{kind:?} {bytes:?}");
+            assert_eq!(rt; output.as_slice(), [0xff].as_slice(), "{kind:?} {bytes:?}");
+        }
+    }
+    Ok(())
+}
+
+/// What a run on `<` answers, and what the writer then holds.
+fn escapes_less_than(
+    rt: &HostRuntime,
+    step: usize,
+    room: usize,
+    fails_when_full: bool,
+    fails_at_flush: bool,
+) -> Result<(Result<(), ToolFault>, Vec<u8>), Fail> {
+    let mut output = Narrow {
+        held: Vec::new(rt.alloc()),
+        step,
+        room,
+        fails_when_full,
+        fails_at_flush,
+    };
+    let mut input = b"<".as_slice();
+    let result = run(
+        rt.alloc(),
+        Mode::Html,
+        Kernel::Avx2,
+        &mut input,
+        &mut output,
+    );
+    Ok((result, output.held))
+}
+
+#[test]
+fn writes_to_narrow_writers(rt: HostRuntime) -> Result<(), Fail> {
+    let (result, held) = escapes_less_than(&rt, 1, 9, true, false)?;
+    assert_eq!(rt; result, Ok(()));
+    assert_eq!(rt; held.as_slice(), b"&lt;".as_slice());
+
+    let (result, held) = escapes_less_than(&rt, 2, 2, true, false)?;
+    assert_eq!(rt; result, Err(ToolFault::WriteFailed));
+    assert_eq!(rt; held.as_slice(), b"&l".as_slice());
+
+    let (result, held) = escapes_less_than(&rt, 3, 3, false, false)?;
+    assert_eq!(rt; result, Err(ToolFault::WriteFailed));
+    assert_eq!(rt; held.as_slice(), b"&lt".as_slice());
+
+    let (result, held) = escapes_less_than(&rt, 9, 9, true, true)?;
+    assert_eq!(rt; result, Err(ToolFault::WriteFailed));
+    assert_eq!(rt; held.as_slice(), b"&lt;".as_slice());
+    Ok(())
+}
+
+/// A caller over memory has the exact bytes.
+fn html_of(alloc: Global, bytes: &[u8]) -> Result<Vec<u8>, ToolFault>
+    ensures { IfOk result (λ output. output.items ≡ plain html bytes.now) }
+{
+    let mut input = bytes;
+    let mut output = Vec::new(alloc);
+    run(alloc, Mode::Html, Kernel::Avx2, &mut input, &mut output)?;
+    Ok(output)
+}
+
+#[test]
+fn reads_a_large_input(rt: HostRuntime) -> Result<(), Fail> {
+    let letters = vec![in rt.alloc(); b'a'; 300_000]?;
+    let output = html_of(rt.alloc(), letters.as_slice())?;
+    assert!(rt; output.as_slice() == letters.as_slice());
+    Ok(())
+}
+
+// A run asks for memory in these two calls, and on so short an input once in each.
+#[test]
+fn says_that_memory_was_refused(rt: HostRuntime) {
+    let mut input = b"<".as_slice();
+    let bytes = read_whole(NoMemory, &mut input);
+    assert_eq!(rt; bytes.err(), Some(ToolFault::OutOfMemory));
+    for mode in MODES {
+        let output = escaped(NoMemory, mode, Kernel::Avx2, "<");
+        assert_eq!(rt; output.err(), Some(ToolFault::OutOfMemory));
+    }
+}

@@ -1,0 +1,58 @@
+//! The words that a program on this crate takes.
+ghost use Rattle.std.specs.Prelude.{◌≡◌, ◌↔◌, Some};
+ghost use Rattle.escape_simd.specs.declared.Kernel.{Kernel};
+ghost use Rattle.escape_stream.specs.declared.words.Mode.{Mode};
+ghost use Rattle.escape_stream.specs.Words.{NamesKernel, mode_word, kernel_word};
+
+use escape_simd::Kernel;
+
+/// What the output is.
+#[derive(Clone, Copy, Debug, PartialEq, Eq)]
+pub enum Mode {
+    /// A JSON string literal (RFC 8259, section 7), its quotation marks included.
+    Json,
+    /// HTML: each of `"`, `&`, `'`, `/`, `<` and `>` as its entity.
+    Html,
+}
+
+/// What a program on this crate says where [`choose`] answers `None`.
+pub const USAGE: &str = "usage: escape_tool json|html [v128|sse2|neon|avx2|avx512]";
+
+/// The mode and the kernel that the two words name, where each is a word of its table, in lower
+/// case and with nothing around it. With no second word the kernel is `Avx2`.
+///
+/// `choose("html", Some("neon"))` is `Some((Mode::Html, Kernel::Neon))`.
+pub fn choose(mode: &str, kernel: Option<&str>) -> Option<(Mode, Kernel)>
+    ensures { (m : Mode) (k : Kernel) → (result ≡ Some (m, k))
+        ↔ ((mode.now ≡ mode_word m) × NamesKernel kernel.entry k) }
+{
+    let mode = mode_of_word(mode)?;
+    let kernel = match kernel {
+        Some(word) => kernel_of_word(word)?,
+        None => Kernel::Avx2,
+    };
+    Some((mode, kernel))
+}
+
+fn mode_of_word(word: &str) -> Option<Mode>
+    ensures { (m : Mode) → (result ≡ Some m) ↔ (word.now ≡ mode_word m) }
+{
+    match word {
+        "json" => Some(Mode::Json),
+        "html" => Some(Mode::Html),
+        _ => None,
+    }
+}
+
+fn kernel_of_word(word: &str) -> Option<Kernel>
+    ensures { (k : Kernel) → (result ≡ Some k) ↔ (word.now ≡ kernel_word k) }
+{
+    match word {
+        "v128" => Some(Kernel::V128),
+        "sse2" => Some(Kernel::Sse2),
+        "neon" => Some(Kernel::Neon),
+        "avx2" => Some(Kernel::Avx2),
+        "avx512" => Some(Kernel::Avx512),
+        _ => None,
+    }
+}

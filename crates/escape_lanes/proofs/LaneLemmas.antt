@@ -18,6 +18,7 @@ pub record IsMask (one n : ℕ) (xs : List ℕ) (bs : List Bool) : Type 0 where
   pub whole : AreWhole one n xs
   pub lanes : set_lanes one xs ≡ bs
 
+-- the lanes that are set in the mask of truth values
 set-mask : (one : ℕ) (bs : List Bool) → 0 < one → set_lanes one (mask_lanes one bs) ≡ bs
 set-mask one [] h = refl
 set-mask one (true ∷ bs) h = let e : nat_eq one one ≡ true = grind (arith, nat_tests) in rw (e, set-mask one bs h) refl
@@ -27,6 +28,7 @@ set-mask one (false ∷ bs) h = let e : nat_eq 0 one ≡ false = grind (arith, n
 length-mask : (one : ℕ) (bs : List Bool) → length (mask_lanes one bs) ≡ length bs
 length-mask one bs = length-map bs (λ b. cond b one 0)
 
+-- lanes that are the mask of truth values
 pub made : (one n : ℕ) (xs : List ℕ) (bs : List Bool) → 0 < one → xs ≡ mask_lanes one bs → length bs ≡ n → IsMask one n xs bs
 made one n xs bs h e l =
     let lanes : set_lanes one xs ≡ bs = ap (set_lanes one) e ∙ set-mask one bs h in
@@ -38,18 +40,23 @@ made one n xs bs h e l =
       lanes = lanes;
     }
 
+-- an or with 0 on the left
 zero_or : (n : ℕ) → bit_or 0 n ≡ n
 zero_or n = omega (arith, or_disjoint 0 n (and_zero_l n))
 
+-- an or with 0 on the right
 or_zero : (n : ℕ) → bit_or n 0 ≡ n
 or_zero n = omega (arith, or_disjoint n 0 (and_zero_r n))
 
+-- an and of a number with itself
 and_self : (n : ℕ) → bit_and n n ≡ n
 and_self n = rw (zero_or n) at (and_or_self n 0)
 
+-- an or of a number with itself
 or_self : (n : ℕ) → bit_or n n ≡ n
 or_self n = omega (arith, or_add_and n n, and_self n)
 
+-- an or of two masks, as the mask of what either has
 or-mask : (one : ℕ) (ps qs : List Bool) → zip2 bit_or (mask_lanes one ps) (mask_lanes one qs) ≡ mask_lanes one (zip2 ◌||◌ ps qs)
 or-mask one [] qs = refl
 or-mask one (p ∷ ps) [] = refl
@@ -58,6 +65,7 @@ or-mask one (true ∷ ps) (false ∷ qs) = rw (or_zero one, or-mask one ps qs) r
 or-mask one (false ∷ ps) (true ∷ qs) = rw (zero_or one, or-mask one ps qs) refl
 or-mask one (false ∷ ps) (false ∷ qs) = ap (λ ys. 0 ∷ ys) (or-mask one ps qs)
 
+-- an and of two masks, as the mask of what both have
 and-mask : (one : ℕ) (ps qs : List Bool) → zip2 bit_and (mask_lanes one ps) (mask_lanes one qs) ≡ mask_lanes one (zip2 ◌&&◌ ps qs)
 and-mask one [] qs = refl
 and-mask one (p ∷ ps) [] = refl
@@ -70,16 +78,19 @@ and-mask one (false ∷ ps) (false ∷ qs) = ap (λ ys. 0 ∷ ys) (and-mask one 
 length-both : {X Y : Type 0} (f : X → X → Y) (n : ℕ) (xs ys : List X) → length xs ≡ n → length ys ≡ n → length (zip2 f xs ys) ≡ n
 length-both f n xs ys l r = length-zip2 f xs ys (l ∙ sym r) ∙ l
 
+-- a truth value for each lane of a mask
 length-set : (one n : ℕ) (xs : List ℕ) → AreWhole one n xs → length (set_lanes one xs) ≡ n
 length-set one n xs l = length-map xs (λ b. nat_eq b one) ∙ l.full
 
 -- two masks, lane by lane
 module _ (one n : ℕ) (xs ys : List ℕ) (h : 0 < one) (l : AreWhole one n xs) (r : AreWhole one n ys) where
+  -- the or of both
   pub either : IsMask one n (zip2 bit_or xs ys) (zip2 ◌||◌ (set_lanes one xs) (set_lanes one ys))
   either =
       let e = ap (λ zs. zip2 bit_or zs ys) l.whole ∙ ap (λ zs. zip2 bit_or (mask_lanes one (set_lanes one xs)) zs) r.whole ∙ or-mask one (set_lanes one xs) (set_lanes one ys) in
       made one n _ _ h e (length-both ◌||◌ n _ _ (length-set one n xs l) (length-set one n ys r))
 
+  -- the and of both
   pub both : IsMask one n (zip2 bit_and xs ys) (zip2 ◌&&◌ (set_lanes one xs) (set_lanes one ys))
   both =
       let e = ap (λ zs. zip2 bit_and zs ys) l.whole ∙ ap (λ zs. zip2 bit_and (mask_lanes one (set_lanes one xs)) zs) r.whole ∙ and-mask one (set_lanes one xs) (set_lanes one ys) in
@@ -98,10 +109,12 @@ compared t n xs ys l r =
     let k = length-both t n xs ys l r in
     made 255 n _ _ (omega arith) (ap (λ bs. sel_l bs (replicate n 255) (replicate n 0)) (tops_compared w8 t xs ys) ∙ chosen (zip2 t xs ys) n k) k
 
+-- the bits above the lowest
 mask-half : (b : Bool) (m : ℕ) → (cond b 1 0 + 2 * m) / 2 ≡ m
 mask-half true m = omega arith
 mask-half false m = omega arith
 
+-- the lowest bit
 mask-bit : (b : Bool) (m : ℕ) → nat_eq ((cond b 1 0 + 2 * m) % 2) 1 ≡ b
 mask-bit true m = let e : (1 + 2 * m) % 2 ≡ 1 = omega arith in rw e refl
 mask-bit false m = let e : (0 + 2 * m) % 2 ≡ 0 = omega arith in rw e refl
@@ -116,12 +129,15 @@ bits-mask (b ∷ bs) (suc k) h = rw (mask-bit b (mask_l bs), mask-half b (mask_l
 
 -- the number that has a bit for each lane of a mask
 module _ (n : ℕ) (xs : List ℕ) (whole : AreWhole 255 n xs) (few : n ≤ 64) where
+  -- the number, with no word of vectors
   counted : mask_l (map (top 7) (zip2 (λ a b. cond (nat_eq a b) 255 0) xs (replicate n 255))) % 2 ^ 64 ≡ mask_l (set_lanes 255 xs)
   counted = bitmask_splat w8 nat_eq xs n 255 whole.full few
 
+  -- it has no bit past the last lane
   pub bits-below : mask_l (map (top 7) (zip2 (λ a b. cond (nat_eq a b) 255 0) xs (replicate n 255))) % 2 ^ 64 < 2 ^ n
   bits-below = rw counted (rw (length-set 255 n xs whole) at (mask_l-lt (set_lanes 255 xs)))
 
+  -- its bits are the lanes
   pub bits-set : bits_of n (mask_l (map (top 7) (zip2 (λ a b. cond (nat_eq a b) 255 0) xs (replicate n 255))) % 2 ^ 64) ≡ set_lanes 255 xs
   bits-set = rw counted (bits-mask (set_lanes 255 xs) n (length-set 255 n xs whole))
 
@@ -137,6 +153,7 @@ map-bytes f g n v bytes same =
     let k : i < n = omega (arith, bytes.full) in
     get_or-map f v i 0 false lt ∙ agree_below_at f g 256 (get_or v i 0) same (bytes.small i k) ∙ sym (get_or-map g v i 0 false lt))
 
+-- an or of two bits
 bit-or : (p q : ℕ) → p < 2 → q < 2 → nat_eq (bit_or p q) 1 ≡ (nat_eq p 1 || nat_eq q 1)
 bit-or zero zero hp hq = refl
 bit-or zero (suc zero) hp hq = refl
@@ -146,6 +163,7 @@ bit-or zero (suc (suc q)) hp hq = absurd (omega arith)
 bit-or (suc zero) (suc (suc q)) hp hq = absurd (omega arith)
 bit-or (suc (suc p)) q hp hq = absurd (omega arith)
 
+-- an and of two bits
 bit-and : (p q : ℕ) → p < 2 → q < 2 → nat_eq (bit_and p q) 1 ≡ (nat_eq p 1 && nat_eq q 1)
 bit-and zero zero hp hq = refl
 bit-and zero (suc zero) hp hq = refl
@@ -155,12 +173,13 @@ bit-and zero (suc (suc q)) hp hq = absurd (omega arith)
 bit-and (suc zero) (suc (suc q)) hp hq = absurd (omega arith)
 bit-and (suc (suc p)) q hp hq = absurd (omega arith)
 
--- two masks of one bit a lane, lane by lane
+-- an or of two numbers, bit by bit
 pub bits-or : (k m n : ℕ) → bits_of k (bit_or m n) ≡ zip2 ◌||◌ (bits_of k m) (bits_of k n)
 unfolding bits_of
 bits-or zero m n = refl
 bits-or (suc k) m n = rw (or_mod m n 1, or_shr m n 1, bit-or (m % 2) (n % 2) (omega arith) (omega arith), bits-or k (m / 2) (n / 2)) refl
 
+-- the same for an and
 pub bits-and : (k m n : ℕ) → bits_of k (bit_and m n) ≡ zip2 ◌&&◌ (bits_of k m) (bits_of k n)
 unfolding bits_of
 bits-and zero m n = refl
@@ -202,6 +221,7 @@ bytes-front n xs h fits = record {
   small = λ k l. rw (get_or-take n xs k 0 l) (fits k).fits;
 }
 
+-- one more bit, above the others
 mask-snoc : (bs : List Bool) (b : Bool) → mask_l (bs ++ b ∷ []) ≡ mask_l bs + cond b 1 0 * 2 ^ length bs
 mask-snoc [] b = omega arith
 mask-snoc (c ∷ bs) true = omega (arith, mask-snoc bs true, pow-suc 2 (length bs))
@@ -209,21 +229,25 @@ mask-snoc (c ∷ bs) false = omega (arith, mask-snoc bs false)
 
 -- the number that has a bit for each of the first lanes of a mask of 0 and 1
 module _ (n : ℕ) (xs : List ℕ) (whole : AreWhole 1 n xs) (k : ℕ) (h : k < n) where
+  -- a lane is 1 where it is set
   value : cond (nat_eq (get_or xs k 0) 1) 1 0 ≡ get_or xs k 0
   value =
       let r : k < length xs = omega (arith, whole.full) in
       let e = ap (λ ys. get_or ys k 0) whole.whole in
       sym (e ∙ get_or-map (λ b. cond b 1 0) (set_lanes 1 xs) k false 0 (omega (arith, length-set 1 n xs whole)) ∙ ap (λ b. cond b 1 0) (get_or-map (λ b. nat_eq b 1) xs k 0 false r))
 
+  -- a truth value for each of the first lanes
   counted_to : (j : ℕ) → j ≤ n → length (set_lanes 1 (take j xs)) ≡ j
   counted_to j l = length-map (take j xs) (λ b. nat_eq b 1) ∙ length-take-le j xs (omega (arith, whole.full))
 
+  -- one more lane
   pub weighed : mask_l (set_lanes 1 (take (k + 1) xs)) ≡ mask_l (set_lanes 1 (take k xs)) + get_or xs k 0 * 2 ^ k
   weighed =
       ap mask_l (map_more (λ b. nat_eq b 1) xs k 0 (omega (arith, whole.full)))
       ∙ mask-snoc (set_lanes 1 (take k xs)) (nat_eq (get_or xs k 0) 1)
       ∙ rw (counted_to k (omega arith), value) refl
 
+  -- the number fits 16 bits
   pub weighed-lt : n ≤ 16 → mask_l (set_lanes 1 (take (k + 1) xs)) < 65536
   weighed-lt few =
       let small = rw (counted_to (k + 1) (omega arith)) at (mask_l-lt (set_lanes 1 (take (k + 1) xs))) in

@@ -27,10 +27,12 @@ pair true false n m = two_lanes 15 0 n m (omega arith) (omega arith)
 pair false true n m = two_lanes 0 15 n m (omega arith) (omega arith)
 pair false false n m = two_lanes 0 0 n m (omega arith) (omega arith)
 
+-- a lane of a mask is a byte
 byte : (b : Bool) → cond b 255 0 < 256
 byte true = omega arith
 byte false = omega arith
 
+-- the k pairs of lanes of a mask, narrowed to four bits a lane
 narrowed : (k : ℕ) (bs : List Bool) → length bs ≡ 2 * k → lanes_of 4 (2 * k) (number_l 256 (middles k (number_l 256 (mask_lanes 255 bs)))) ≡ bs
 unfolding lanes_of
 narrowed zero [] h = refl
@@ -45,10 +47,12 @@ narrowed (suc k) (a ∷ b ∷ bs) h =
     let e : 2 * suc k ≡ suc (suc (2 * k)) = omega arith in
     rw (e, low, high) (pair a b (number_l 256 (middles k n)) (2 * k) ∙ ap (λ cs. a ∷ b ∷ cs) (narrowed k bs (omega arith)))
 
+-- the narrowed lanes fit k bytes
 number-lt : (k n : ℕ) → number_l 256 (middles k n) < 256 ^ k
 number-lt zero n = omega arith
 number-lt (suc k) n = omega (arith, number-lt k (n / 65536), and_le_r (n % 65536 / 16) 255)
 
+-- a number of 64 bits, cut to 64 bits
 below : (n : ℕ) → n < 2 ^ 64 → n % 2 ^ 64 ≡ n
 below n h = omega arith
 

@@ -18,12 +18,15 @@ flags-need n v bytes = map-bytes (λ b. not (nat_eq (html_flags b) 0)) (needs_es
 
 -- look-ups at the places p b below 16, one for each lane b of a vector
 module _ (p : ℕ → ℕ) (small : (b : ℕ) → b < 256 → p b < 16) (n : ℕ) (v : List ℕ) (bytes : AreBytes n v) (blocks : n % 16 ≡ 0) where
+  -- each place, read from the list of places
   place : (i : ℕ) → i < n → get_or (map p v) i 0 ≡ p (get_or v i 0)
   place i h = get_or-map p v i 0 0 (omega (arith, bytes.full))
 
+  -- each place is below 16
   below : (i : ℕ) → i < n → get_or (map p v) i 0 < 16
   below i h = rw (place i h) (small (get_or v i 0) (bytes.small i h))
 
+  -- the look-ups stay within their blocks
   pub places_ok : SwzOk w8 16 n 0 (map p v)
   places_ok =
       let l : length (map p v) ≡ n = length-map v p ∙ bytes.full in
@@ -45,26 +48,33 @@ module _ (p : ℕ → ℕ) (small : (b : ℕ) → b < 256 → p b < 16) (n : ℕ
       ∙ ap (λ x. slice_index s x) (e ∙ place i lt)
       ∙ sym (get_or-map (λ b. slice_index s (p b)) v i 0 0 (omega (arith, bytes.full))))
 
+-- the low half of a byte is below 16
 low_place : (b : ℕ) → b < 256 → bit_and b 15 < 16
 low_place b h = omega (arith, and_le_r b 15)
 
+-- the high half of a byte is below 16
 high_place : (b : ℕ) → b < 256 → b / 16 < 16
 high_place b h = omega arith
 
 -- the two look-ups of the classifiers
 module _ (n : ℕ) (v : List ℕ) (bytes : AreBytes n v) (blocks : n % 16 ≡ 0) where
+  -- the places by the low half
   low : zip2 bit_and v (replicate n 15) ≡ map (λ b. bit_and b 15) v
   low = zip2_splat bit_and v n 15 bytes.full
 
+  -- the places by the high half
   high : zip2 (λ a b. a / 2 ^ b) v (replicate n 4) ≡ map (λ b. b / 16) v
   high = zip2_splat (λ a b. a / 2 ^ b) v n 4 bytes.full
 
+  -- look-ups by the low half are safe
   pub low_ok : SwzOk w8 16 n 0 (zip2 bit_and v (replicate n 15))
   low_ok = rw low (places_ok (λ b. bit_and b 15) low_place n v bytes blocks)
 
+  -- look-ups by the high half are safe
   pub high_ok : SwzOk w8 16 n 0 (zip2 (λ a b. a / 2 ^ b) v (replicate n 4))
   high_ok = rw high (places_ok (λ b. b / 16) high_place n v bytes blocks)
 
+  -- both look-ups, joined by an and
   pub flags-looked_up : (t u : List ℕ)
       → ((k : ℕ) → k < n → slice_index t k ≡ slice_index HTML_LO_NIBBLE_TAB (k % 16))
       → ((k : ℕ) → k < n → slice_index u k ≡ slice_index HTML_HI_NIBBLE_TAB (k % 16))
@@ -76,9 +86,11 @@ module _ (n : ℕ) (v : List ℕ) (bytes : AreBytes n v) (blocks : n % 16 ≡ 0)
 
 -- the comparison of the flags with 0
 module _ (n : ℕ) (v flags : List ℕ) (bytes : AreBytes n v) (e : flags ≡ map html_flags v) where
+  -- as many flags as lanes
   pub length-flags : length flags ≡ n
   length-flags = ap length e ∙ length-map v html_flags ∙ bytes.full
 
+  -- a flag that is not 0 is a need
   pub flagged-need : zip2 (λ a b. not (nat_eq a b)) flags (replicate n 0) ≡ map (needs_escape html) v
   flagged-need =
       zip2_splat (λ a b. not (nat_eq a b)) flags n 0 length-flags

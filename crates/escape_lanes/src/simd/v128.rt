@@ -50,7 +50,7 @@ fn eq(a: &[u8; 16], b: &[u8; 16]) -> [u8; 16]
     ensures whole { AreWhole 1 16 result }
     ensures lanes { set_lanes 1 result ≡ zip2 nat_eq a.now b.now }
 {
-    each(a, b, |a, b| (a == b) as u8)
+    each(a, b, |x, y| (x == y) as u8)
 }
 
 /// Where the left lane is at most the right one, both unsigned.
@@ -61,7 +61,7 @@ fn le(a: &[u8; 16], b: &[u8; 16]) -> [u8; 16]
     ensures whole { AreWhole 1 16 result }
     ensures lanes { set_lanes 1 result ≡ zip2 nat_le a.now b.now }
 {
-    each(a, b, |a, b| (a <= b) as u8)
+    each(a, b, |x, y| (x <= y) as u8)
 }
 
 /// Where either mask is set.
@@ -72,7 +72,7 @@ fn or(a: &[u8; 16], b: &[u8; 16]) -> [u8; 16]
     ensures whole { AreWhole 1 16 result }
     ensures lanes { set_lanes 1 result ≡ zip2 ◌||◌ (set_lanes 1 a.now) (set_lanes 1 b.now) }
 {
-    each(a, b, |a, b| a | b)
+    each(a, b, |x, y| x | y)
 }
 
 /// Where both masks are set.
@@ -83,7 +83,7 @@ fn and(a: &[u8; 16], b: &[u8; 16]) -> [u8; 16]
     ensures whole { AreWhole 1 16 result }
     ensures lanes { set_lanes 1 result ≡ zip2 ◌&&◌ (set_lanes 1 a.now) (set_lanes 1 b.now) }
 {
-    each(a, b, |a, b| a & b)
+    each(a, b, |x, y| x & y)
 }
 
 /// One bit for each lane of a mask, the first lane's lowest.

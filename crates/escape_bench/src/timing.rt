@@ -1,12 +1,11 @@
 //! The best of many rounds, with the ways in turn in each round.
-ghost use Rattle.std.specs.Prelude.{◌≤◌, ◌+◌, ◌*◌, length};
+ghost use Rattle.std.specs.Prelude.{◌≤◌, ◌+◌, ◌*◌, ◌^◌, length};
 
 use crate::texts::{Kind, text_of};
 use crate::ways::{Way, once};
-use std::fmt;
-use std::io;
 use std::test::Fail;
 use std::time::{Clock, Instant};
+use std::{fmt, io};
 
 const WAYS: [Way; 7] = [
     Way::Copy,
@@ -19,6 +18,7 @@ const WAYS: [Way; 7] = [
 ];
 
 const ROUNDS: usize = 60;
+
 const BYTES_A_ROUND: usize = 1 << 20;
 
 /// Prints how many times a copy each kernel takes, and how many of it fit in the loop over bytes.
@@ -26,10 +26,15 @@ pub fn report<const HTML: bool>(
     rt: &(impl Clock + Print + AllocGlobal),
     kind: Kind,
     len: usize,
-) -> Result<(), Fail> {
+) -> Result<(), Fail>
+    requires { len ≤ 2 ^ 20 }
+{
     let text = text_of(rt.alloc(), kind, len)?;
+    if text.len() != len {
+        return Err(Fail::new("the text has another length"));
+    }
     let repeats = BYTES_A_ROUND / len.max(1) + 1;
-    let mut best = [u64::MAX; 7];
+    let mut best = [u32::MAX; 7];
     // The low address bits of source and target differ, so that they don't share lines of the first cache.
     let mut room = vec![in rt.alloc(); 0u8; 7 * len + 4096]?;
     let (source, target) = room.split_at_mut(len + 2048);
@@ -57,7 +62,7 @@ fn time<const HTML: bool>(
     text: &str,
     dst: &mut [u8],
     repeats: usize,
-) -> Result<u64, Fail>
+) -> Result<u32, Fail>
     requires { 6 * length text.now + 35 ≤ length dst.old }
 {
     let start = Instant::now(rt)?;
@@ -67,5 +72,5 @@ fn time<const HTML: bool>(
     }
     let nanos = start.elapsed(rt)?.as_nanos();
     std::hint::black_box(written);
-    Ok(u64::try_from(nanos)?.max(1))
+    Ok(u32::try_from(nanos)?.max(1))
 }

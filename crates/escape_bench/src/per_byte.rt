@@ -19,10 +19,17 @@ pub fn per_byte<const HTML: bool>(text: &[u8], dst: &mut [u8]) -> usize
             dst[to] = *byte;
             to += 1;
         } else {
-            let bytes = entry.1;
-            dst[to..to + 8].copy_from_slice(&bytes);
+            put(dst, to, &entry.1);
             to += (entry.0 as usize).min(6);
         }
     }
     to
+}
+
+#[inline(always)]
+fn put(dst: &mut [u8], to: usize, entry: &[u8; 8])
+    requires { to + 8 ≤ length dst.old }
+{
+    let bytes = *entry;
+    dst[to..to + 8].copy_from_slice(&bytes);
 }

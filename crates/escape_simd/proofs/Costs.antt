@@ -12,14 +12,17 @@ abbrev vectors : ℕ → ℕ → ℕ
 vectors m N = (m + (N - 1)) / N
 
 module _ (N : ℕ) (some : 0 < N) where
+  -- no more vectors for no more bytes
   vectors-≤ : (m k : ℕ) → m ≤ k → vectors m N ≤ vectors k N
   vectors-≤ m k h = le-div (vectors m N) (k + (N - 1)) N some (omega (arith, div-mul-le_self (m + (N - 1)) N))
 
+  -- k whole vectors more
   vectors-whole : (m k : ℕ) → vectors (m + k * N) N ≡ vectors m N + k
   vectors-whole m k =
       let e : m + k * N + (N - 1) ≡ m + (N - 1) + k * N = omega arith in
       ap (λ x. x / N) e ∙ add-mul-div_right (m + (N - 1)) k some
 
+  -- at most one more than the whole vectors
   vectors-most : (m : ℕ) → vectors m N ≤ m / N + 1
   vectors-most m =
       let h : vectors m N ≤ (m + 1 * N) / N = le-div (vectors m N) (m + 1 * N) N some (omega (arith, div-mul-le_self (m + (N - 1)) N)) in
@@ -31,6 +34,7 @@ module _ (N : ℕ) (some : 0 < N) where
   cost-most mode text a_run = let v = vectors-most (length text - 0) in let e : length text - 0 ≡ length text = omega arith in let d = ap (λ m. m / N) e in omega (arith, v, d)
 
   module _ (mode : Mode) (src : List ℕ) (at next : ℕ) where
+    -- the runs further on cost no more
     runs : at ≤ next → (a_run : ℕ) → a_run * run_count mode (drop next src) ≤ a_run * run_count mode (drop at src)
     runs h a_run = mul-le-mul_left a_run (runs_from-≤ mode src at next h)
 

@@ -80,14 +80,17 @@ front-paste old piece to n f room long h =
     ∙ past (take to old) (take n piece) (to + f) f (let l = length-take-le to old (omega arith) in omega (arith, l))
     ∙ ap (λ xs. take to old ++ xs) (take-take f n piece h)
   where
+    -- what is taken past a first part
     past : (xs ys : List ℕ) (k m : ℕ) → k ≡ length xs + m → take k (xs ++ ys) ≡ xs ++ take m ys
     past xs ys k m e = rw e (take-append-add xs ys m)
 
+-- what stands after a piece that was pasted in
 rest-paste : (old piece : List ℕ) (to n k : ℕ) → to + n ≤ length old → n ≤ length piece → to + n ≤ k → drop k (paste old to piece n) ≡ drop k old
 rest-paste old piece to n k room long h = drop_further (paste old to piece n) old (to + n) k h (drop-paste old to piece n (omega arith) long)
 
 -- a piece was pasted in, whose first `count` bytes stand for the text up to `next`
 module _ {N : ℕ} (mode : Mode) (reach : ℕ) (src : List ℕ) (old new : Target N) (at next to count : ℕ) (piece : List ℕ) (n : ℕ) where
+  -- is a stretch of the text
   pub pasted : IsSameSlice old new → bytes_of new ≡ paste (bytes_of old) to piece n → to + n ≤ length (bytes_of old) → n ≤ length piece → count ≤ n
       → at ≤ next → next ≤ length src → next ≤ count + at → count + 6 * at ≤ 6 * next
       → take count piece ++ inner mode (drop next src) ≡ inner mode (drop at src)
@@ -114,6 +117,7 @@ module _ {N : ℕ} (mode : Mode) (reach : ℕ) (src : List ℕ) (old new : Targe
 
 -- one byte that needs an escape
 module _ {N : ℕ} (mode : Mode) (src : List ℕ) (old new : Target N) (i to count : ℕ) (entry : List ℕ) (inside : i < length src) (needed : needs_escape mode (get_or src i 0) ≡ true) where
+  -- its entry was pasted in
   pub escaped_byte : IsSameSlice old new → bytes_of new ≡ paste (bytes_of old) to entry 8 → to + 8 ≤ length (bytes_of old)
       → count ≡ entry_count mode (get_or src i 0) → entry ≡ entry_bytes mode (get_or src i 0)
       → escaped_of new ≡ escaped_of old + 1 → quotes_of new ≡ quotes_of old
@@ -130,6 +134,7 @@ module _ {N : ℕ} (mode : Mode) (src : List ℕ) (old new : Target N) (i to cou
 
 -- clean bytes at the front of a vector
 module _ {N : ℕ} (mode : Mode) (src : List ℕ) (old new : Target N) (at to f n : ℕ) (lanes : List ℕ) where
+  -- the vector was pasted in
   pub clean_bytes : IsSameSlice old new → bytes_of new ≡ paste (bytes_of old) to lanes n → to + n ≤ length (bytes_of old) → n ≤ length lanes → f ≤ n
       → at + f ≤ length src → take f lanes ≡ take f (drop at src) → IsClean mode (take f lanes)
       → n ≤ N → n ≤ 6 * (length src - at) + 32
@@ -149,6 +154,7 @@ clean_runs mode src at f clean =
 
 -- what a stretch wrote, and where it ended
 module _ {N : ℕ} {mode : Mode} {reach : ℕ} {src : List ℕ} {old new : Target N} {at next to end : ℕ} (s : Stretch mode reach src old new at next to end) where
+  -- the escaping of the rest, cut at its end
   parts : inner mode (drop at src) ≡ inner mode (slice_range src at next) ++ inner mode (drop next src)
   parts =
       let e : at + (next - at) ≡ next = omega (arith, s.forward) in
@@ -156,11 +162,13 @@ module _ {N : ℕ} {mode : Mode} {reach : ℕ} {src : List ℕ} {old new : Targe
       ap (inner mode) (sym (take-append-drop (next - at) (drop at src)) ∙ ap (λ xs. slice_range src at next ++ xs) d)
       ∙ flat_map-append (replacement mode) (slice_range src at next) (drop next src)
 
+  -- the escaping of the stretch
   pub stretch-written : take end (bytes_of new) ≡ take to (bytes_of old) ++ inner mode (slice_range src at next)
   stretch-written =
       append_cancel_right (take end (bytes_of new)) (take to (bytes_of old) ++ inner mode (slice_range src at next)) (inner mode (drop next src))
       (s.bytes ∙ ap (λ xs. take to (bytes_of old) ++ xs) parts ∙ sym (append_assoc (take to (bytes_of old)) (inner mode (slice_range src at next)) (inner mode (drop next src))))
 
+  -- as many bytes further
   pub stretch-end : end ≤ length (bytes_of old) → end ≡ to + length (inner mode (slice_range src at next))
   stretch-end room =
       let l : length (take end (bytes_of new)) ≡ end = length-take-le end (bytes_of new) (omega (arith, s.same_slice.len)) in

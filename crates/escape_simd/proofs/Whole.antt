@@ -11,18 +11,22 @@ use Rattle.escape_simd.specs.Formatted.{IsWritten, IsFormatted}
 use Rattle.escape_simd.proofs.Stretches.{drop_further}
 use Rattle.escape_simd.proofs.Costs.{cost-most}
 
+-- quotes around the escaped bytes
 plain-parts : (mode : Mode) (text : List ℕ) → plain mode text ≡ (quote_of mode ++ inner mode text) ++ quote_of mode
 plain-parts json text = refl
 plain-parts html text = sym (append-nil (inner html text))
 
+-- both quotes together
 two_quotes : (mode : Mode) → length (quote_of mode) + length (quote_of mode) ≡ quote_count mode
 two_quotes json = refl
 two_quotes html = refl
 
+-- the bound has room for three of them
 bound-quotes : (mode : Mode) (n : ℕ) → bound mode n ≡ 6 * n + 32 + 3 * length (quote_of mode)
 bound-quotes json n = omega arith
 bound-quotes html n = omega arith
 
+-- a quote is one byte or none
 quote-short : (mode : Mode) → length (quote_of mode) ≤ 1
 quote-short json = omega arith
 quote-short html = omega arith
@@ -40,6 +44,7 @@ pub record IsQuoted {N : ℕ} (mode : Mode) (old new : Target N) (to end : ℕ) 
 module _ {N : ℕ} {mode : Mode} {text : List ℕ} {old first second new : Target N} {opened close count : ℕ}
     (before : IsQuoted mode old first 0 opened) (s : Stretch mode N text first second 0 (length text) opened close) (after : IsQuoted mode second new close count)
     (room : bound mode (length text) ≤ length (bytes_of old)) (some : 0 < N) where
+  -- what stands before the closing quote
   front : take close (bytes_of second) ≡ quote_of mode ++ inner mode text
   front =
       sym (append-nil (take close (bytes_of second)))
@@ -47,6 +52,7 @@ module _ {N : ℕ} {mode : Mode} {text : List ℕ} {old first second new : Targe
       ∙ s.bytes
       ∙ ap (λ xs. xs ++ inner mode text) before.written
 
+  -- the bytes of the whole
   pub whole_written : IsWritten N mode text (bytes_of old) (bytes_of new) count
   whole_written =
       let two = two_quotes mode in let b = bound-quotes mode (length text) in
@@ -66,6 +72,7 @@ module _ {N : ℕ} {mode : Mode} {text : List ℕ} {old first second new : Targe
         kept_past = kept (count + N) (omega (arith, after.ends, some)) (drop_further (bytes_of second) (bytes_of first) (close + N) (count + N) (omega (arith, after.ends)) s.kept_past);
       }
 
+  -- and its counts
   pub whole_formatted : {a_run ticks_old ticks_new : ℕ} → Paid a_run N mode text 0 (length text) (stored_of first) (stored_of second) ticks_old ticks_new → IsFormatted a_run mode text old new count ticks_old ticks_new
   whole_formatted {a_run} paid =
       let two = two_quotes mode in

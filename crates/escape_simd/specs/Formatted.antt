@@ -17,8 +17,8 @@ pub record IsWritten (lanes : ℕ) (mode : Mode) (text old new : List ℕ) (coun
   pub kept_bound : drop (bound mode (length text)) new ≡ drop (bound mode (length text)) old
   pub kept_past : drop (count + lanes) new ≡ drop (count + lanes) old
 
--- The same in a target, at a cost of one vector stored, and `a_run` classified, for each run of escapes, and one for each
--- vector that the text fills or begins.
+-- The same in a target, at a cost of one vector stored, and `a_run` classified, for each run of
+-- escapes, and one for each vector that the text fills or begins.
 pub record IsFormatted {N : ℕ} (a_run : ℕ) (mode : Mode) (text : List ℕ) (old new : Target N) (count ticks_old ticks_new : ℕ) : Type 0 where
   pub same_slice : IsSameSlice old new
   pub written : IsWritten N mode text (bytes_of old) (bytes_of new) count

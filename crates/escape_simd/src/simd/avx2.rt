@@ -26,18 +26,19 @@ impl Classify<{ HTML_MODE }> for Simd256u {
     }
 }
 
-/// Escapes the text to the front of the target, as HTML if `HTML`, else as a JSON string literal, and answers how many bytes
-/// it became.
+/// Escapes the text to the front of the target, as HTML if `HTML`, else as a JSON string literal,
+/// and answers how many bytes it became.
 ///
-/// A text of n bytes needs a target of at least 6n + 35 bytes in JSON, and 6n + 32 in HTML. No byte from that place on
-/// changes, and none that is 32 or more past the last one written.
+/// A text of n bytes needs a target of at least 6n + 35 bytes in JSON, and 6n + 32 in HTML. No byte
+/// from that place on changes, and none that is 32 or more past the last one written.
 pub fn format_target<const HTML: bool>(
     value: &str,
     target: &mut Target<'_, 32>,
     ticks: &mut Ticks,
 ) -> usize
     requires { bound (mode_of HTML) (length value.now) ≤ length (bytes_of target.old) }
-    ensures { IsFormatted 4 (mode_of HTML) value.now target.old target.new result ticks.old ticks.new }
+    ensures { IsFormatted 4 (mode_of HTML) value.now
+        target.old target.new result ticks.old ticks.new }
 {
     body::format_target::<Simd256u, HTML, 32, 4, false>(value, target, ticks)
 }

@@ -1,5 +1,5 @@
 //! The body of all kernels: four vectors at a time, one vector at a time, and the tail.
-ghost use Rattle.std.specs.Prelude.{◌≡◌, ◌≢◌, ℕ, ◌+◌, ◌-◌, ◌*◌, ◌/◌, ◌<◌, ◌≤◌, ◌++◌, Bool, true, false, IsTrue, length, take, drop, map, slice_index, chars};
+ghost use Rattle.std.specs.Prelude.{◌≡◌, ◌≢◌, ℕ, ◌+◌, ◌-◌, ◌*◌, ◌<◌, ◌≤◌, ◌++◌, false, IsTrue, length, take, drop, map, slice_index, chars};
 ghost use Rattle.std.proofs.Math.Seq.{paste};
 ghost use Rattle.escape_lanes.specs.Bits.{first_set, none_set};
 ghost use Rattle.escape_lanes.specs.Mode.{mode_of};
@@ -30,7 +30,8 @@ fn store<V: Simd, const N: usize, const EXACT: bool>(
     requires few { taken ≤ N }
     requires room { to + stored_lanes EXACT N taken ≤ length (bytes_of target.old) }
     ensures same_slice { IsSameSlice target.old target.new }
-    ensures bytes { bytes_of target.new ≡ paste (bytes_of target.old) to (V.lanes v.now) (stored_lanes EXACT N taken) }
+    ensures bytes { bytes_of target.new
+        ≡ paste (bytes_of target.old) to (V.lanes v.now) (stored_lanes EXACT N taken) }
     ensures stored { stored_of target.new ≡ stored_of target.old + 1 }
     ensures escaped { escaped_of target.new ≡ escaped_of target.old }
     ensures quotes { quotes_of target.new ≡ quotes_of target.old }
@@ -55,8 +56,8 @@ fn first_flagged<M: BitMask>(mask: &M, taken: usize) -> usize
     front.first_offset()
 }
 
-/// Stores the vector, whose first `taken` lanes hold the text's bytes from `at` on. Answers how many of these bytes are
-/// clean, up to the first whose lane the mask sets.
+/// Stores the vector, whose first `taken` lanes hold the text's bytes from `at` on. Answers how
+/// many of these bytes are clean, up to the first whose lane the mask sets.
 #[inline(always)]
 fn store_clean<V: Classify<MODE>, const MODE: u8, const N: usize, const EXACT: bool>(
     src: &[u8],
@@ -71,21 +72,26 @@ fn store_clean<V: Classify<MODE>, const MODE: u8, const N: usize, const EXACT: b
     requires few { taken ≤ N }
     requires inside { at + taken ≤ length src.now }
     requires loaded { take taken (V.lanes v.now) ≡ take taken (drop at src.now) }
-    requires flagged { V.Mask.BitMask.bits mask.now ≡ map (needs_escape (mode_numbered MODE)) (V.lanes v.now) }
+    requires flagged { V.Mask.BitMask.bits mask.now
+        ≡ map (needs_escape (mode_numbered MODE)) (V.lanes v.now) }
     requires narrow { stored_lanes EXACT N taken ≤ 6 * (length src.now - at) + 32 }
     requires room { to + 6 * (length src.now - at) + 32 ≤ length (bytes_of target.old) }
     ensures few { result ≤ taken }
-    ensures stretch { Stretch (mode_numbered MODE) N src.now target.old target.new at (at + result) to (to + result) }
-    ensures no_run { run_count (mode_numbered MODE) (drop (at + result) src.now) ≡ run_count (mode_numbered MODE) (drop at src.now) }
-    ensures flagged { result < taken → IsTrue (needs_escape (mode_numbered MODE) (slice_index src.now (at + result))) }
+    ensures stretch { Stretch (mode_numbered MODE) N src.now
+        target.old target.new at (at + result) to (to + result) }
+    ensures no_run { run_count (mode_numbered MODE) (drop (at + result) src.now)
+        ≡ run_count (mode_numbered MODE) (drop at src.now) }
+    ensures flagged { result < taken
+        → IsTrue (needs_escape (mode_numbered MODE) (slice_index src.now (at + result))) }
     ensures stored { stored_of target.new ≡ stored_of target.old + 1 }
 {
     store::<V, N, EXACT>(target, to, v, taken);
     first_flagged(mask, taken)
 }
 
-/// One vector, whose first `taken` lanes hold the text's bytes from `at` on: these bytes, or those up to the end of the run
-/// of escapes that begins at the first of them whose lane the mask sets. Answers the places reached.
+/// One vector, whose first `taken` lanes hold the text's bytes from `at` on: these bytes, or those
+/// up to the end of the run of escapes that begins at the first of them whose lane the mask sets.
+/// Answers the places reached.
 #[inline(always)]
 fn turn<V: Classify<MODE>, const MODE: u8, const N: usize, const EXACT: bool>(
     src: &[u8],
@@ -102,13 +108,20 @@ fn turn<V: Classify<MODE>, const MODE: u8, const N: usize, const EXACT: bool>(
     requires inside { at + taken ≤ length src.now }
     requires whole { taken ≢ N → at + taken ≡ length src.now }
     requires loaded { take taken (V.lanes v.now) ≡ take taken (drop at src.now) }
-    requires flagged { V.Mask.BitMask.bits mask.now ≡ map (needs_escape (mode_numbered MODE)) (V.lanes v.now) }
+    requires flagged { V.Mask.BitMask.bits mask.now
+        ≡ map (needs_escape (mode_numbered MODE)) (V.lanes v.now) }
     requires narrow { stored_lanes EXACT N taken ≤ 6 * (length src.now - at) + 32 }
     requires room { to + 6 * (length src.now - at) + 32 ≤ length (bytes_of target.old) }
-    ensures stretch { Stretch (mode_numbered MODE) N src.now target.old target.new at result.0 to result.1 }
+    ensures stretch { Stretch (mode_numbered MODE) N src.now
+        target.old target.new at result.0 to result.1 }
     ensures step { at < result.0 }
-    ensures a_run { result.0 ≢ at + taken → run_count (mode_numbered MODE) (drop result.0 src.now) < run_count (mode_numbered MODE) (drop at src.now) }
-    ensures cost { (a_run : ℕ) → 1 ≤ a_run → cost_from a_run N (mode_numbered MODE) src.now result.0 + 1 ≤ cost_from a_run N (mode_numbered MODE) src.now at }
+    ensures a_run { result.0 ≢ at + taken
+        → run_count (mode_numbered MODE) (drop result.0 src.now)
+        < run_count (mode_numbered MODE) (drop at src.now) }
+    ensures cost { (a_run : ℕ)
+        → 1 ≤ a_run
+        → cost_from a_run N (mode_numbered MODE) src.now result.0 + 1
+        ≤ cost_from a_run N (mode_numbered MODE) src.now at }
     ensures stored { stored_of target.new ≡ stored_of target.old + 1 }
 {
     let clean = store_clean::<V, MODE, N, EXACT>(src, at, target, to, v, mask, taken);
@@ -154,9 +167,13 @@ fn vector<V: Classify<MODE>, const MODE: u8, const N: usize>(
     requires lanes { V.LANES ≡ N }
     requires inside { at + N ≤ length src.now }
     requires room { to + 6 * (length src.now - at) + 32 ≤ length (bytes_of target.old) }
-    ensures stretch { Stretch (mode_numbered MODE) N src.now target.old target.new at result.0 to result.1 }
+    ensures stretch { Stretch (mode_numbered MODE) N src.now
+        target.old target.new at result.0 to result.1 }
     ensures step { at < result.0 }
-    ensures paid { (a_run : ℕ) → 1 ≤ a_run → Paid a_run N (mode_numbered MODE) src.now at result.0 (stored_of target.old) (stored_of target.new) ticks.old ticks.new }
+    ensures paid { (a_run : ℕ)
+        → 1 ≤ a_run
+        → Paid a_run N (mode_numbered MODE) src.now at result.0 (stored_of target.old)
+        (stored_of target.new) ticks.old ticks.new }
 {
     let v = load::<V, N>(src, at);
     let mask = V::flagged(&v, ticks);
@@ -177,9 +194,13 @@ fn tail<V: Classify<MODE>, const MODE: u8, const N: usize, const EXACT: bool>(
     requires few { length src.now < at + N }
     requires narrow { EXACT ≡ false → N ≤ 32 }
     requires room { to + 6 * (length src.now - at) + 32 ≤ length (bytes_of target.old) }
-    ensures stretch { Stretch (mode_numbered MODE) N src.now target.old target.new at result.0 to result.1 }
+    ensures stretch { Stretch (mode_numbered MODE) N src.now
+        target.old target.new at result.0 to result.1 }
     ensures step { at < result.0 }
-    ensures paid { (a_run : ℕ) → 1 ≤ a_run → Paid a_run N (mode_numbered MODE) src.now at result.0 (stored_of target.old) (stored_of target.new) ticks.old ticks.new }
+    ensures paid { (a_run : ℕ)
+        → 1 ≤ a_run
+        → Paid a_run N (mode_numbered MODE) src.now at result.0 (stored_of target.old)
+        (stored_of target.new) ticks.old ticks.new }
 {
     let v = load_tail::<V, N>(src, at);
     let mask = V::flagged(&v, ticks);
@@ -199,17 +220,19 @@ fn pass<V: Classify<MODE>, const MODE: u8, const N: usize>(
     requires lanes { V.LANES ≡ N }
     requires inside { at + N ≤ length src.now }
     requires loaded { take N (V.lanes v.now) ≡ take N (drop at src.now) }
-    requires flagged { V.Mask.BitMask.bits mask.now ≡ map (needs_escape (mode_numbered MODE)) (V.lanes v.now) }
+    requires flagged { V.Mask.BitMask.bits mask.now
+        ≡ map (needs_escape (mode_numbered MODE)) (V.lanes v.now) }
     requires clean { IsTrue (none_set (V.Mask.BitMask.bits mask.now)) }
     requires room { to + N ≤ length (bytes_of target.old) }
-    ensures stretch { Stretch (mode_numbered MODE) N src.now target.old target.new at (at + N) to (to + N) }
+    ensures stretch { Stretch (mode_numbered MODE) N src.now
+        target.old target.new at (at + N) to (to + N) }
     ensures stored { stored_of target.new ≡ stored_of target.old + 1 }
 {
     target.store(to, v);
 }
 
-/// Four vectors of the text, or fewer where one holds a byte that needs an escape: then up to the end of the run that the
-/// first such byte begins.
+/// Four vectors of the text, or fewer where one holds a byte that needs an escape: then up to the
+/// end of the run that the first such byte begins.
 #[inline(always)]
 fn chunk<V: Classify<MODE>, const MODE: u8, const N: usize>(
     src: &[u8],
@@ -221,9 +244,13 @@ fn chunk<V: Classify<MODE>, const MODE: u8, const N: usize>(
     requires lanes { V.LANES ≡ N }
     requires inside { at + 4 * N ≤ length src.now }
     requires room { to + 6 * (length src.now - at) + 32 ≤ length (bytes_of target.old) }
-    ensures stretch { Stretch (mode_numbered MODE) N src.now target.old target.new at result.0 to result.1 }
+    ensures stretch { Stretch (mode_numbered MODE) N src.now
+        target.old target.new at result.0 to result.1 }
     ensures step { at < result.0 }
-    ensures paid { (a_run : ℕ) → 4 ≤ a_run → Paid a_run N (mode_numbered MODE) src.now at result.0 (stored_of target.old) (stored_of target.new) ticks.old ticks.new }
+    ensures paid { (a_run : ℕ)
+        → 4 ≤ a_run
+        → Paid a_run N (mode_numbered MODE) src.now at result.0 (stored_of target.old)
+        (stored_of target.new) ticks.old ticks.new }
 {
     let (second, third, fourth) = (at + N, at + 2 * N, at + 3 * N);
     let v1 = load::<V, N>(src, at);
@@ -270,9 +297,11 @@ fn vectors<V: Classify<MODE>, const MODE: u8, const N: usize, const CHUNK: usize
     requires chunk { 1 ≤ CHUNK }
     requires inside { at + N ≤ length src.now }
     requires room { to + 6 * (length src.now - at) + 32 ≤ length (bytes_of target.old) }
-    ensures stretch { Stretch (mode_numbered MODE) N src.now target.old target.new at result.0 to result.1 }
+    ensures stretch { Stretch (mode_numbered MODE) N src.now
+        target.old target.new at result.0 to result.1 }
     ensures step { at < result.0 }
-    ensures paid { Paid CHUNK N (mode_numbered MODE) src.now at result.0 (stored_of target.old) (stored_of target.new) ticks.old ticks.new }
+    ensures paid { Paid CHUNK N (mode_numbered MODE) src.now at result.0 (stored_of target.old)
+        (stored_of target.new) ticks.old ticks.new }
 {
     if CHUNK == 4 && ahead && N <= (src.len() - at) / 4 {
         return chunk::<V, MODE, N>(src, at, target, to, ticks);
@@ -282,8 +311,9 @@ fn vectors<V: Classify<MODE>, const MODE: u8, const N: usize, const CHUNK: usize
 
 /// Escapes the bytes to the target from `to` on, and answers the place reached.
 ///
-/// `CHUNK` is 4 where four vectors are classified at once, and 1 where none are. After a run it goes on vector by vector up
-/// to a clean one, since a text with one run mostly has the next one near.
+/// `CHUNK` is 4 where four vectors are classified at once, and 1 where none are. After a run it
+/// goes on vector by vector up to a clean one, since a text with one run mostly has the next one
+/// near.
 #[inline(always)]
 pub(crate) fn escape_bytes<
     V: Classify<MODE>,
@@ -296,8 +326,11 @@ pub(crate) fn escape_bytes<
     requires chunk { 1 ≤ CHUNK }
     requires narrow { EXACT ≡ false → N ≤ 32 }
     requires room { to + 6 * length src.now + 32 ≤ length (bytes_of target.old) }
-    ensures stretch { Stretch (mode_numbered MODE) N src.now target.old target.new 0 (length src.now) to result }
-    ensures paid { Paid CHUNK N (mode_numbered MODE) src.now 0 (length src.now) (stored_of target.old) (stored_of target.new) ticks.old ticks.new }
+    ensures stretch { Stretch (mode_numbered MODE) N src.now
+        target.old target.new 0 (length src.now) to result }
+    ensures paid { Paid CHUNK N (mode_numbered MODE) src.now 0 (length src.now)
+        (stored_of target.old)
+        (stored_of target.new) ticks.old ticks.new }
 {
     let mut at = 0;
     let mut end = to;
@@ -322,11 +355,13 @@ fn quote<const MODE: u8, const N: usize>(target: &mut Target<'_, N>, to: usize) 
     requires { to < length (bytes_of target.old) }
     ensures same_slice { IsSameSlice target.old target.new }
     ensures end { result ≡ to + length (quote_of (mode_numbered MODE)) }
-    ensures written { take result (bytes_of target.new) ≡ take to (bytes_of target.old) ++ quote_of (mode_numbered MODE) }
+    ensures written { take result (bytes_of target.new)
+        ≡ take to (bytes_of target.old) ++ quote_of (mode_numbered MODE) }
     ensures kept { drop (to + 1) (bytes_of target.new) ≡ drop (to + 1) (bytes_of target.old) }
     ensures stored { stored_of target.new ≡ stored_of target.old }
     ensures escaped { escaped_of target.new ≡ escaped_of target.old }
-    ensures quotes { quotes_of target.new ≡ quotes_of target.old + length (quote_of (mode_numbered MODE)) }
+    ensures quotes { quotes_of target.new
+        ≡ quotes_of target.old + length (quote_of (mode_numbered MODE)) }
 {
     if MODE == JSON_MODE {
         target.quote(to);
@@ -348,7 +383,9 @@ pub(crate) fn body<
     requires chunk { 1 ≤ CHUNK }
     requires narrow { EXACT ≡ false → N ≤ 32 }
     requires room { bound (mode_numbered MODE) (length value.now) ≤ length (bytes_of target.old) }
-    ensures { IsFormatted CHUNK (mode_numbered MODE) value.now target.old target.new result ticks.old ticks.new }
+    ensures { IsFormatted CHUNK (mode_numbered MODE) value.now
+        target.old target.new result ticks.old
+        ticks.new }
 {
     let open = quote::<MODE, N>(target, 0);
     let close = escape_bytes::<V, MODE, N, CHUNK, EXACT>(value.as_bytes(), target, open, ticks);
@@ -368,7 +405,8 @@ pub(crate) fn format_target<
     requires chunk { 1 ≤ CHUNK }
     requires narrow { EXACT ≡ false → N ≤ 32 }
     requires room { bound (mode_of HTML) (length value.now) ≤ length (bytes_of target.old) }
-    ensures { IsFormatted CHUNK (mode_of HTML) value.now target.old target.new result ticks.old ticks.new }
+    ensures { IsFormatted CHUNK (mode_of HTML) value.now
+        target.old target.new result ticks.old ticks.new }
 {
     if HTML {
         return body::<V, { HTML_MODE }, N, CHUNK, EXACT>(value, target, ticks);

@@ -16,6 +16,7 @@ pub(crate) const HTML_MODE: u8 = 1;
 pub(crate) trait Classify<const MODE: u8>: Simd {
     /// Sets the lanes whose byte needs an escape, and ticks once.
     fn flagged(v: &Self, ticks: &mut Ticks) -> <Self::Mask as Mask>::BitMask
-        ensures lanes { Self.Mask.BitMask.bits result ≡ map (needs_escape (mode_numbered MODE)) (Self.lanes v.now) }
+        ensures lanes { Self.Mask.BitMask.bits result
+            ≡ map (needs_escape (mode_numbered MODE)) (Self.lanes v.now) }
         ensures tick { ticks.new ≡ ticks.old + 1 };
 }

@@ -1,4 +1,5 @@
-//! The kernel of 16 lanes in an array: one vector at a time, HTML classified by one table look-up a byte.
+//! The kernel of 16 lanes in an array: one vector at a time, HTML classified by one table look-up a
+//! byte.
 ghost use Rattle.std.specs.Prelude.{◌≤◌, length, take, chars};
 ghost use Rattle.escape_lanes.specs.Mode.{mode_of};
 ghost use Rattle.escape_lanes.specs.Written.{bytes_of};
@@ -26,18 +27,19 @@ impl Classify<{ HTML_MODE }> for Simd128u {
     }
 }
 
-/// Escapes the text to the front of the target, as HTML if `HTML`, else as a JSON string literal, and answers how many bytes
-/// it became.
+/// Escapes the text to the front of the target, as HTML if `HTML`, else as a JSON string literal,
+/// and answers how many bytes it became.
 ///
-/// A text of n bytes needs a target of at least 6n + 35 bytes in JSON, and 6n + 32 in HTML. No byte from that place on
-/// changes, and none that is 16 or more past the last one written.
+/// A text of n bytes needs a target of at least 6n + 35 bytes in JSON, and 6n + 32 in HTML. No byte
+/// from that place on changes, and none that is 16 or more past the last one written.
 pub fn format_target<const HTML: bool>(
     value: &str,
     target: &mut Target<'_, 16>,
     ticks: &mut Ticks,
 ) -> usize
     requires { bound (mode_of HTML) (length value.now) ≤ length (bytes_of target.old) }
-    ensures { IsFormatted 1 (mode_of HTML) value.now target.old target.new result ticks.old ticks.new }
+    ensures { IsFormatted 1 (mode_of HTML) value.now
+        target.old target.new result ticks.old ticks.new }
 {
     body::format_target::<Simd128u, HTML, 16, 1, false>(value, target, ticks)
 }

@@ -20,6 +20,7 @@ loop-next-init g c =
       stored = refl;
     }
 
+-- a byte whose entry has a count
 needed_from : (mode : Mode) (b count : ℕ) → count ≡ entry_count mode b → (count ≡ 0 → ⊥) → needs_escape mode b ≡ true
 needed_from mode b count e some =
     elim (cases_Bool (needs_escape mode b)) [

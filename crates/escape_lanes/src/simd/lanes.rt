@@ -2,7 +2,7 @@
 //!
 //! A mask is a vector of bytes, ff in each lane that is set and 00 in the others, since the masks of
 //! `std::simd` have no `Debug`.
-ghost use Rattle.std.specs.Prelude.{◌≡◌, ℕ, ◌++◌, ◌<◌, ◌≤◌, ◌^◌, ◌%◌, ◌||◌, ◌&&◌, length, take, drop, replicate, map, nat_eq, nat_le, slice_index};
+ghost use Rattle.std.specs.Prelude.{◌≡◌, ℕ, ◌++◌, ◌<◌, ◌≤◌, ◌^◌, ◌%◌, ◌||◌, ◌&&◌, length, take, drop, replicate, map, nat_eq, nat_le, slice_index, bit_xor};
 ghost use Rattle.std.specs.Simd.Lanes.{zip2};
 ghost use Rattle.escape_lanes.specs.Bits.{bits_of};
 ghost use Rattle.escape_lanes.specs.Lanes.{AreBytes, AreWhole, set_lanes};
@@ -116,18 +116,29 @@ pub(crate) fn is_at_most<const N: usize>(v: &Simd<u8, N>, most: u8) -> Simd<u8, 
     le(v, &splat(most))
 }
 
+/// Each lane with its bit 1 flipped.
+#[inline(always)]
+fn flipped<const N: usize>(v: &Simd<u8, N>) -> Simd<u8, N>
+    requires { AreBytes N v.now }
+    ensures bytes { AreBytes N result }
+    ensures lanes { result ≡ map (λ b. bit_xor b 2) v.now }
+{
+    *v ^ Simd::splat(2)
+}
+
 /// Where JSON needs an escape.
+///
+/// The flip brings the quotation mark, 22, to 20, past the control characters, which stay below it.
+/// So one comparison finds both.
 #[inline(always)]
 pub(crate) fn json_needs<const N: usize>(v: &Simd<u8, N>) -> Simd<u8, N>
     requires { AreBytes N v.now }
     ensures whole { AreWhole 255 N result }
     ensures lanes { set_lanes 255 result ≡ map (needs_escape json) v.now }
 {
-    let control = is_at_most(v, 0x1f);
+    let control_or_quote = is_at_most(&flipped(v), 0x20);
     let backslash = is(v, b'\\');
-    let quote = is(v, b'"');
-    let either = or(&control, &backslash);
-    or(&either, &quote)
+    or(&control_or_quote, &backslash)
 }
 
 /// The table again in each block of sixteen lanes, as a look-up within blocks reads it.

@@ -9,5 +9,5 @@ pub mod HtmlLemmas
 pub mod JsonLemmas
 pub mod OutputLemmas
 pub mod Examples
-pub mod Places
+pub mod Pieces
 pub mod JoinedLemmas

@@ -1,5 +1,5 @@
 -- The laws as calls' clauses have them.
-use Rattle.std.proofs.Common.{◌≡◌, ℕ, ◌+◌, ◌*◌, ◌<◌, ◌≤◌, true, List, [], ◌∷◌, ◌++◌, length, length-append, take, drop, length-take, IsUtf8, chars, encode_utf8, encode_utf8_all, flat_map, refl, sym, ap, subst, ◌∙◌, arith, inl, inr}
+use Rattle.std.proofs.Common.{◌≡◌, ℕ, ◌*◌, ◌<◌, ◌≤◌, true, List, [], ◌∷◌, ◌++◌, length, length-append, drop, IsUtf8, chars, encode_utf8, encode_utf8_all, flat_map, refl, sym, ap, subst, ◌∙◌, arith, inl, inr}
 use Rattle.std.specs.Str.{all_scalars}
 use Rattle.std.specs.Char.{IsScalar}
 use Rattle.std.proofs.Math.Utf8.{scalar}
@@ -9,7 +9,7 @@ use Rattle.std.proofs.lemmas.Bool.Decides.{nat_tests}
 use Rattle.std.proofs.lemmas.Str.{IsUtf8-append, IsUtf8-nil, IsUtf8-encode, encode_ascii, encodes-chars, scalars-chars}
 use Rattle.escape_lanes.specs.Mode.{Mode, json, html}
 use Rattle.escape_lanes.specs.Replacement.{replacement, needs_escape}
-use Rattle.escape_simd.specs.Output.{inner, plain, bound}
+use Rattle.escape_simd.specs.Output.{inner, plain}
 use Rattle.escape_simd.specs.Html.{HtmlReads}
 use Rattle.escape_simd.specs.Json.{JsonDenotes}
 use Rattle.escape_simd.specs.Spelling.{IsTextOf}
@@ -90,25 +90,13 @@ length-replacement json b = (grind (arith, nat_tests), grind (arith, nat_tests))
 length-replacement html b = (grind (arith, nat_tests), grind (arith, nat_tests))
 
 -- bytes are written by as many bytes at least, and six times as many at most
-length-inner : (mode : Mode) (bytes : List ℕ) → (length bytes ≤ length (inner mode bytes)) × (length (inner mode bytes) ≤ 6 * length bytes)
+pub length-inner : (mode : Mode) (bytes : List ℕ) → (length bytes ≤ length (inner mode bytes)) × (length (inner mode bytes) ≤ 6 * length bytes)
 length-inner mode [] = (omega arith, omega arith)
 length-inner mode (b ∷ bs) =
     let one = length-replacement mode b in
     let rest = length-inner mode bs in
     let both = length-append (replacement mode b) (inner mode bs) in
     (omega arith, omega arith)
-
--- the scratch bound has room for more than what stands for the bytes
-pub length-inner-bound : (mode : Mode) (bytes : List ℕ) → length (inner mode bytes) + 32 ≤ bound mode (length bytes)
-length-inner-bound json bytes = let short = (length-inner json bytes).1 in omega arith
-length-inner-bound html bytes = let short = (length-inner html bytes).1 in omega arith
-
--- where six bytes a byte have room, what stands for one more byte has
-pub room-inner : (mode : Mode) (bytes : List ℕ) (i to end len : ℕ) → i < length bytes → to + 6 * length bytes ≤ len → end ≡ to + length (inner mode (take i bytes)) → end + 6 ≤ len
-room-inner mode bytes i to end len inside room at =
-    let short = (length-inner mode (take i bytes)).1 in
-    let front = length-take i bytes in
-    omega arith
 
 -- equal outputs come from equal texts
 plain-injective : (mode : Mode) (xs ys : List ℕ) → IsUtf8 xs → IsUtf8 ys → plain mode xs ≡ plain mode ys → xs ≡ ys

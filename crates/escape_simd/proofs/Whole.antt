@@ -31,6 +31,21 @@ quote-short : (mode : Mode) → length (quote_of mode) ≤ 1
 quote-short json = omega arith
 quote-short html = omega arith
 
+-- all bytes of a text were passed
+module _ {N : ℕ} {mode : Mode} {reach : ℕ} {text : List ℕ} {old new : Target N} {to end : ℕ} (s : Stretch mode reach text old new 0 (length text) to end) where
+  -- what is written after what stood before
+  pub all-written : take end (bytes_of new) ≡ take to (bytes_of old) ++ inner mode text
+  all-written =
+      sym (append-nil (take end (bytes_of new)))
+      ∙ ap (λ xs. take end (bytes_of new) ++ inner mode xs) (sym (drop_all (length text) text (le_refl (length text))))
+      ∙ s.bytes
+
+  -- as many bytes further
+  pub all-end : to + 6 * length text ≤ length (bytes_of old) → end ≡ to + length (inner mode text)
+  all-end room =
+      let written : length (take end (bytes_of new)) ≡ length (take to (bytes_of old)) + length (inner mode text) = ap length all-written ∙ length-append (take to (bytes_of old)) (inner mode text) in
+      omega (arith, written, length-take-le end (bytes_of new) (omega (arith, s.most, s.same_slice.len)), length-take-le to (bytes_of old) (omega arith))
+
 -- one quote was written or none
 pub record IsQuoted {N : ℕ} (mode : Mode) (old new : Target N) (to end : ℕ) : Type 0 where
   pub same_slice : IsSameSlice old new
@@ -46,11 +61,7 @@ module _ {N : ℕ} {mode : Mode} {text : List ℕ} {old first second new : Targe
     (room : bound mode (length text) ≤ length (bytes_of old)) (some : 0 < N) where
   -- what stands before the closing quote
   front : take close (bytes_of second) ≡ quote_of mode ++ inner mode text
-  front =
-      sym (append-nil (take close (bytes_of second)))
-      ∙ ap (λ xs. take close (bytes_of second) ++ inner mode xs) (sym (drop_all (length text) text (le_refl (length text))))
-      ∙ s.bytes
-      ∙ ap (λ xs. xs ++ inner mode text) before.written
+  front = all-written s ∙ ap (λ xs. xs ++ inner mode text) before.written
 
   -- the bytes of the whole
   pub whole_written : IsWritten N mode text (bytes_of old) (bytes_of new) count

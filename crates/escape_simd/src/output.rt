@@ -1,12 +1,12 @@
 //! The output for a whole text: its refusals, its one reservation and its bytes, for either mode.
-ghost use Rattle.std.specs.Prelude.{◌≡◌, ◌+◌, ◌<◌, ◌≤◌, ◌↔◌, ◌++◌, length, take, chars, string_bytes, vec_len, vec_capacity, Err, IsOk, IfOk, OnOk, OnErr, IfSome, IsNone};
+ghost use Rattle.std.specs.Prelude.{◌≡◌, ◌+◌, ◌*◌, ◌<◌, ◌≤◌, ◌↔◌, ◌++◌, length, take, chars, string_bytes, vec_len, vec_capacity, Err, IsOk, IfOk, OnOk, OnErr, IfSome, IsNone};
 ghost use Rattle.escape_lanes.specs.Mode.{mode_of};
-ghost use Rattle.escape_simd.specs.Output.{plain, bound};
+ghost use Rattle.escape_simd.specs.Output.{plain, inner, quote_of, bound};
 ghost use Rattle.escape_simd.specs.Spelling.{IsTextOf};
 ghost use Rattle.escape_simd.specs.Headline.{IsOnlyOutput};
 ghost use Rattle.escape_simd.specs.Laws.{JoinsTexts, IsOfOneText, HasOutputLength};
 
-use crate::simd::avx2::format_string;
+use crate::simd::avx2::escape_at;
 use std::alloc::{AllocError, Allocator};
 
 /// Why a text was not escaped.
@@ -35,13 +35,55 @@ pub(crate) fn scratch_bound<const HTML: bool>(len: usize) -> Option<usize>
     len.checked_mul(6)?.checked_add(if HTML { 32 } else { 35 })
 }
 
-/// Writes the output for the text from a place on, and answers the place after it.
-fn format_at<const HTML: bool>(value: &str, dst: &mut [u8], begin: usize) -> usize
-    requires { begin + bound (mode_of HTML) (length value.now) ≤ length dst.old }
-    ensures end { result ≡ begin + length (plain (mode_of HTML) value.now) }
-    ensures written { take result dst.new ≡ take begin dst.old ++ plain (mode_of HTML) value.now }
+/// How many bytes are escaped at a time. What makes room for them, and what they become, stays in the
+/// first caches.
+const PIECE: usize = 4096;
+
+/// Appends a quotation mark in JSON, and nothing in HTML.
+fn push_quote<const HTML: bool, A: Allocator>(dst: &mut Vec<u8, A>)
+    requires { vec_len dst.old < vec_capacity dst.old }
+    ensures items { dst.new.items ≡ dst.old.items ++ quote_of (mode_of HTML) }
+    ensures capacity { vec_capacity dst.old ≤ vec_capacity dst.new }
 {
-    begin + format_string::<HTML>(value, &mut dst[begin..])
+    if HTML {
+        return;
+    }
+    let Ok(()) = dst.push(b'"') else {
+        unreachable!()
+    };
+}
+
+/// Makes the vector `len` bytes long by zeros, where it is shorter. It has room for them.
+fn fill<A: Allocator>(dst: &mut Vec<u8, A>, len: usize)
+    requires { len ≤ vec_capacity dst.old }
+    ensures front { take (vec_len dst.old) dst.new.items ≡ dst.old.items }
+    ensures longer { vec_len dst.old ≤ vec_len dst.new }
+    ensures filled { len ≤ vec_len dst.new }
+    ensures capacity { vec_capacity dst.old ≤ vec_capacity dst.new }
+{
+    if dst.len() < len {
+        let Ok(()) = dst.resize(len, 0) else {
+            unreachable!()
+        };
+    }
+}
+
+/// Appends what stands for the bytes, piece by piece, to a vector that has room for it.
+fn append_bytes<const HTML: bool, A: Allocator>(bytes: &[u8], dst: &mut Vec<u8, A>)
+    requires { vec_len dst.old + 6 * length bytes.now + 32 ≤ vec_capacity dst.old }
+    ensures items { dst.new.items ≡ dst.old.items ++ inner (mode_of HTML) bytes.now }
+    ensures room { vec_len dst.new + 32 ≤ vec_capacity dst.new }
+{
+    let mut at = 0;
+    let mut end = dst.len();
+    'pieces: while at < bytes.len() {
+        let next = at + PIECE.min(bytes.len() - at);
+        let piece = &bytes[at..next];
+        fill(dst, end + 6 * piece.len() + 32);
+        end = escape_at::<HTML>(piece, dst, end);
+        at = next;
+    }
+    dst.truncate(end);
 }
 
 /// Appends the output for the text.
@@ -61,13 +103,9 @@ pub(crate) fn append<const HTML: bool, A: Allocator>(
         return Err(Refusal::TooLarge);
     };
     dst.reserve_exact(scratch)?;
-    let begin = dst.len();
-    // There is room for these zeros.
-    let Ok(()) = dst.resize(begin + scratch, 0) else {
-        unreachable!()
-    };
-    let end = format_at::<HTML>(value, dst, begin);
-    dst.truncate(end);
+    push_quote::<HTML, A>(dst);
+    append_bytes::<HTML, A>(value.as_bytes(), dst);
+    push_quote::<HTML, A>(dst);
     Ok(())
 }
 

@@ -1,8 +1,8 @@
 //! The kernel of 32 lanes.
-ghost use Rattle.std.specs.Prelude.{◌≤◌, length, take, chars};
+ghost use Rattle.std.specs.Prelude.{◌≡◌, ◌+◌, ◌*◌, ◌≤◌, ◌++◌, length, take, chars};
 ghost use Rattle.escape_lanes.specs.Mode.{mode_of};
 ghost use Rattle.escape_lanes.specs.Written.{bytes_of};
-ghost use Rattle.escape_simd.specs.Output.{bound};
+ghost use Rattle.escape_simd.specs.Output.{bound, inner};
 ghost use Rattle.escape_simd.specs.Formatted.{IsFormatted, IsWritten};
 ghost use Rattle.escape_simd.specs.Headline.{IsOnlyOutput};
 ghost use Rattle.escape_simd.specs.Laws.{IsOfOneText};
@@ -57,4 +57,13 @@ pub fn format_string<const HTML: bool>(value: &str, dst: &mut [u8]) -> usize
     ensures equal_texts { IsOfOneText (mode_of HTML) value.now (take result dst.new) }
 {
     body::format_string::<Simd256u, HTML, 32, 4, false>(value, dst)
+}
+
+/// Escapes the bytes to `dst` from `to` on, with no quotation marks, and answers the place reached.
+pub(crate) fn escape_at<const HTML: bool>(src: &[u8], dst: &mut [u8], to: usize) -> usize
+    requires { to + 6 * length src.now + 32 ≤ length dst.old }
+    ensures end { result ≡ to + length (inner (mode_of HTML) src.now) }
+    ensures written { take result dst.new ≡ take to dst.old ++ inner (mode_of HTML) src.now }
+{
+    body::escape_at::<Simd256u, HTML, 32, 4, false>(src, dst, to)
 }

@@ -6,7 +6,7 @@ ghost use Rattle.escape_lanes.specs.Mode.{mode_of};
 ghost use Rattle.escape_lanes.specs.Replacement.{needs_escape};
 ghost use Rattle.escape_lanes.specs.Written.{bytes_of, stored_of, escaped_of, quotes_of, IsSameSlice};
 ghost use Rattle.escape_simd.specs.Modes.{mode_numbered};
-ghost use Rattle.escape_simd.specs.Output.{bound, quote_of};
+ghost use Rattle.escape_simd.specs.Output.{bound, inner, quote_of};
 ghost use Rattle.escape_simd.specs.Formatted.{IsFormatted, IsWritten};
 ghost use Rattle.escape_simd.specs.Headline.{IsOnlyOutput};
 ghost use Rattle.escape_simd.specs.Laws.{IsOfOneText};
@@ -347,6 +347,49 @@ pub(crate) fn escape_bytes<
         end = reached;
     }
     end
+}
+
+/// Escapes the bytes to `dst` from `to` on, with no quotation marks, and answers the place reached.
+#[inline(always)]
+fn escape_in_mode<
+    V: Classify<MODE>,
+    const MODE: u8,
+    const N: usize,
+    const CHUNK: usize,
+    const EXACT: bool,
+>(src: &[u8], dst: &mut [u8], to: usize) -> usize
+    requires lanes { V.LANES ≡ N }
+    requires chunk { 1 ≤ CHUNK }
+    requires narrow { EXACT ≡ false → N ≤ 32 }
+    requires room { to + 6 * length src.now + 32 ≤ length dst.old }
+    ensures end { result ≡ to + length (inner (mode_numbered MODE) src.now) }
+    ensures written { take result dst.new ≡ take to dst.old ++ inner (mode_numbered MODE) src.now }
+{
+    let mut target = Target::<N>::new(dst);
+    let mut ticks = Ticks::new();
+    escape_bytes::<V, MODE, N, CHUNK, EXACT>(src, &mut target, to, &mut ticks)
+}
+
+/// The same in one of the two modes of the public calls.
+#[inline(always)]
+pub(crate) fn escape_at<
+    V: Classify<{ JSON_MODE }> + Classify<{ HTML_MODE }>,
+    const HTML: bool,
+    const N: usize,
+    const CHUNK: usize,
+    const EXACT: bool,
+>(src: &[u8], dst: &mut [u8], to: usize) -> usize
+    requires lanes { V.LANES ≡ N }
+    requires chunk { 1 ≤ CHUNK }
+    requires narrow { EXACT ≡ false → N ≤ 32 }
+    requires room { to + 6 * length src.now + 32 ≤ length dst.old }
+    ensures end { result ≡ to + length (inner (mode_of HTML) src.now) }
+    ensures written { take result dst.new ≡ take to dst.old ++ inner (mode_of HTML) src.now }
+{
+    if HTML {
+        return escape_in_mode::<V, { HTML_MODE }, N, CHUNK, EXACT>(src, dst, to);
+    }
+    escape_in_mode::<V, { JSON_MODE }, N, CHUNK, EXACT>(src, dst, to)
 }
 
 /// A quotation mark in JSON, nothing in HTML. Answers the place after it.

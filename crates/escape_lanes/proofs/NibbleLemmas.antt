@@ -1,5 +1,5 @@
 -- The nibble tables, and the look-ups of a vector's lanes in them.
-use Rattle.std.proofs.Common.{◌≡◌, ℕ, ◌+◌, ◌*◌, ◌/◌, ◌%◌, ◌^◌, ◌<◌, not, List, length, replicate, map, nat_eq, get_or, slice_index, bit_and, refl, sym, ap, ◌∙◌, arith}
+use Rattle.std.proofs.Common.{◌≡◌, ℕ, ◌+◌, ◌*◌, ◌/◌, ◌%◌, ◌^◌, ◌<◌, not, List, [], ◌∷◌, length, replicate, map, nat_eq, get_or, slice_index, bit_and, refl, sym, ap, ◌∙◌, arith}
 use Rattle.std.proofs.lemmas.List.{get_or-map, ext_get_or, length-map}
 use Rattle.std.proofs.lemmas.Nat.{and_le_r}
 use Rattle.std.proofs.lemmas.Simd.{swz_l, SwzOk, SwzOk-from_below, length-swz_l, get_or-swz_l_below, zip2_splat, zip2_of_maps, map-map, Each1-from_get_or}
@@ -7,9 +7,9 @@ use Rattle.std.specs.Simd.Lanes.{zip2}
 use mir.Syntax.{w8}
 use Rattle.escape_lanes.specs.Lanes.{AreBytes}
 use Rattle.escape_lanes.specs.Mode.{html}
-use Rattle.escape_lanes.specs.Nibble.{html_flags}
+use Rattle.escape_lanes.specs.Nibble.{html_flags, html_candidate}
 use Rattle.escape_lanes.specs.Replacement.{needs_escape}
-use Rattle.escape_lanes.specs.declared.tables.nibble.TheConstants.{HTML_LO_NIBBLE_TAB, HTML_HI_NIBBLE_TAB}
+use Rattle.escape_lanes.specs.declared.tables.nibble.TheConstants.{HTML_LO_NIBBLE_TAB, HTML_HI_NIBBLE_TAB, HTML_CANDIDATE_TAB}
 use Rattle.escape_lanes.proofs.LaneLemmas.{map-bytes}
 
 -- a byte has a flag exactly where HTML escapes it, for each of the 256 bytes
@@ -74,6 +74,12 @@ module _ (n : ℕ) (v : List ℕ) (bytes : AreBytes n v) (blocks : n % 16 ≡ 0)
   pub high_ok : SwzOk w8 16 n 0 (zip2 (λ a b. a / 2 ^ b) v (replicate n 4))
   high_ok = rw high (places_ok (λ b. b / 16) high_place n v bytes blocks)
 
+  -- the look-up of the candidates
+  pub candidates-looked_up : (t : List ℕ)
+      → ((k : ℕ) → k < n → slice_index t k ≡ slice_index HTML_CANDIDATE_TAB (k % 16))
+      → swz_l w8 16 t 0 (zip2 bit_and v (replicate n 15)) ≡ map html_candidate v
+  candidates-looked_up t again = ap (λ js. swz_l w8 16 t 0 js) low ∙ looked_up (λ b. bit_and b 15) low_place n v bytes blocks t HTML_CANDIDATE_TAB again
+
   -- both look-ups, joined by an and
   pub flags-looked_up : (t u : List ℕ)
       → ((k : ℕ) → k < n → slice_index t k ≡ slice_index HTML_LO_NIBBLE_TAB (k % 16))
@@ -97,3 +103,19 @@ module _ (n : ℕ) (v flags : List ℕ) (bytes : AreBytes n v) (e : flags ≡ ma
       ∙ ap (λ xs. map (λ b. not (nat_eq b 0)) xs) e
       ∙ map-map (λ b. not (nat_eq b 0)) html_flags v
       ∙ flags-need n v bytes
+
+-- the comparison of the lanes with their candidates
+module _ (n : ℕ) (v candidates : List ℕ) (bytes : AreBytes n v) (e : candidates ≡ map html_candidate v) where
+  -- as many candidates as lanes
+  pub length-candidates : length candidates ≡ n
+  length-candidates = ap length e ∙ length-map v html_candidate ∙ bytes.full
+
+  -- a lane that is its candidate is a need, for each of the 256 bytes
+  pub candidate-need : zip2 nat_eq v candidates ≡ map (needs_escape html) v
+  candidate-need =
+      zip2_of_maps nat_eq (λ b. b) html_candidate v (sym (map-same v)) e
+      ∙ map-bytes (λ b. nat_eq b (html_candidate b)) (needs_escape html) n v bytes refl
+    where
+      map-same : (xs : List ℕ) → map (λ b. b) xs ≡ xs
+      map-same [] = refl
+      map-same (x ∷ xs) = ap (λ ys. x ∷ ys) (map-same xs)

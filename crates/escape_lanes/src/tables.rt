@@ -10,6 +10,7 @@ mod nibble;
 
 pub use html::{HTML_ESCAPE_TAB, HTML_NEED_ESCAPED};
 pub use json::{NEED_ESCAPED, QUOTE_TAB};
+pub(crate) use nibble::HTML_CANDIDATE_TAB;
 pub use nibble::{HTML_HI_NIBBLE_TAB, HTML_LO_NIBBLE_TAB};
 
 /// The byte's entry in [`QUOTE_TAB`], by reference: the count of bytes that stand for it in a JSON

@@ -5,13 +5,13 @@ ghost use Rattle.std.proofs.Common.{◌∙◌, lit≤};
 ghost use Rattle.std.proofs.lemmas.List.{length-map};
 ghost use Rattle.escape_lanes.specs.Lanes.{AreBytes, AreWhole, set_lanes};
 ghost use Rattle.escape_lanes.specs.Mode.{mode_of};
-ghost use Rattle.escape_lanes.specs.Nibble.{html_flags};
+ghost use Rattle.escape_lanes.specs.Nibble.{html_candidate};
 ghost use Rattle.escape_lanes.specs.Replacement.{needs_escape};
 
 use crate::simd::lanes;
 use crate::simd::target::Ticks;
 use crate::simd::traits::{BitMask, Mask, Simd};
-use crate::tables::{HTML_HI_NIBBLE_TAB, HTML_LO_NIBBLE_TAB};
+use crate::tables::HTML_CANDIDATE_TAB;
 use std::ops::{BitAnd, BitOr, BitOrAssign};
 use std::simd::prelude::*;
 
@@ -149,15 +149,13 @@ impl Simd for Simd256u {
     }
 }
 
-/// The bits that both nibble tables have for each lane.
+/// The candidate of each lane: the byte that HTML escapes with its low half.
 #[inline(always)]
-fn nibble_flags(v: &u8x32) -> u8x32
+fn candidates(v: &u8x32) -> u8x32
     requires { AreBytes 32 v.now }
-    ensures { result ≡ map html_flags v.now }
+    ensures { result ≡ map html_candidate v.now }
 {
-    let low = lanes::repeated(&HTML_LO_NIBBLE_TAB).swizzle_dyn_within::<16>(*v & u8x32::splat(15));
-    let high = lanes::repeated(&HTML_HI_NIBBLE_TAB).swizzle_dyn_within::<16>(*v >> u8x32::splat(4));
-    low & high
+    lanes::repeated(&HTML_CANDIDATE_TAB).swizzle_dyn_within::<16>(*v & u8x32::splat(15))
 }
 
 /// The lanes of `v` whose bytes need an escape: in HTML if `HTML`, else in JSON. It ticks once.
@@ -170,7 +168,7 @@ pub fn escaped_mask<const HTML: bool>(v: &Simd256u, ticks: &mut Ticks) -> u32
 {
     ticks.tick();
     let needs = if HTML {
-        lanes::html_needs(&v.lanes, &nibble_flags(&v.lanes))
+        lanes::html_needs_by_candidates(&v.lanes, &candidates(&v.lanes))
     } else {
         lanes::json_needs(&v.lanes)
     };

@@ -7,7 +7,7 @@ ghost use Rattle.std.specs.Simd.Lanes.{zip2};
 ghost use Rattle.escape_lanes.specs.Bits.{bits_of};
 ghost use Rattle.escape_lanes.specs.Lanes.{AreBytes, AreWhole, set_lanes};
 ghost use Rattle.escape_lanes.specs.Mode.{json, html};
-ghost use Rattle.escape_lanes.specs.Nibble.{html_flags};
+ghost use Rattle.escape_lanes.specs.Nibble.{html_flags, html_candidate};
 ghost use Rattle.escape_lanes.specs.Replacement.{needs_escape};
 
 use std::simd::prelude::*;
@@ -169,5 +169,23 @@ pub(crate) fn html_needs<const N: usize>(v: &Simd<u8, N>, flags: &Simd<u8, N>) -
 {
     flags
         .simd_ne(Simd::splat(0))
+        .select(Simd::splat(255), Simd::splat(0))
+}
+
+/// Where HTML needs an escape, by the candidate of each lane: the lane is one of the six bytes exactly
+/// where it is its candidate.
+///
+/// Each kernel looks the candidates up itself, as it does the flags.
+#[inline(always)]
+pub(crate) fn html_needs_by_candidates<const N: usize>(
+    v: &Simd<u8, N>,
+    candidates: &Simd<u8, N>,
+) -> Simd<u8, N>
+    requires bytes { AreBytes N v.now }
+    requires candidates { candidates.now ≡ map html_candidate v.now }
+    ensures whole { AreWhole 255 N result }
+    ensures lanes { set_lanes 255 result ≡ map (needs_escape html) v.now }
+{
+    v.simd_eq(*candidates)
         .select(Simd::splat(255), Simd::splat(0))
 }

@@ -8,3 +8,12 @@ pub static HTML_LO_NIBBLE_TAB: [u8; 16] = [0, 0, 1, 0, 0, 0, 2, 4, 0, 0, 0, 0, 1
 
 /// The bits that are left of [`HTML_LO_NIBBLE_TAB`], by the high four bits of a byte.
 pub static HTML_HI_NIBBLE_TAB: [u8; 16] = [0, 0, 15, 48, 0, 0, 0, 0, 0, 0, 0, 0, 0, 0, 0, 0];
+
+/// The one byte that HTML escapes with each low half, at that half: a byte `b` is escaped exactly where
+/// `HTML_CANDIDATE_TAB[b & 15]` is `b` itself.
+///
+/// No two of the six bytes share their low half. Where a half has none, the entry is a byte with another
+/// low half.
+pub(crate) static HTML_CANDIDATE_TAB: [u8; 16] = [
+    255, 0, 0x22, 0, 0, 0, 0x26, 0x27, 0, 0, 0, 0, 0x3c, 0, 0x3e, 0x2f,
+];

@@ -1,8 +1,9 @@
-//! 32 bytes in a vector of `std::simd`. HTML is classified by nibble tables.
-ghost use Rattle.std.specs.Prelude.{◌≡◌, ◌+◌, ◌||◌, ◌&&◌, ℕ, map, nat_eq, refl};
+//! 32 bytes in a vector of `std::simd`, with one bit a lane in the mask. HTML is classified by nibble
+//! tables.
+ghost use Rattle.std.specs.Prelude.{◌≡◌, ◌+◌, ◌||◌, ◌&&◌, ℕ, map, refl};
 ghost use Rattle.std.specs.Simd.Lanes.{zip2};
-ghost use Rattle.std.proofs.Common.{◌∙◌, lit≤};
-ghost use Rattle.std.proofs.lemmas.List.{length-map};
+ghost use Rattle.std.proofs.Common.{lit≤};
+ghost use Rattle.escape_lanes.specs.Bits.{bits_of, length-bits_of};
 ghost use Rattle.escape_lanes.specs.Lanes.{AreBytes, AreWhole, set_lanes};
 ghost use Rattle.escape_lanes.specs.Mode.{mode_of};
 ghost use Rattle.escape_lanes.specs.Nibble.{html_candidate};
@@ -25,20 +26,28 @@ pub struct Simd256u {
 /// A truth value for each lane of a [`Simd256u`].
 #[derive(Debug, Clone, Copy)]
 pub struct Mask256 {
-    // 00 in a lane that is clear, and ff in one that is set.
-    lanes: u8x32,
-    ghost are_whole: { AreWhole 255 32 lanes },
+    // Bit `i` is set where lane `i` is.
+    bits: u32,
+}
+
+/// One bit for each lane of a mask, the first lane's lowest.
+#[inline(always)]
+fn bits(mask: &u8x32) -> u32
+    requires { AreWhole 255 32 mask.now }
+    ensures { bits_of 32 result ≡ set_lanes 255 mask.now }
+{
+    lanes::bits(mask) as u32
 }
 
 impl BitOr for Mask256 {
     type Output = Mask256;
 
-    ghost bitor_gives = { λ a b c. set_lanes 255 c.lanes ≡ zip2 ◌||◌ (set_lanes 255 a.lanes) (set_lanes 255 b.lanes) };
+    ghost bitor_gives = { λ a b c. bits_of 32 c.bits ≡ zip2 ◌||◌ (bits_of 32 a.bits) (bits_of 32 b.bits) };
 
     #[inline(always)]
     fn bitor(self, rhs: Mask256) -> Mask256 {
         Mask256 {
-            lanes: lanes::or(&self.lanes, &rhs.lanes),
+            bits: self.bits | rhs.bits,
         }
     }
 }
@@ -46,18 +55,18 @@ impl BitOr for Mask256 {
 impl BitAnd for Mask256 {
     type Output = Mask256;
 
-    ghost bitand_gives = { λ a b c. set_lanes 255 c.lanes ≡ zip2 ◌&&◌ (set_lanes 255 a.lanes) (set_lanes 255 b.lanes) };
+    ghost bitand_gives = { λ a b c. bits_of 32 c.bits ≡ zip2 ◌&&◌ (bits_of 32 a.bits) (bits_of 32 b.bits) };
 
     #[inline(always)]
     fn bitand(self, rhs: Mask256) -> Mask256 {
         Mask256 {
-            lanes: lanes::and(&self.lanes, &rhs.lanes),
+            bits: self.bits & rhs.bits,
         }
     }
 }
 
 impl BitOrAssign for Mask256 {
-    ghost bitor_assign_gives = { λ a b c. set_lanes 255 c.lanes ≡ zip2 ◌||◌ (set_lanes 255 a.lanes) (set_lanes 255 b.lanes) };
+    ghost bitor_assign_gives = { λ a b c. bits_of 32 c.bits ≡ zip2 ◌||◌ (bits_of 32 a.bits) (bits_of 32 b.bits) };
 
     #[inline(always)]
     fn bitor_assign(&mut self, rhs: Mask256) {
@@ -70,9 +79,9 @@ impl Mask for Mask256 {
 
     type BitMask = u32;
 
-    ghost truths = { λ m. set_lanes 255 m.lanes };
+    ghost truths = { λ m. bits_of 32 m.bits };
 
-    ghost width = { λ m. length-map m.lanes (λ b. nat_eq b 255) ∙ m.are_whole.full };
+    ghost width = { λ m. length-bits_of 32 m.bits };
 
     ghost can_or = { λ a b. tt };
 
@@ -88,7 +97,7 @@ impl Mask for Mask256 {
 
     #[inline(always)]
     fn bitmask(self) -> u32 {
-        lanes::bits(&self.lanes) as u32
+        self.bits
     }
 }
 
@@ -130,7 +139,7 @@ impl Simd for Simd256u {
     #[inline(always)]
     fn eq(&self, rhs: &Self) -> Mask256 {
         Mask256 {
-            lanes: lanes::eq(&self.lanes, &rhs.lanes),
+            bits: bits(&lanes::eq(&self.lanes, &rhs.lanes)),
         }
     }
 
@@ -144,7 +153,7 @@ impl Simd for Simd256u {
     #[inline(always)]
     fn le(&self, rhs: &Self) -> Mask256 {
         Mask256 {
-            lanes: lanes::le(&self.lanes, &rhs.lanes),
+            bits: bits(&lanes::le(&self.lanes, &rhs.lanes)),
         }
     }
 }
@@ -172,5 +181,5 @@ pub fn escaped_mask<const HTML: bool>(v: &Simd256u, ticks: &mut Ticks) -> u32
     } else {
         lanes::json_needs(&v.lanes)
     };
-    Mask256 { lanes: needs }.bitmask()
+    bits(&needs)
 }

@@ -1,9 +1,12 @@
-//! 16 bytes in an array, by plain loops. HTML is classified by one table look-up a byte.
+//! 16 bytes in an array, by plain loops, with one bit a lane in the mask. HTML is classified by one
+//! table look-up a byte.
+//!
+//! The classifiers hold a mask as an array of bytes, 1 in each lane that is set and 0 in the others,
+//! and take its bits once, at the end.
 ghost use Rattle.std.specs.Prelude.{◌≡◌, ◌+◌, ◌<◌, ◌||◌, ◌&&◌, ℕ, if◌then◌else◌, length, map, nat_eq, nat_le, refl, slice_index};
 ghost use Rattle.std.specs.Simd.Lanes.{zip2};
-ghost use Rattle.std.proofs.Common.{◌∙◌, lit≤};
-ghost use Rattle.std.proofs.lemmas.List.{length-map};
-ghost use Rattle.escape_lanes.specs.Bits.{bits_of};
+ghost use Rattle.std.proofs.Common.{lit≤};
+ghost use Rattle.escape_lanes.specs.Bits.{bits_of, length-bits_of};
 ghost use Rattle.escape_lanes.specs.Lanes.{AreBytes, AreWhole, set_lanes};
 ghost use Rattle.escape_lanes.specs.Mode.{json, html, mode_of};
 ghost use Rattle.escape_lanes.specs.Replacement.{needs_escape};
@@ -23,9 +26,8 @@ pub struct Simd128u {
 /// A truth value for each lane of a [`Simd128u`].
 #[derive(Debug, Drop)]
 pub struct Mask128 {
-    // 0 in a lane that is clear, and 1 in one that is set.
-    lanes: [u8; 16],
-    ghost are_whole: { AreWhole 1 16 lanes },
+    // Bit `i` is set where lane `i` is.
+    bits: u16,
 }
 
 /// What `f` makes of each lane of both.
@@ -75,17 +77,6 @@ fn or(a: &[u8; 16], b: &[u8; 16]) -> [u8; 16]
     each(a, b, |x, y| x | y)
 }
 
-/// Where both masks are set.
-#[inline(always)]
-fn and(a: &[u8; 16], b: &[u8; 16]) -> [u8; 16]
-    requires left { AreWhole 1 16 a.now }
-    requires right { AreWhole 1 16 b.now }
-    ensures whole { AreWhole 1 16 result }
-    ensures lanes { set_lanes 1 result ≡ zip2 ◌&&◌ (set_lanes 1 a.now) (set_lanes 1 b.now) }
-{
-    each(a, b, |x, y| x & y)
-}
-
 /// One bit for each lane of a mask, the first lane's lowest.
 #[inline(always)]
 fn bits(mask: &[u8; 16]) -> u16
@@ -102,12 +93,12 @@ fn bits(mask: &[u8; 16]) -> u16
 impl BitOr for Mask128 {
     type Output = Mask128;
 
-    ghost bitor_gives = { λ a b c. set_lanes 1 c.lanes ≡ zip2 ◌||◌ (set_lanes 1 a.lanes) (set_lanes 1 b.lanes) };
+    ghost bitor_gives = { λ a b c. bits_of 16 c.bits ≡ zip2 ◌||◌ (bits_of 16 a.bits) (bits_of 16 b.bits) };
 
     #[inline(always)]
     fn bitor(self, rhs: Mask128) -> Mask128 {
         Mask128 {
-            lanes: or(&self.lanes, &rhs.lanes),
+            bits: self.bits | rhs.bits,
         }
     }
 }
@@ -115,24 +106,22 @@ impl BitOr for Mask128 {
 impl BitAnd for Mask128 {
     type Output = Mask128;
 
-    ghost bitand_gives = { λ a b c. set_lanes 1 c.lanes ≡ zip2 ◌&&◌ (set_lanes 1 a.lanes) (set_lanes 1 b.lanes) };
+    ghost bitand_gives = { λ a b c. bits_of 16 c.bits ≡ zip2 ◌&&◌ (bits_of 16 a.bits) (bits_of 16 b.bits) };
 
     #[inline(always)]
     fn bitand(self, rhs: Mask128) -> Mask128 {
         Mask128 {
-            lanes: and(&self.lanes, &rhs.lanes),
+            bits: self.bits & rhs.bits,
         }
     }
 }
 
 impl BitOrAssign for Mask128 {
-    ghost bitor_assign_gives = { λ a b c. set_lanes 1 c.lanes ≡ zip2 ◌||◌ (set_lanes 1 a.lanes) (set_lanes 1 b.lanes) };
+    ghost bitor_assign_gives = { λ a b c. bits_of 16 c.bits ≡ zip2 ◌||◌ (bits_of 16 a.bits) (bits_of 16 b.bits) };
 
     #[inline(always)]
     fn bitor_assign(&mut self, rhs: Mask128) {
-        *self = Mask128 {
-            lanes: or(&self.lanes, &rhs.lanes),
-        };
+        self.bits |= rhs.bits;
     }
 }
 
@@ -141,9 +130,9 @@ impl Mask for Mask128 {
 
     type BitMask = u16;
 
-    ghost truths = { λ m. set_lanes 1 m.lanes };
+    ghost truths = { λ m. bits_of 16 m.bits };
 
-    ghost width = { λ m. length-map m.lanes (λ b. nat_eq b 1) ∙ m.are_whole.full };
+    ghost width = { λ m. length-bits_of 16 m.bits };
 
     ghost can_or = { λ a b. tt };
 
@@ -159,7 +148,7 @@ impl Mask for Mask128 {
 
     #[inline(always)]
     fn bitmask(self) -> u16 {
-        bits(&self.lanes)
+        self.bits
     }
 }
 
@@ -201,7 +190,7 @@ impl Simd for Simd128u {
     #[inline(always)]
     fn eq(&self, rhs: &Self) -> Mask128 {
         Mask128 {
-            lanes: eq(&self.lanes, &rhs.lanes),
+            bits: bits(&eq(&self.lanes, &rhs.lanes)),
         }
     }
 
@@ -213,20 +202,22 @@ impl Simd for Simd128u {
     #[inline(always)]
     fn le(&self, rhs: &Self) -> Mask128 {
         Mask128 {
-            lanes: le(&self.lanes, &rhs.lanes),
+            bits: bits(&le(&self.lanes, &rhs.lanes)),
         }
     }
 }
 
-/// The lanes whose bytes need an escape in JSON.
+/// Where JSON needs an escape.
 #[inline(always)]
-fn json_needs(v: &Simd128u) -> Mask128
-    ensures { set_lanes 1 result.lanes ≡ map (needs_escape json) v.now.lanes }
+fn json_needs(v: &[u8; 16]) -> [u8; 16]
+    requires { AreBytes 16 v.now }
+    ensures whole { AreWhole 1 16 result }
+    ensures lanes { set_lanes 1 result ≡ map (needs_escape json) v.now }
 {
-    let control = v.le(&Simd128u::splat(0x1f));
-    let backslash = v.eq(&Simd128u::splat(b'\\'));
-    let quote = v.eq(&Simd128u::splat(b'"'));
-    control | backslash | quote
+    let control = le(v, &[0x1f; 16]);
+    let backslash = eq(v, &[b'\\'; 16]);
+    let quote = eq(v, &[b'"'; 16]);
+    or(&or(&control, &backslash), &quote)
 }
 
 /// 1 where HTML needs an escape for the byte, else 0.
@@ -237,16 +228,18 @@ fn html_need(b: u8) -> u8
     HTML_NEED_ESCAPED[b as usize]
 }
 
-/// The lanes whose bytes need an escape in HTML.
+/// Where HTML needs an escape.
 #[inline(always)]
-fn html_needs(v: &Simd128u) -> Mask128
-    ensures { set_lanes 1 result.lanes ≡ map (needs_escape html) v.now.lanes }
+fn html_needs(v: &[u8; 16]) -> [u8; 16]
+    requires { AreBytes 16 v.now }
+    ensures whole { AreWhole 1 16 result }
+    ensures lanes { set_lanes 1 result ≡ map (needs_escape html) v.now }
 {
     let mut lanes = [0; 16];
     for k in 0..16 {
-        lanes[k] = html_need(v.lanes[k]);
+        lanes[k] = html_need(v[k]);
     }
-    Mask128 { lanes }
+    lanes
 }
 
 /// The lanes of `v` whose bytes need an escape: in HTML if `HTML`, else in JSON. It ticks once.
@@ -258,9 +251,10 @@ pub fn escaped_mask<const HTML: bool>(v: &Simd128u, ticks: &mut Ticks) -> u16
     ensures tick { ticks.new ≡ ticks.old + 1 }
 {
     ticks.tick();
-    if HTML {
-        html_needs(v).bitmask()
+    let needs = if HTML {
+        html_needs(&v.lanes)
     } else {
-        json_needs(v).bitmask()
-    }
+        json_needs(&v.lanes)
+    };
+    bits(&needs)
 }

@@ -14,7 +14,7 @@ use std::rt::Env;
 const USAGE_STATUS: u8 = 2;
 
 fn main(rt: HostRuntime) -> ExitCode {
-    let Some((mode, kernel)) = chosen(&rt) else {
+    let Some((mode, kernel)) = words(&rt).and_then(|words| chosen(words.as_slice())) else {
         let _ = rt.eprintln(USAGE);
         return ExitCode::from(USAGE_STATUS);
     };
@@ -24,21 +24,53 @@ fn main(rt: HostRuntime) -> ExitCode {
     }
 }
 
-/// What the program's words choose, where they can be taken and are one or two.
-fn chosen<R: Env + Alloc>(rt: &R) -> Option<(Mode, Kernel)> {
-    let mut words = env::args(rt).ok()?;
-    let _program = words.next();
-    let mode = words.next()?;
-    let kernel = words.next();
-    if words.next().is_some() {
-        return None;
+/// The words after the program's name, where they can be taken.
+fn words<R: Env + AllocGlobal>(rt: &R) -> Option<Vec<String>> {
+    let mut words = Vec::new(rt.alloc());
+    for word in env::args(rt).ok()?.skip(1) {
+        words.push(word).ok()?;
     }
-    let kernel = kernel.as_ref().map(|word| word.as_str());
-    choose(mode.as_str(), kernel)
+    Some(words)
+}
+
+/// What one or two words choose.
+fn chosen(words: &[String]) -> Option<(Mode, Kernel)> {
+    match words {
+        [mode] => choose(mode.as_str(), None),
+        [mode, kernel] => choose(mode.as_str(), Some(kernel.as_str())),
+        _ => None,
+    }
 }
 
 /// Says the fault on standard error. A failed write there has no one to be told to.
 fn failed(rt: &impl Eprint, fault: ToolFault) -> ExitCode {
     let _ = rt.eprintln(fault);
     ExitCode::FAILURE
+}
+
+#[cfg(test)]
+mod tests {
+    use super::*;
+    use std::test::Fail;
+
+    #[test]
+    fn takes_one_or_two_words(rt: HostRuntime) -> Result<(), Fail> {
+        let rows: [(&[&str], Option<(Mode, Kernel)>); 7] = [
+            (&["html"], Some((Mode::Html, Kernel::Avx2))),
+            (&["json", "v128"], Some((Mode::Json, Kernel::V128))),
+            (&[], None),
+            (&["html", "avx2", "avx2"], None),
+            (&["xml"], None),
+            (&["json", "avx"], None),
+            (&["neon", "html"], None),
+        ];
+        for (given, wanted) in rows {
+            let mut words = Vec::new(rt.alloc());
+            for word in given {
+                words.push(word.to_string(rt.alloc())?)?;
+            }
+            assert_eq!(rt; chosen(words.as_slice()), wanted);
+        }
+        Ok(())
+    }
 }

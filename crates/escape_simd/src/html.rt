@@ -6,13 +6,13 @@ ghost use Rattle.escape_simd.specs.Html.{IsOnlyHtml, AmpersandsBeginEntities};
 ghost use Rattle.escape_simd.specs.Spelling.{IsTextOf};
 ghost use Rattle.escape_simd.specs.Laws.{appended, JoinsTexts, IsOfOneText, HasOutputLength};
 
-pub(crate) mod each;
+mod each;
 mod error;
 
 use crate::output::{append, scratch_bound, text};
 pub use each::escape_html_each;
 pub use error::{EscapeHtmlError, InputTooLarge};
-use std::alloc::Global;
+use std::alloc::{Allocator, Global};
 
 /// How many bytes a target must have for a text of `len` bytes: `6 * len + 32`.
 ///
@@ -54,13 +54,38 @@ pub fn escape_html(alloc: Global, value: &str) -> Result<String, EscapeHtmlError
     ensures too_large { (result ≡ Err (EscapeHtmlError.TooLarge (record {})))
         ↔ (usize.MAX < bound html (length value.now)) }
 {
-    Ok(text::<true, Global>(alloc, value)?)
+    escape_html_in(alloc, value)
+}
+
+/// What [`escape_html`] answers, in memory of the caller's allocator, as an arena or a pool: to it alone the
+/// one request is made.
+///
+/// # Errors
+///
+/// Those of [`escape_html`].
+///
+/// ```text
+/// escape_html_in(&arena, "<")? == "&lt;"
+/// ```
+pub fn escape_html_in<A: Allocator>(alloc: A, value: &str) -> Result<String<A>, EscapeHtmlError>
+    ensures characters { OnOk result (IsTextOf value.now (chars value.now)) }
+    ensures exact { IfOk result (λ output. string_bytes output ≡ plain html value.now) }
+    ensures headline { IfOk result (λ output. IsOnlyHtml (string_bytes output) (chars value.now)) }
+    ensures ampersands { IfOk result (λ output. AmpersandsBeginEntities (string_bytes output)) }
+    ensures joined { IfOk result (λ output. JoinsTexts html value.now (string_bytes output)) }
+    ensures equal_texts { IfOk result (λ output. IsOfOneText html value.now (string_bytes output)) }
+    ensures len { IfOk result (λ output. HasOutputLength html
+        (length value.now) (string_bytes output)) }
+    ensures too_large { (result ≡ Err (EscapeHtmlError.TooLarge (record {})))
+        ↔ (usize.MAX < bound html (length value.now)) }
+{
+    Ok(text::<true, A>(alloc, value)?)
 }
 
 /// Appends the text as [`escape_html`] writes it to `dst`, whatever bytes `dst` holds.
 ///
-/// It asks for room for `6 * n + 32` bytes past those of `dst` where `dst` has less, and for no
-/// memory where it has that.
+/// It asks the allocator of `dst`, which may be the caller's own, for room for `6 * n + 32` bytes past
+/// those of `dst` where `dst` has less, and for no memory where it has that.
 ///
 /// # Errors
 ///
@@ -71,7 +96,10 @@ pub fn escape_html(alloc: Global, value: &str) -> Result<String, EscapeHtmlError
 /// escape_html_into("<", &mut dst)?;
 /// dst.as_slice() == b"\xff&lt;"
 /// ```
-pub fn escape_html_into(value: &str, dst: &mut Vec<u8>) -> Result<(), EscapeHtmlError>
+pub fn escape_html_into<A: Allocator>(
+    value: &str,
+    dst: &mut Vec<u8, A>,
+) -> Result<(), EscapeHtmlError>
     ensures exact { OnOk result (dst.new.items ≡ dst.old.items ++ plain html value.now) }
     ensures headline { OnOk result (IsOnlyHtml
         (appended dst.old.items dst.new.items) (chars value.now)) }
@@ -83,5 +111,5 @@ pub fn escape_html_into(value: &str, dst: &mut Vec<u8>) -> Result<(), EscapeHtml
     ensures has_room { vec_len dst.old + bound html (length value.now)
         ≤ vec_capacity dst.old → IsOk result }
 {
-    Ok(append::<true, Global>(value, dst)?)
+    Ok(append::<true, A>(value, dst)?)
 }

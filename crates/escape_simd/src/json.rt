@@ -10,7 +10,7 @@ mod error;
 
 use crate::output::{append, scratch_bound, text};
 pub use error::EscapeError;
-use std::alloc::Global;
+use std::alloc::{Allocator, Global};
 
 /// How many bytes a target must have for the literal of a text of `len` bytes: `6 * len + 35`.
 ///
@@ -52,13 +52,37 @@ pub fn escape(alloc: Global, value: &str) -> Result<String, EscapeError>
     ensures too_large { (result ≡ Err EscapeError.TooLarge)
         ↔ (usize.MAX < bound json (length value.now)) }
 {
-    Ok(text::<false, Global>(alloc, value)?)
+    escape_in(alloc, value)
+}
+
+/// What [`escape`] answers, in memory of the caller's allocator, as an arena or a pool: to it alone the
+/// one request is made.
+///
+/// # Errors
+///
+/// Those of [`escape`].
+///
+/// ```text
+/// escape_in(&arena, "x")? == "\"x\""
+/// ```
+pub fn escape_in<A: Allocator>(alloc: A, value: &str) -> Result<String<A>, EscapeError>
+    ensures characters { OnOk result (IsTextOf value.now (chars value.now)) }
+    ensures exact { IfOk result (λ output. string_bytes output ≡ plain json value.now) }
+    ensures headline { IfOk result (λ output. IsOnlyJson (string_bytes output) (chars value.now)) }
+    ensures joined { IfOk result (λ output. JoinsTexts json value.now (string_bytes output)) }
+    ensures equal_texts { IfOk result (λ output. IsOfOneText json value.now (string_bytes output)) }
+    ensures len { IfOk result (λ output. HasOutputLength json
+        (length value.now) (string_bytes output)) }
+    ensures too_large { (result ≡ Err EscapeError.TooLarge)
+        ↔ (usize.MAX < bound json (length value.now)) }
+{
+    Ok(text::<false, A>(alloc, value)?)
 }
 
 /// Appends the literal that [`escape`] answers to `dst`, whatever bytes `dst` holds.
 ///
-/// It asks for room for `6 * n + 35` bytes past those of `dst` where `dst` has less, and for no
-/// memory where it has that.
+/// It asks the allocator of `dst`, which may be the caller's own, for room for `6 * n + 35` bytes past
+/// those of `dst` where `dst` has less, and for no memory where it has that.
 ///
 /// # Errors
 ///
@@ -69,7 +93,7 @@ pub fn escape(alloc: Global, value: &str) -> Result<String, EscapeError>
 /// escape_into("\t", &mut dst)?;
 /// dst.as_slice() == b"\xff\"\\t\""
 /// ```
-pub fn escape_into(value: &str, dst: &mut Vec<u8>) -> Result<(), EscapeError>
+pub fn escape_into<A: Allocator>(value: &str, dst: &mut Vec<u8, A>) -> Result<(), EscapeError>
     ensures exact { OnOk result (dst.new.items ≡ dst.old.items ++ plain json value.now) }
     ensures headline { OnOk result (IsOnlyJson
         (appended dst.old.items dst.new.items) (chars value.now)) }
@@ -81,5 +105,5 @@ pub fn escape_into(value: &str, dst: &mut Vec<u8>) -> Result<(), EscapeError>
     ensures has_room { vec_len dst.old + bound json (length value.now)
         ≤ vec_capacity dst.old → IsOk result }
 {
-    Ok(append::<false, Global>(value, dst)?)
+    Ok(append::<false, A>(value, dst)?)
 }

@@ -2,9 +2,10 @@
 //!
 //! [`json::escape`] answers the string literal of a text (RFC 8259, section 7), and
 //! [`html::escape_html`] the text with `"`, `&`, `'`, `/`, `<` and `>` as entities.
+//! [`json::escape_in`] and [`html::escape_html_in`] take an allocator of the caller's own.
 //! [`json::escape_into`], [`html::escape_html_into`] and [`html::escape_html_each`] append to a
-//! vector of bytes instead. [`format_json_string`] and [`format_html_string`] write to a slice by the
-//! kernel that they are told, and take no memory.
+//! vector of bytes instead, of any allocator. [`format_json_string`] and [`format_html_string`] write
+//! to a slice by the kernel that they are told, and take no memory.
 //!
 //! ```text
 //! escape(alloc, "a\n")? == "\"a\\n\""
@@ -22,6 +23,3 @@ pub mod simd;
 pub use escape_lanes::tables;
 pub use format::{format_html_string, format_json_string};
 pub use kernel::Kernel;
-
-#[cfg(test)]
-mod tests;

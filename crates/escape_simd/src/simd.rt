@@ -6,8 +6,6 @@ mod body;
 mod classify;
 pub mod neon;
 pub mod sse2;
-#[cfg(test)]
-mod tests;
 pub mod util;
 pub mod v128;
 

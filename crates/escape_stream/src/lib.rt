@@ -19,7 +19,7 @@ mod stream;
 mod words;
 
 pub use fault::ToolFault;
-pub use stream::run;
+pub use stream::{run, run_in};
 pub use words::{Mode, USAGE, choose};
 
 #[cfg(test)]

@@ -11,7 +11,7 @@ use crate::input::read_whole;
 use crate::output::write_whole;
 use crate::words::Mode;
 use escape_simd::Kernel;
-use std::alloc::Global;
+use std::alloc::{Allocator, Global};
 use std::io::{Read, Write};
 use std::str;
 
@@ -30,6 +30,46 @@ use std::str;
 /// latest where it passes the greatest size of a vector.
 pub fn run<R: Read, W: Write>(
     alloc: Global,
+    mode: Mode,
+    kernel: Kernel,
+    input: &mut R,
+    output: &mut W,
+) -> Result<(), ToolFault>
+    // At `Ok` the whole input was read and is text, and exactly its escaping was appended.
+    ensures exact { OnOk result (WholeInput (R.remaining input.old) (R.remaining input.new)
+        (AppendsEscaped (escaping mode) (W.contents output.old) (W.contents output.new))) }
+
+    // The same, where the input's bytes are known.
+    ensures headline { OnOk result (IfSome (R.remaining input.old) (λ bytes.
+        Appends (W.contents output.old) (W.contents output.new) (plain (escaping mode) bytes))) }
+
+    // What a fault leaves.
+    ensures unchanged { IfErr result (λ fault. fault ≢ ToolFault.WriteFailed
+        → Keeps (W.contents output.old) (W.contents output.new)) }
+    ensures beginning { IsErrOf result ToolFault.WriteFailed
+        → WholeInput (R.remaining input.old) (R.remaining input.new)
+        (AppendsEscapedBeginning (escaping mode) (W.contents output.old) (W.contents output.new)) }
+
+    // When a refusal comes.
+    ensures not_utf8 { IsErrOf result ToolFault.NotUtf8
+        → WholeInput (R.remaining input.old) (R.remaining input.new) (λ bytes. ¬ IsUtf8 bytes) }
+    ensures too_large { IsErrOf result ToolFault.TooLarge
+        → WholeInput (R.remaining input.old) (R.remaining input.new)
+        (λ bytes. IsUtf8 bytes × (usize.MAX < bound (escaping mode) (length bytes))) }
+{
+    run_in(alloc, mode, kernel, input, output)
+}
+
+/// What [`run`] does, in memory of the caller's allocator. One that can't be copied, as an arena, is
+/// lent: `&arena` is an allocator too.
+///
+/// It asks for room for the input, and once for what the output may take.
+///
+/// # Errors
+///
+/// Those of [`run`].
+pub fn run_in<A: Allocator + Copy, R: Read, W: Write>(
+    alloc: A,
     mode: Mode,
     kernel: Kernel,
     input: &mut R,

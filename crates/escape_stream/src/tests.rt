@@ -1,15 +1,12 @@
-//! What no clause says: that a run succeeds, which fault a reader's, a writer's or the memory's
-//! failure gives, and that a run flushes.
+//! What no clause says: that a run succeeds, which fault a reader's or a writer's failure gives, and
+//! that a run flushes. Refused memory is tried in `escape_checks`.
 ghost use Rattle.std.specs.Prelude.{◌≡◌, IfOk};
-ghost use Rattle.std.specs.Borrow.{ffalse};
 ghost use Rattle.escape_lanes.specs.Mode.{html};
 ghost use Rattle.escape_simd.specs.Output.{plain};
 
-use crate::escaped::escaped;
-use crate::input::read_whole;
 use crate::{Mode, ToolFault, USAGE, choose, run};
 use escape_simd::Kernel;
-use std::alloc::{AllocError, Allocator, Global};
+use std::alloc::Global;
 use std::io;
 use std::io::{ErrorKind, Read, Write};
 use std::test::Fail;
@@ -24,19 +21,7 @@ const KERNELS: [Kernel; 5] = [
 
 const MODES: [Mode; 2] = [Mode::Json, Mode::Html];
 
-/// Refuses every request for memory.
-#[derive(Clone, Copy)]
-struct NoMemory;
-
-unsafe impl Allocator for NoMemory {
-    ghost dealloc_token = { λ _ _ _. ffalse };
-
-    fn allocate(&self, _size: usize, _align: usize) -> Result<*mut u8, AllocError> {
-        Err(AllocError)
-    }
-
-    unsafe fn deallocate(&self, _ptr: *mut u8, _size: usize, _align: usize) {}
-}
+const FAILED: Result<(), ToolFault> = Err(ToolFault::WriteFailed);
 
 /// Gives its bytes one a call, then one error where it has one, and then the end.
 #[derive(Drop)]
@@ -62,21 +47,25 @@ impl Read for OneByOne<'_> {
     }
 }
 
-/// Takes at most `step` bytes a call while it has room, and then none, or fails.
+/// Takes at most `step` bytes a call while it has room, and then none. Where it has an error it gives
+/// that once in place of the first none, and takes the rest after it, as if it had been interrupted.
 #[derive(Drop)]
 struct Narrow {
     held: Vec<u8>,
     step: usize,
     room: usize,
-    fails_when_full: bool,
+    error: Option<ErrorKind>,
     fails_at_flush: bool,
 }
 
 impl Write for Narrow {
     fn write(&mut self, buf: &[u8]) -> io::Result<usize> {
         let count = buf.len().min(self.step).min(self.room);
-        if count == 0 && self.fails_when_full {
-            return Err(ErrorKind::Other.into());
+        if count == 0
+            && let Some(kind) = self.error.take()
+        {
+            self.room = usize::MAX;
+            return Err(kind.into());
         }
         self.held.extend_from_slice(&buf[..count])?;
         self.room -= count;
@@ -244,14 +233,14 @@ fn escapes_less_than(
     rt: &HostRuntime,
     step: usize,
     room: usize,
-    fails_when_full: bool,
+    error: Option<ErrorKind>,
     fails_at_flush: bool,
 ) -> Result<(Result<(), ToolFault>, Vec<u8>), Fail> {
     let mut output = Narrow {
         held: Vec::new(rt.alloc()),
         step,
         room,
-        fails_when_full,
+        error,
         fails_at_flush,
     };
     let mut input = b"<".as_slice();
@@ -267,21 +256,39 @@ fn escapes_less_than(
 
 #[test]
 fn writes_to_narrow_writers(rt: HostRuntime) -> Result<(), Fail> {
-    let (result, held) = escapes_less_than(&rt, 1, 9, true, false)?;
-    assert_eq!(rt; result, Ok(()));
-    assert_eq!(rt; held.as_slice(), b"&lt;".as_slice());
-
-    let (result, held) = escapes_less_than(&rt, 2, 2, true, false)?;
-    assert_eq!(rt; result, Err(ToolFault::WriteFailed));
-    assert_eq!(rt; held.as_slice(), b"&l".as_slice());
-
-    let (result, held) = escapes_less_than(&rt, 3, 3, false, false)?;
-    assert_eq!(rt; result, Err(ToolFault::WriteFailed));
-    assert_eq!(rt; held.as_slice(), b"&lt".as_slice());
-
-    let (result, held) = escapes_less_than(&rt, 9, 9, true, true)?;
-    assert_eq!(rt; result, Err(ToolFault::WriteFailed));
-    assert_eq!(rt; held.as_slice(), b"&lt;".as_slice());
+    for (step, room, error, fails_at_flush, outcome, grown) in [
+        (1, 9, None, false, Ok(()), b"&lt;".as_slice()),
+        (3, 3, None, false, FAILED, b"&lt".as_slice()),
+        (
+            2,
+            2,
+            Some(ErrorKind::Other),
+            false,
+            FAILED,
+            b"&l".as_slice(),
+        ),
+        (
+            9,
+            0,
+            Some(ErrorKind::Interrupted),
+            false,
+            FAILED,
+            b"".as_slice(),
+        ),
+        (
+            1,
+            1,
+            Some(ErrorKind::Interrupted),
+            false,
+            FAILED,
+            b"&".as_slice(),
+        ),
+        (9, 9, None, true, FAILED, b"&lt;".as_slice()),
+    ] {
+        let (result, held) = escapes_less_than(&rt, step, room, error, fails_at_flush)?;
+        assert_eq!(rt; result, outcome, "{step} {room}");
+        assert_eq!(rt; held.as_slice(), grown, "{step} {room}");
+    }
     Ok(())
 }
 
@@ -301,16 +308,4 @@ fn reads_a_large_input(rt: HostRuntime) -> Result<(), Fail> {
     let output = html_of(rt.alloc(), letters.as_slice())?;
     assert!(rt; output.as_slice() == letters.as_slice());
     Ok(())
-}
-
-// A run asks for memory in these two calls, and on so short an input once in each.
-#[test]
-fn says_that_memory_was_refused(rt: HostRuntime) {
-    let mut input = b"<".as_slice();
-    let bytes = read_whole(NoMemory, &mut input);
-    assert_eq!(rt; bytes.err(), Some(ToolFault::OutOfMemory));
-    for mode in MODES {
-        let output = escaped(NoMemory, mode, Kernel::Avx2, "<");
-        assert_eq!(rt; output.err(), Some(ToolFault::OutOfMemory));
-    }
 }

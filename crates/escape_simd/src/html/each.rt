@@ -6,10 +6,10 @@ ghost use Rattle.escape_simd.specs.Output.{plain, bound};
 
 use crate::html::EscapeHtmlError;
 use crate::output::append;
-use std::alloc::{Allocator, Global};
+use std::alloc::Allocator;
 
 /// Appends the texts one after another as [`escape_html`](crate::html::escape_html) writes them,
-/// and stops at the first that is refused. Each text asks for its own room.
+/// and stops at the first that is refused. Each text asks for its own room, of the vector's allocator.
 ///
 /// # Errors
 ///
@@ -21,22 +21,7 @@ use std::alloc::{Allocator, Global};
 /// escape_html_each(&["<", "", "a&"], &mut dst)?;
 /// dst.as_slice() == b"A&lt;a&amp;"
 /// ```
-pub fn escape_html_each(values: &[&str], dst: &mut Vec<u8>) -> Result<(), (usize, EscapeHtmlError)>
-    ensures exact { OnOk result (dst.new.items
-        ≡ dst.old.items ++ plain html (concat (map (λ v. v.now) values.now))) }
-    ensures fits { OnOk result (All (λ v. bound html (length v.now) ≤ usize.MAX) values.now) }
-    ensures stopped { IfErr result (λ refusal. dst.new.items
-        ≡ dst.old.items ++ plain html (concat (take refusal.0 (map (λ v. v.now) values.now)))) }
-    ensures inside { IfErr result (λ refusal. refusal.0 < length values.now) }
-    ensures too_large { IfErr result (λ refusal. IfSome (slice_get values.now refusal.0) (λ v.
-        (refusal.1 ≡ EscapeHtmlError.TooLarge (record {}))
-        ↔ (usize.MAX < bound html (length v.now)))) }
-{
-    append_each::<Global>(values, dst)
-}
-
-/// The same over any allocator.
-pub(crate) fn append_each<A: Allocator>(
+pub fn escape_html_each<A: Allocator>(
     values: &[&str],
     dst: &mut Vec<u8, A>,
 ) -> Result<(), (usize, EscapeHtmlError)>

@@ -2,7 +2,7 @@ use Rattle.std.proofs.Common.{◌≡◌, ℕ, ◌<◌, ◌≤◌, ◌++◌, List
 use Rattle.std.specs.List.{concat}
 use Rattle.escape_lanes.specs.Mode.{html}
 use Rattle.escape_simd.specs.Output.{plain, bound}
-use Rattle.escape_simd.proofs.html.each.append_each.Given as goal
+use Rattle.escape_simd.proofs.html.each.escape_html_each.Given as goal
 
 -- the texts so far are written, and none of them was too large
 abbrev pub invariant-loop-count : goal.invariant-loop-count

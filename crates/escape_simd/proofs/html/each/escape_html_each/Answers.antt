@@ -3,7 +3,7 @@ use Rattle.std.proofs.lemmas.Option.{slice_get-get_or}
 use Rattle.escape_lanes.specs.Mode.{html}
 use Rattle.escape_simd.specs.Output.{bound}
 use Rattle.escape_simd.proofs.JoinedLemmas.{written_more, each_more}
-use Rattle.escape_simd.proofs.html.each.append_each.Goals as goal
+use Rattle.escape_simd.proofs.html.each.escape_html_each.Goals as goal
 
 pub loop-count-preserved : goal.loop-count-preserved
 loop-count-preserved g c =

@@ -1,7 +1,7 @@
 use Rattle.std.proofs.Common.{sym, subst}
 use Rattle.escape_simd.specs.Html.{AmpersandsBeginEntities}
 use Rattle.escape_simd.proofs.HtmlLemmas.{plain_ampersands}
-use Rattle.escape_simd.proofs.html.escape_html.Goals as goal
+use Rattle.escape_simd.proofs.html.escape_html_in.Goals as goal
 
 pub returns-clause-ampersands : goal.returns-clause-ampersands
-returns-clause-ampersands c = subst AmpersandsBeginEntities (sym c.in_ok-text.ensures.exact) (plain_ampersands c.args.value.now)
+returns-clause-ampersands g c = subst AmpersandsBeginEntities (sym c.in_ok-text.ensures.exact) (plain_ampersands c.args.value.now)

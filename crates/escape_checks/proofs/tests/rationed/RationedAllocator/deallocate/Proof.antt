@@ -38,11 +38,11 @@ use denote.RawPtr.{Ptr, block_ptr, null_ptr, ptr_val, rawptr_vals, rawptr_Tells}
 use denote.Builtin.{usize, RawPtr, RefOf}
 use denote.Triple.Call.{calls_at}
 use Rattle.std.proofs.alloc.Calls.{Al, α, seen, token, gives_key, Gives, at_gives, Gives-goes, Gives-Gives}
-use Rattle.escape_simd.specs.contracts.tests.rationed.Rationed as wrapper
-use Rattle.escape_simd.specs.contracts.tests.rationed.RationedAllocator.deallocate as F
-use Rattle.escape_simd.specs.contracts.tests.rationed.RationedAllocator.deallocate.Key as key
-use Rattle.escape_simd.proofs.tests.rationed.RationedAllocator.deallocate.Statement as stated
-use Rattle.escape_simd.proofs.tests.rationed.RationedAllocator.deallocate.Code as code
+use Rattle.escape_checks.specs.contracts.tests.rationed.Rationed as wrapper
+use Rattle.escape_checks.specs.contracts.tests.rationed.RationedAllocator.deallocate as F
+use Rattle.escape_checks.specs.contracts.tests.rationed.RationedAllocator.deallocate.Key as key
+use Rattle.escape_checks.proofs.tests.rationed.RationedAllocator.deallocate.Statement as stated
+use Rattle.escape_checks.proofs.tests.rationed.RationedAllocator.deallocate.Code as code
 
 module _ (Z : Al) where
   abbrev args : Args

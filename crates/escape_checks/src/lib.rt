@@ -1,0 +1,8 @@
+//! The tests that cross crates, and what they share: the ways to a kernel, and the per-byte replacement
+//! written out.
+#![tactic(auto)]
+
+pub mod plain;
+pub mod routes;
+#[cfg(test)]
+mod tests;

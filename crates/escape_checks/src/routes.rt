@@ -1,0 +1,110 @@
+//! The three ways to a kernel: over a target, over a slice, and by the kernel's value.
+ghost use Rattle.std.specs.Prelude.{◌≡◌, ◌≤◌, length, IfOk};
+ghost use Rattle.escape_lanes.specs.Mode.{mode_of};
+ghost use Rattle.escape_simd.specs.Formatted.{IsWritten};
+ghost use Rattle.escape_simd.specs.Kernels.{lanes_of};
+ghost use Rattle.escape_simd.specs.Output.{bound};
+
+use escape_simd::html::{InputTooLarge, html_capacity};
+use escape_simd::json::json_capacity;
+use escape_simd::simd::target::{Target, Ticks};
+use escape_simd::simd::{avx2, avx512, neon, sse2, v128};
+use escape_simd::{Kernel, format_html_string, format_json_string};
+
+pub const KERNELS: [Kernel; 5] = [
+    Kernel::V128,
+    Kernel::Sse2,
+    Kernel::Neon,
+    Kernel::Avx2,
+    Kernel::Avx512,
+];
+
+/// A way to a kernel.
+#[derive(Debug, Clone, Copy, PartialEq, Eq)]
+pub enum Way {
+    /// `format_target` of the kernel's module.
+    Target,
+    /// `format_string` of the kernel's module.
+    Slice,
+    /// The root's call, with the kernel's value.
+    Value,
+}
+
+pub const WAYS: [Way; 3] = [Way::Target, Way::Slice, Way::Value];
+
+/// How many bytes a vector of the kernel has.
+pub fn lanes(kernel: Kernel) -> usize
+    ensures { result ≡ lanes_of kernel }
+{
+    match kernel {
+        Kernel::V128 => 16,
+        Kernel::Sse2 => 16,
+        Kernel::Neon => 16,
+        Kernel::Avx2 => 32,
+        Kernel::Avx512 => 64,
+    }
+}
+
+/// Escapes the text to the front of `dst` in this way, and answers how many bytes it became.
+pub fn format<const HTML: bool>(way: Way, kernel: Kernel, text: &str, dst: &mut [u8]) -> usize
+    requires { bound (mode_of HTML) (length text.now) ≤ length dst.old }
+    ensures { IsWritten (lanes_of kernel) (mode_of HTML) text.now dst.old dst.new result }
+{
+    match way {
+        Way::Target => by_target::<HTML>(kernel, text, dst),
+        Way::Slice => by_slice::<HTML>(kernel, text, dst),
+        Way::Value => by_value::<HTML>(kernel, text, dst),
+    }
+}
+
+fn by_target<const HTML: bool>(kernel: Kernel, text: &str, dst: &mut [u8]) -> usize
+    requires { bound (mode_of HTML) (length text.now) ≤ length dst.old }
+    ensures { IsWritten (lanes_of kernel) (mode_of HTML) text.now dst.old dst.new result }
+{
+    let mut ticks = Ticks::new();
+    match kernel {
+        Kernel::V128 => v128::format_target::<HTML>(text, &mut Target::new(dst), &mut ticks),
+        Kernel::Sse2 => sse2::format_target::<HTML>(text, &mut Target::new(dst), &mut ticks),
+        Kernel::Neon => neon::format_target::<HTML>(text, &mut Target::new(dst), &mut ticks),
+        Kernel::Avx2 => avx2::format_target::<HTML>(text, &mut Target::new(dst), &mut ticks),
+        Kernel::Avx512 => avx512::format_target::<HTML>(text, &mut Target::new(dst), &mut ticks),
+    }
+}
+
+fn by_slice<const HTML: bool>(kernel: Kernel, text: &str, dst: &mut [u8]) -> usize
+    requires { bound (mode_of HTML) (length text.now) ≤ length dst.old }
+    ensures { IsWritten (lanes_of kernel) (mode_of HTML) text.now dst.old dst.new result }
+{
+    match kernel {
+        Kernel::V128 => v128::format_string::<HTML>(text, dst),
+        Kernel::Sse2 => sse2::format_string::<HTML>(text, dst),
+        Kernel::Neon => neon::format_string::<HTML>(text, dst),
+        Kernel::Avx2 => avx2::format_string::<HTML>(text, dst),
+        Kernel::Avx512 => avx512::format_string::<HTML>(text, dst),
+    }
+}
+
+fn by_value<const HTML: bool>(kernel: Kernel, text: &str, dst: &mut [u8]) -> usize
+    requires { bound (mode_of HTML) (length text.now) ≤ length dst.old }
+    ensures { IsWritten (lanes_of kernel) (mode_of HTML) text.now dst.old dst.new result }
+{
+    if HTML {
+        format_html_string(kernel, text, dst)
+    } else {
+        format_json_string(kernel, text, dst)
+    }
+}
+
+/// How many bytes a target must have for the text. The error says that this passes `usize::MAX`.
+pub fn room<const HTML: bool>(text: &str) -> Result<usize, InputTooLarge>
+    ensures { IfOk result (λ room. room ≡ bound (mode_of HTML) (length text.now)) }
+{
+    if HTML {
+        html_capacity(text.len())
+    } else {
+        match json_capacity(text.len()) {
+            Ok(room) => Ok(room),
+            Err(_) => Err(InputTooLarge),
+        }
+    }
+}

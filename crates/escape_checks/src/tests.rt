@@ -1,0 +1,7 @@
+//! What no clause says, over the public calls.
+mod borders;
+mod memory;
+mod numbers;
+mod rationed;
+mod rows;
+mod texts;

@@ -1,0 +1,179 @@
+//! Texts with what stands for them, written out.
+
+use crate::routes::{KERNELS, WAYS, format, room};
+use crate::tests::texts::repeated;
+use escape_simd::html::{escape_html, escape_html_each, escape_html_in, escape_html_into};
+use escape_simd::json::{escape, escape_in, escape_into};
+use escape_simd::simd::target::Target;
+use escape_simd::simd::util::escape_unchecked;
+use std::process::Abort;
+use std::test::Fail;
+
+/// Parts of a text, or of what stands for it, each with how often it comes.
+type Parts = &'static [(usize, &'static str)];
+
+/// Each character below U+0080.
+const ASCII: &str = "\
+    \x00\x01\x02\x03\x04\x05\x06\x07\x08\x09\x0a\x0b\x0c\x0d\x0e\x0f\x10\x11\x12\
+    \x13\x14\x15\x16\x17\x18\x19\x1a\x1b\x1c\x1d\x1e\x1f !\"#$%&'()*+,-./0123456\
+    789:;<=>?@ABCDEFGHIJKLMNOPQRSTUVWXYZ[\\]^_`abcdefghijklmnopqrstuvwxyz{|}~\
+    \x7f";
+
+/// Its literal, by RFC 8259.
+const ASCII_LITERAL: &str = "\
+    \"\\u0000\\u0001\\u0002\\u0003\\u0004\\u0005\\u0006\\u0007\\b\\t\\n\\u000b\\\
+    f\\r\\u000e\\u000f\\u0010\\u0011\\u0012\\u0013\\u0014\\u0015\\u0016\\u0017\\\
+    u0018\\u0019\\u001a\\u001b\\u001c\\u001d\\u001e\\u001f !\\\"#$%&'()*+,-./012\
+    3456789:;<=>?@ABCDEFGHIJKLMNOPQRSTUVWXYZ[\\\\]^_`abcdefghijklmnopqrstuvwxyz{\
+    |}~\x7f\"";
+
+/// What stands for it in HTML.
+const ASCII_MARKUP_FREE: &str = "\
+    \x00\x01\x02\x03\x04\x05\x06\x07\x08\x09\x0a\x0b\x0c\x0d\x0e\x0f\x10\x11\x12\
+    \x13\x14\x15\x16\x17\x18\x19\x1a\x1b\x1c\x1d\x1e\x1f !&quot;#$%&amp;&#x27;()\
+    *+,-.&#x2f;0123456789:;&lt;=&gt;?@ABCDEFGHIJKLMNOPQRSTUVWXYZ[\\]^_`abcdefghi\
+    jklmnopqrstuvwxyz{|}~\x7f";
+
+/// What RFC 8259 has a string literal of the text be, where it is the shortest with lower-case digits.
+const LITERALS: [(Parts, Parts); 21] = [
+    (&[(1, ASCII)], &[(1, ASCII_LITERAL)]),
+    (&[], &[(2, "\"")]),
+    (&[(1, "\n\x01\x7f")], &[(1, "\"\\n\\u0001\x7f\"")]),
+    (&[(1, "\x0b")], &[(1, "\"\\u000b\"")]),
+    (&[(1, "\\")], &[(1, "\"\\\\\"")]),
+    (&[(1, "\u{1d11e}")], &[(1, "\"\u{1d11e}\"")]),
+    (&[(1, "a\"")], &[(1, "\"a\\\"\"")]),
+    (&[(1, "\"a\\\"\"")], &[(1, "\"\\\"a\\\\\\\"\\\"\"")]),
+    (&[(1, "\x1f")], &[(1, "\"\\u001f\"")]),
+    (&[(1, "a/b\u{80}")], &[(1, "\"a/b\u{80}\"")]),
+    (&[(1, "\t")], &[(1, "\"\\t\"")]),
+    (&[(1, "\x08\x0c\r")], &[(1, "\"\\b\\f\\r\"")]),
+    (
+        &[(31, "a"), (1, "\"\"b")],
+        &[(1, "\""), (31, "a"), (1, "\\\"\\\"b\"")],
+    ),
+    (
+        &[(16, "a"), (1, "\"a\"b")],
+        &[(1, "\""), (16, "a"), (1, "\\\"a\\\"b\"")],
+    ),
+    (
+        &[(32, "a"), (1, "\"a\"b")],
+        &[(1, "\""), (32, "a"), (1, "\\\"a\\\"b\"")],
+    ),
+    (
+        &[(64, "a"), (1, "\"a\"b")],
+        &[(1, "\""), (64, "a"), (1, "\\\"a\\\"b\"")],
+    ),
+    (&[(64, "a")], &[(1, "\""), (64, "a"), (1, "\"")]),
+    (&[(256, "\"")], &[(1, "\""), (256, "\\\""), (1, "\"")]),
+    (
+        &[(63, "a"), (1, "\\"), (64, "a")],
+        &[(1, "\""), (63, "a"), (1, "\\\\"), (64, "a"), (1, "\"")],
+    ),
+    (
+        &[(40, "a"), (1, "\""), (23, "a")],
+        &[(1, "\""), (40, "a"), (1, "\\\""), (23, "a"), (1, "\"")],
+    ),
+    (&[(64, "\x01")], &[(1, "\""), (64, "\\u0001"), (1, "\"")]),
+];
+
+/// What stands for the text in HTML.
+const MARKUP_FREE: [(Parts, Parts); 13] = [
+    (&[(1, ASCII)], &[(1, ASCII_MARKUP_FREE)]),
+    (&[], &[]),
+    (
+        &[(1, "<a href='/x'>")],
+        &[(1, "&lt;a href=&#x27;&#x2f;x&#x27;&gt;")],
+    ),
+    (&[(1, "&amp;")], &[(1, "&amp;amp;")]),
+    (&[(1, "<")], &[(1, "&lt;")]),
+    (&[(1, "\"\n\u{80}")], &[(1, "&quot;\n\u{80}")]),
+    (&[(16, "<a")], &[(16, "&lt;a")]),
+    (&[(33, "<")], &[(33, "&lt;")]),
+    (&[(6, "\u{20ac}")], &[(6, "\u{20ac}")]),
+    (
+        &[(15, "a"), (1, "&\u{20ac}")],
+        &[(15, "a"), (1, "&amp;\u{20ac}")],
+    ),
+    (
+        &[(50, "a"), (1, ">"), (13, "a")],
+        &[(50, "a"), (1, "&gt;"), (13, "a")],
+    ),
+    (
+        &[(1, "/"), (126, "a"), (1, "/")],
+        &[(1, "&#x2f;"), (126, "a"), (1, "&#x2f;")],
+    ),
+    (&[(128, "a"), (1, "'")], &[(128, "a"), (1, "&#x27;")]),
+];
+
+/// All kernels write the output for the text, in each way.
+fn kernels_write<const HTML: bool>(
+    rt: &(impl Abort + AllocGlobal),
+    text: &str,
+    output: &[u8],
+) -> Result<(), Fail> {
+    for kernel in KERNELS {
+        for way in WAYS {
+            let mut target = vec![in rt.alloc(); 0xee; room::<HTML>(text)?]?;
+            let count = format::<HTML>(way, kernel, text, &mut target);
+            assert_eq!(rt; &target[..count], output, "{way:?} {kernel:?} {text}");
+        }
+    }
+    Ok(())
+}
+
+#[test]
+fn literals(rt: HostRuntime) -> Result<(), Fail> {
+    for (text, literal) in LITERALS {
+        let text = repeated(rt.alloc(), text)?;
+        let literal = repeated(rt.alloc(), literal)?;
+        kernels_write::<false>(&rt, text.as_str(), literal.as_bytes())?;
+        let answered = escape(rt.alloc(), text.as_str())?;
+        assert_eq!(rt; answered.as_str(), literal.as_str());
+        let answered = escape_in(rt.alloc(), text.as_str())?;
+        assert_eq!(rt; answered.as_str(), literal.as_str());
+        let mut appended = vec![in rt.alloc(); 0xff]?;
+        escape_into(text.as_str(), &mut appended)?;
+        assert_eq!(rt; &appended[..1], [0xff].as_slice());
+        assert_eq!(rt; &appended[1..], literal.as_bytes());
+    }
+    Ok(())
+}
+
+#[test]
+fn markup_free(rt: HostRuntime) -> Result<(), Fail> {
+    for (text, html) in MARKUP_FREE {
+        let text = repeated(rt.alloc(), text)?;
+        let html = repeated(rt.alloc(), html)?;
+        kernels_write::<true>(&rt, text.as_str(), html.as_bytes())?;
+        let answered = escape_html(rt.alloc(), text.as_str())?;
+        assert_eq!(rt; answered.as_str(), html.as_str());
+        let answered = escape_html_in(rt.alloc(), text.as_str())?;
+        assert_eq!(rt; answered.as_str(), html.as_str());
+        let mut appended = vec![in rt.alloc(); 0xff]?;
+        escape_html_into(text.as_str(), &mut appended)?;
+        assert_eq!(rt; &appended[..1], [0xff].as_slice());
+        assert_eq!(rt; &appended[1..], html.as_bytes());
+    }
+    Ok(())
+}
+
+#[test]
+fn texts_one_after_another(rt: HostRuntime) -> Result<(), Fail> {
+    let mut appended = vec![in rt.alloc(); 0x41]?;
+    assert_eq!(rt; escape_html_each(&[], &mut appended), Ok(()));
+    assert_eq!(rt; appended.as_slice(), b"A".as_slice());
+    assert_eq!(rt; escape_html_each(&["<", "", "a&"], &mut appended), Ok(()));
+    assert_eq!(rt; appended.as_slice(), b"A&lt;a&amp;".as_slice());
+    Ok(())
+}
+
+#[test]
+fn a_run_of_escapes(rt: HostRuntime) {
+    let mut dst = [0xee; 40];
+    let mut target = Target::<16>::new(&mut dst);
+    let places = escape_unchecked::<true, 16>(b"<&a", 0, &mut target, 0);
+    assert_eq!(rt; places, (2, 9));
+    assert_eq!(rt; &dst[..9], b"&lt;&amp;".as_slice());
+    assert_eq!(rt; &dst[15..], [0xee; 25].as_slice());
+}

@@ -1,0 +1,38 @@
+//! Replays another implementation's answers through every kernel, the calls that allocate, and `run`.
+//!
+//! It prints each answer that differs, and at the end how many passed. The status is a failure where
+//! one differs.
+#![tactic(auto)]
+
+mod answer;
+mod replay;
+
+use answer::Answer;
+use replay::agrees;
+use std::fs;
+use std::process::ExitCode;
+use std::test::Fail;
+
+/// A line of the list is a mode, a text and what stands for the text, the last two in hexadecimal.
+const LIST: &str = "answers.tsv";
+
+fn main(rt: HostRuntime) -> Result<ExitCode, Fail> {
+    let list = fs::read_to_string(&rt, LIST)?;
+    let mut passed = 0u64;
+    let mut failed = 0u64;
+    for line in list.as_str().lines() {
+        let answer = Answer::parse(rt.alloc(), line)?;
+        if agrees(rt.alloc(), &answer)? {
+            passed = passed.saturating_add(1);
+        } else {
+            failed = failed.saturating_add(1);
+            println!(rt; "differs: {line}")?;
+        }
+    }
+    println!(rt; "{passed} passed, {failed} failed")?;
+    Ok(if failed == 0 {
+        ExitCode::SUCCESS
+    } else {
+        ExitCode::FAILURE
+    })
+}

@@ -102,7 +102,7 @@ pub(crate) fn append<const HTML: bool, A: Allocator>(
     let Some(scratch) = scratch_bound::<HTML>(value.len()) else {
         return Err(Refusal::TooLarge);
     };
-    dst.reserve_exact(scratch)?;
+    dst.reserve(scratch)?;
     push_quote::<HTML, A>(dst);
     append_bytes::<HTML, A>(value.as_bytes(), dst);
     push_quote::<HTML, A>(dst);

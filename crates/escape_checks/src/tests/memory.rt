@@ -79,7 +79,8 @@ fn one_request(size: usize) -> Requests {
 #[test]
 fn appending_asks_once_for_the_bound(rt: HostRuntime) -> Result<(), Fail> {
     for (call, bound, written) in APPENDING {
-        for (len, spare) in [(1, 0), (3, 7), (5, bound - 1)] {
+        // So much less than the bound that a vector of twice the capacity would not hold it.
+        for (len, spare) in [(1, 0), (3, 7), (5, 12)] {
             let heap = Rationed::new(rt.alloc());
             let mut dst = vector_of(&heap, len, spare)?;
             heap.ration(0);
@@ -95,6 +96,20 @@ fn appending_asks_once_for_the_bound(rt: HostRuntime) -> Result<(), Fail> {
             let asked = one_request(len.saturating_add(bound));
             assert_eq!(rt; heap.requests(), asked, "{call:?} {len}");
         }
+    }
+    Ok(())
+}
+
+#[test]
+fn appending_often_asks_seldom(rt: HostRuntime) -> Result<(), Fail> {
+    for (call, _, written) in APPENDING {
+        let heap = Rationed::new(rt.alloc());
+        let mut dst = vector_of(&heap, 0, 0)?;
+        heap.ration(20);
+        for _ in 0..10000 {
+            assert_eq!(rt; append(call, &mut dst), Outcome::Written, "{call:?}");
+        }
+        assert_eq!(rt; dst.len(), 10000 * written.len(), "{call:?}");
     }
     Ok(())
 }

@@ -11,3 +11,4 @@ pub mod OutputLemmas
 pub mod Examples
 pub mod Pieces
 pub mod JoinedLemmas
+pub mod TailLemmas

@@ -6,6 +6,7 @@ mod body;
 mod classify;
 pub mod neon;
 pub mod sse2;
+mod tail;
 pub mod util;
 pub mod v128;
 

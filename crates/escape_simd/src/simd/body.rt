@@ -1,5 +1,5 @@
 //! The body of all kernels: four vectors at a time, one vector at a time, and the tail.
-ghost use Rattle.std.specs.Prelude.{◌≡◌, ◌≢◌, ℕ, ◌+◌, ◌-◌, ◌*◌, ◌<◌, ◌≤◌, ◌++◌, false, IsTrue, length, take, drop, map, slice_index, chars};
+ghost use Rattle.std.specs.Prelude.{◌≡◌, ◌≢◌, ℕ, ◌+◌, ◌-◌, ◌*◌, ◌<◌, ◌≤◌, ◌++◌, false, IsTrue, length, take, drop, replicate, map, slice_index, chars};
 ghost use Rattle.std.proofs.Math.Seq.{paste};
 ghost use Rattle.escape_lanes.specs.Bits.{first_set, none_set};
 ghost use Rattle.escape_lanes.specs.Mode.{mode_of};
@@ -14,6 +14,7 @@ ghost use Rattle.escape_simd.specs.Runs.{run_count};
 ghost use Rattle.escape_simd.specs.Stretch.{Stretch, Paid, cost_from, stored_lanes};
 
 use crate::simd::classify::{Classify, HTML_MODE, JSON_MODE};
+use crate::simd::tail::fill;
 use crate::simd::util::run;
 use escape_lanes::simd::target::{Target, Ticks};
 use escape_lanes::simd::{BitMask, Mask, Simd};
@@ -147,11 +148,12 @@ fn load_tail<V: Simd, const N: usize>(src: &[u8], at: usize) -> V
     requires lanes { V.LANES ≡ N }
     requires inside { at ≤ length src.now }
     requires few { length src.now < at + N }
-    ensures { take (length src.now - at) (V.lanes result) ≡ drop at src.now }
+    ensures bytes { take (length src.now - at) (V.lanes result) ≡ drop at src.now }
+    ensures zeros { drop (length src.now - at) (V.lanes result)
+        ≡ replicate (at + N - length src.now) 0 }
 {
     let mut tail = [0u8; N];
-    let rest = &src[at..];
-    tail[..rest.len()].copy_from_slice(rest);
+    fill(&mut tail, &src[at..]);
     V::loadu(&tail)
 }
 

@@ -1,76 +1,116 @@
 //! The best of many rounds, with the ways in turn in each round.
-ghost use Rattle.std.specs.Prelude.{◌≤◌, ◌+◌, ◌*◌, ◌^◌, length};
+ghost use Rattle.std.specs.Prelude.{◌≤◌, ◌+◌, ◌*◌, length};
 
-use crate::texts::{Kind, text_of};
-use crate::ways::{Way, once};
+use crate::modes::{Mode, format_string};
+use crate::per_byte::{Table, per_byte};
+use escape_simd::Kernel;
 use std::test::Fail;
 use std::time::{Clock, Instant};
-use std::{fmt, io};
 
-const WAYS: [Way; 7] = [
-    Way::Copy,
-    Way::Loop,
-    Way::V128,
-    Way::Sse2,
-    Way::Neon,
-    Way::Avx2,
-    Way::Avx512,
-];
-
-const ROUNDS: usize = 60;
-
-const BYTES_A_ROUND: usize = 1 << 20;
-
-/// Prints how many times a copy each kernel takes, and how many of it fit in the loop over bytes.
-pub fn report<const HTML: bool>(
-    rt: &(impl Clock + Print + AllocGlobal),
-    kind: Kind,
-    len: usize,
-) -> Result<(), Fail>
-    requires { len ≤ 2 ^ 20 }
-{
-    let text = text_of(rt.alloc(), kind, len)?;
-    if text.len() != len {
-        return Err(Fail::new("the text has another length"));
-    }
-    let repeats = BYTES_A_ROUND / len.max(1) + 1;
-    let mut best = [u32::MAX; 7];
-    // The low address bits of source and target differ, so that they don't share lines of the first cache.
-    let mut room = vec![in rt.alloc(); 0u8; 7 * len + 4096]?;
-    let (source, target) = room.split_at_mut(len + 2048);
-    source[..len].copy_from_slice(text.as_bytes());
-    let text = std::str::from_utf8(&source[..len])?;
-    for _ in 0..ROUNDS {
-        for (place, way) in WAYS.iter().enumerate() {
-            let nanos = time::<HTML>(rt, *way, text, target, repeats)?;
-            best[place] = best[place].min(nanos);
-        }
-    }
-    let mode = if HTML { "html" } else { "json" };
-    for (place, way) in WAYS.iter().enumerate() {
-        let of_copy = best[place] as f64 / best[0] as f64;
-        let of_loop = best[1] as f64 / best[place] as f64;
-        println!(rt; "{mode} {kind:?} {len} {way:?} {of_copy:.2} {of_loop:.2}")?;
-    }
-    Ok(())
+#[derive(Clone, Copy)]
+enum Way {
+    Loop,
+    Copy,
+    Of(Kernel),
 }
 
-/// How many nanoseconds so many repeats of the way take.
-fn time<const HTML: bool>(
-    rt: &impl Clock,
-    way: Way,
-    text: &str,
-    dst: &mut [u8],
-    repeats: usize,
-) -> Result<u32, Fail>
-    requires { 6 * length text.now + 35 ≤ length dst.old }
+const WAYS: [Way; 7] = [
+    Way::Loop,
+    Way::Copy,
+    Way::Of(Kernel::V128),
+    Way::Of(Kernel::Sse2),
+    Way::Of(Kernel::Neon),
+    Way::Of(Kernel::Avx2),
+    Way::Of(Kernel::Avx512),
+];
+
+/// The names of the ways, in their order.
+pub const COLUMNS: &str = "loop    copy    v128    sse2    neon    avx2  avx512";
+
+/// The bytes of the longest text.
+pub const LONGEST: usize = 1 << 20;
+
+/// What the longest text becomes at most, and what a kernel needs past it.
+pub const ROOM: usize = 6 * LONGEST + 35;
+
+const ROUNDS: usize = 50;
+
+/// A mode, with the table of the loop.
+#[derive(Drop)]
+pub struct Escaping {
+    pub mode: Mode,
+    pub table: Table,
+}
+
+/// Whether the kernels write the same bytes as the loop for each text.
+pub fn agree(escaping: &Escaping, texts: &[&str], wanted: &mut [u8], dst: &mut [u8]) -> bool
+    requires wanted_room { ROOM ≤ length wanted.old }
+    requires room { ROOM ≤ length dst.old }
 {
-    let start = Instant::now(rt)?;
-    let mut written = 0usize;
-    for _ in 0..repeats {
-        written = written.wrapping_add(once::<HTML>(way, text, dst));
+    for text in texts {
+        let count = once(Way::Loop, escaping, text, wanted);
+        for way in &WAYS[2..] {
+            let written = once(*way, escaping, text, dst);
+            if wanted.get(..count) != dst.get(..written) {
+                return false;
+            }
+        }
     }
-    let nanos = start.elapsed(rt)?.as_nanos();
-    std::hint::black_box(written);
-    Ok(u32::try_from(nanos)?.max(1))
+    true
+}
+
+/// The nanoseconds that so many passes over the texts take in the best round, for each way.
+pub fn best_of_rounds(
+    rt: &impl Clock,
+    escaping: &Escaping,
+    texts: &[&str],
+    dst: &mut [u8],
+    passes: usize,
+) -> Result<[u32; 7], Fail>
+    requires { ROOM ≤ length dst.old }
+{
+    let mut best = [u32::MAX; 7];
+    for _ in 0..ROUNDS {
+        for (place, way) in WAYS.iter().enumerate() {
+            let start = Instant::now(rt)?;
+            for _ in 0..passes {
+                pass(*way, escaping, texts, dst);
+            }
+            let nanos = u32::try_from(start.elapsed(rt)?.as_nanos())?;
+            best[place] = best[place].min(nanos.max(1));
+        }
+    }
+    Ok(best)
+}
+
+#[inline(never)]
+fn pass(way: Way, escaping: &Escaping, texts: &[&str], dst: &mut [u8])
+    requires { ROOM ≤ length dst.old }
+{
+    for text in texts {
+        std::hint::black_box(once(way, escaping, text, dst));
+    }
+}
+
+/// Writes what the text becomes. A text above the longest becomes nothing.
+#[inline(always)]
+fn once(way: Way, escaping: &Escaping, text: &str, dst: &mut [u8]) -> usize
+    requires { ROOM ≤ length dst.old }
+{
+    if LONGEST < text.len() {
+        return 0;
+    }
+    match way {
+        Way::Loop => per_byte(&escaping.table, text.as_bytes(), dst),
+        Way::Copy => copy(text.as_bytes(), dst),
+        Way::Of(kernel) => format_string(escaping.mode, kernel, text, dst),
+    }
+}
+
+#[inline(never)]
+fn copy(text: &[u8], dst: &mut [u8]) -> usize
+    requires { length text.now ≤ length dst.old }
+{
+    dst[..text.len()].copy_from_slice(text);
+    text.len()
 }

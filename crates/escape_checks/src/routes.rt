@@ -1,16 +1,22 @@
 //! The three ways to a kernel: over a target, over a slice, and by the kernel's value.
 ghost use Rattle.std.specs.Prelude.{◌≡◌, ◌≤◌, length, IfOk};
-ghost use Rattle.escape_lanes.specs.Mode.{mode_of};
+ghost use Rattle.escape_lanes.specs.Mode.{mode_of, script};
 ghost use Rattle.escape_simd.specs.Formatted.{IsWritten};
 ghost use Rattle.escape_simd.specs.Kernels.{lanes_of};
 ghost use Rattle.escape_simd.specs.Output.{bound};
+ghost use Rattle.escape_stream.specs.Words.{escaping};
 
 use escape_simd::html::{InputTooLarge, html_capacity};
 use escape_simd::json::json_capacity;
 use escape_simd::simd::target::{Target, Ticks};
 use escape_simd::simd::{avx2, avx512, neon, sse2, v128};
-use escape_simd::{Kernel, format_html_string, format_json_string};
+use escape_simd::{Kernel, format_html_string, format_json_string, format_script_string};
+use escape_stream::Mode;
 
+/// Each mode.
+pub const MODES: [Mode; 3] = [Mode::Json, Mode::Html, Mode::Script];
+
+/// Each kernel.
 pub const KERNELS: [Kernel; 5] = [
     Kernel::V128,
     Kernel::Sse2,
@@ -46,14 +52,26 @@ pub fn lanes(kernel: Kernel) -> usize
 }
 
 /// Escapes the text to the front of `dst` in this way, and answers how many bytes it became.
-pub fn format<const HTML: bool>(way: Way, kernel: Kernel, text: &str, dst: &mut [u8]) -> usize
-    requires { bound (mode_of HTML) (length text.now) ≤ length dst.old }
-    ensures { IsWritten (lanes_of kernel) (mode_of HTML) text.now dst.old dst.new result }
+pub fn format(way: Way, kernel: Kernel, mode: Mode, text: &str, dst: &mut [u8]) -> usize
+    requires { bound (escaping mode) (length text.now) ≤ length dst.old }
+    ensures { IsWritten (lanes_of kernel) (escaping mode) text.now dst.old dst.new result }
 {
-    match way {
-        Way::Target => by_target::<HTML>(kernel, text, dst),
-        Way::Slice => by_slice::<HTML>(kernel, text, dst),
-        Way::Value => by_value::<HTML>(kernel, text, dst),
+    match mode {
+        Mode::Json => match way {
+            Way::Target => by_target::<false>(kernel, text, dst),
+            Way::Slice => by_slice::<false>(kernel, text, dst),
+            Way::Value => format_json_string(kernel, text, dst),
+        },
+        Mode::Html => match way {
+            Way::Target => by_target::<true>(kernel, text, dst),
+            Way::Slice => by_slice::<true>(kernel, text, dst),
+            Way::Value => format_html_string(kernel, text, dst),
+        },
+        Mode::Script => match way {
+            Way::Target => script_by_target(kernel, text, dst),
+            Way::Slice => script_by_slice(kernel, text, dst),
+            Way::Value => format_script_string(kernel, text, dst),
+        },
     }
 }
 
@@ -84,27 +102,42 @@ fn by_slice<const HTML: bool>(kernel: Kernel, text: &str, dst: &mut [u8]) -> usi
     }
 }
 
-fn by_value<const HTML: bool>(kernel: Kernel, text: &str, dst: &mut [u8]) -> usize
-    requires { bound (mode_of HTML) (length text.now) ≤ length dst.old }
-    ensures { IsWritten (lanes_of kernel) (mode_of HTML) text.now dst.old dst.new result }
+fn script_by_target(kernel: Kernel, text: &str, dst: &mut [u8]) -> usize
+    requires { bound script (length text.now) ≤ length dst.old }
+    ensures { IsWritten (lanes_of kernel) script text.now dst.old dst.new result }
 {
-    if HTML {
-        format_html_string(kernel, text, dst)
-    } else {
-        format_json_string(kernel, text, dst)
+    let mut ticks = Ticks::new();
+    match kernel {
+        Kernel::V128 => v128::format_script_target(text, &mut Target::new(dst), &mut ticks),
+        Kernel::Sse2 => sse2::format_script_target(text, &mut Target::new(dst), &mut ticks),
+        Kernel::Neon => neon::format_script_target(text, &mut Target::new(dst), &mut ticks),
+        Kernel::Avx2 => avx2::format_script_target(text, &mut Target::new(dst), &mut ticks),
+        Kernel::Avx512 => avx512::format_script_target(text, &mut Target::new(dst), &mut ticks),
+    }
+}
+
+fn script_by_slice(kernel: Kernel, text: &str, dst: &mut [u8]) -> usize
+    requires { bound script (length text.now) ≤ length dst.old }
+    ensures { IsWritten (lanes_of kernel) script text.now dst.old dst.new result }
+{
+    match kernel {
+        Kernel::V128 => v128::format_script_string(text, dst),
+        Kernel::Sse2 => sse2::format_script_string(text, dst),
+        Kernel::Neon => neon::format_script_string(text, dst),
+        Kernel::Avx2 => avx2::format_script_string(text, dst),
+        Kernel::Avx512 => avx512::format_script_string(text, dst),
     }
 }
 
 /// How many bytes a target must have for the text. The error says that this passes `usize::MAX`.
-pub fn room<const HTML: bool>(text: &str) -> Result<usize, InputTooLarge>
-    ensures { IfOk result (λ room. room ≡ bound (mode_of HTML) (length text.now)) }
+pub fn room(mode: Mode, text: &str) -> Result<usize, InputTooLarge>
+    ensures { IfOk result (λ room. room ≡ bound (escaping mode) (length text.now)) }
 {
-    if HTML {
-        html_capacity(text.len())
-    } else {
-        match json_capacity(text.len()) {
+    match mode {
+        Mode::Html => html_capacity(text.len()),
+        Mode::Json | Mode::Script => match json_capacity(text.len()) {
             Ok(room) => Ok(room),
             Err(_) => Err(InputTooLarge),
-        }
+        },
     }
 }

@@ -1,9 +1,9 @@
 -- Lanes of vectors and of masks, at every width.
 use native.Mathlib.Nat.{pow-suc}
-use Rattle.std.proofs.Common.{Fits, take, ◌≡◌, ℕ, ◌<◌, ◌≤◌, ◌^◌, ◌+◌, ◌*◌, ◌/◌, ◌%◌, Bool, true, false, cond, ◌||◌, ◌&&◌, List, [], ◌∷◌, ◌++◌, length, drop, replicate, map, nat_eq, bit_or, bit_and, get_or, refl, sym, ap, ◌∙◌, zero, suc, arith}
+use Rattle.std.proofs.Common.{take, ◌≡◌, ℕ, ◌<◌, ◌≤◌, ◌^◌, ◌+◌, ◌*◌, ◌/◌, ◌%◌, Bool, true, false, cond, ◌||◌, ◌&&◌, List, [], ◌∷◌, ◌++◌, length, drop, replicate, map, nat_eq, bit_or, bit_and, bit_xor, get_or, refl, sym, ap, ◌∙◌, zero, suc, arith}
 use Rattle.std.proofs.Math.Pow.{pow_mono}
 use Rattle.std.proofs.lemmas.Bool.{agree_below, agree_below_at}
-use Rattle.std.proofs.lemmas.List.{length-map, length-take-le, get_or-map, get_or-take, map_more, ext_get_or}
+use Rattle.std.proofs.lemmas.List.{length-map, length-take-le, get_or-map, map_more, ext_get_or}
 use Rattle.std.proofs.lemmas.Bool.Decides.{nat_tests}
 use Rattle.std.proofs.lemmas.Nat.{and_mod, and_or_self, and_shr, or_disjoint, or_mod, or_shr}
 use Rattle.std.specs.Int.Bits.{and_zero_l, and_zero_r, or_add_and}
@@ -11,7 +11,7 @@ use Rattle.std.proofs.lemmas.Simd.{get_or-zip2, put_chunk_is, length-zip2, tops_
 use Rattle.std.specs.Simd.Lanes.{zip2, sel_l, mask_l, put_chunk, top}
 use mir.Syntax.{w8}
 use Rattle.escape_lanes.specs.Bits.{bits_of}
-use Rattle.escape_lanes.specs.Lanes.{AreBytes, AreWhole, set_lanes, mask_lanes}
+use Rattle.escape_lanes.specs.Lanes.{AreBytes, AreWhole, set_lanes, mask_lanes, is_one_of}
 
 -- the lanes xs are a mask that is set where bs is
 pub record IsMask (one n : ℕ) (xs : List ℕ) (bs : List Bool) : Type 0 where
@@ -127,34 +127,42 @@ bits-mask [] (suc k) h = absurd (omega arith)
 bits-mask (b ∷ bs) zero h = absurd (omega arith)
 bits-mask (b ∷ bs) (suc k) h = rw (mask-bit b (mask_l bs), mask-half b (mask_l bs), bits-mask bs k (omega arith))
 
--- the number that has a bit for each lane of a mask
-module _ (n : ℕ) (xs : List ℕ) (whole : AreWhole 255 n xs) (few : n ≤ 64) where
+-- the number that has a bit for each lane that passes the test t against y
+module _ (t : ℕ → ℕ → Bool) (n : ℕ) (xs : List ℕ) (y : ℕ) (full : length xs ≡ n) (few : n ≤ 64) where
   -- the number, with no word of vectors
-  counted : mask_l (map (top 7) (zip2 (λ a b. cond (nat_eq a b) 255 0) xs (replicate n 255))) % 2 ^ 64 ≡ mask_l (set_lanes 255 xs)
-  counted = bitmask_splat w8 nat_eq xs n 255 whole.full few
+  counted : mask_l (map (top 7) (zip2 (λ a b. cond (t a b) 255 0) xs (replicate n y))) % 2 ^ 64 ≡ mask_l (map (λ x. t x y) xs)
+  counted = bitmask_splat w8 t xs n y full few
+
+  -- as many bits as lanes
+  length-passed : length (map (λ x. t x y) xs) ≡ n
+  length-passed = length-map xs (λ x. t x y) ∙ full
 
   -- it has no bit past the last lane
-  pub bits-below : mask_l (map (top 7) (zip2 (λ a b. cond (nat_eq a b) 255 0) xs (replicate n 255))) % 2 ^ 64 < 2 ^ n
-  bits-below = rw counted (rw (length-set 255 n xs whole) at (mask_l-lt (set_lanes 255 xs)))
+  pub bits-below : mask_l (map (top 7) (zip2 (λ a b. cond (t a b) 255 0) xs (replicate n y))) % 2 ^ 64 < 2 ^ n
+  bits-below = rw counted (rw length-passed at (mask_l-lt (map (λ x. t x y) xs)))
 
   -- its bits are the lanes
-  pub bits-set : bits_of n (mask_l (map (top 7) (zip2 (λ a b. cond (nat_eq a b) 255 0) xs (replicate n 255))) % 2 ^ 64) ≡ set_lanes 255 xs
-  bits-set = rw counted (bits-mask (set_lanes 255 xs) n (length-set 255 n xs whole))
+  pub bits-set : bits_of n (mask_l (map (top 7) (zip2 (λ a b. cond (t a b) 255 0) xs (replicate n y))) % 2 ^ 64) ≡ map (λ x. t x y) xs
+  bits-set = rw counted (bits-mask (map (λ x. t x y) xs) n length-passed)
 
 -- a store of a vector at the front of a slice
 pub stored_first : (d l : List ℕ) (n : ℕ) → length l ≡ n → n ≤ length d → put_chunk 0 d l ≡ l ++ drop n d
 stored_first d l n e h = put_chunk_is 0 d l (omega arith) ∙ rw e refl
 
--- two tests that agree on every byte agree on every lane
-pub map-bytes : (f g : ℕ → Bool) (n : ℕ) (v : List ℕ) → AreBytes n v → agree_below f g 256 ≡ true → map f v ≡ map g v
-map-bytes f g n v bytes same =
+-- two tests that agree on every byte
+pub map-agree : (f g : ℕ → Bool) → ((b : ℕ) → b < 256 → f b ≡ g b) → (n : ℕ) (v : List ℕ) → AreBytes n v → map f v ≡ map g v
+map-agree f g same n v bytes =
     ext_get_or false (map f v) (map g v) (length-map v f ∙ sym (length-map v g)) (λ i h.
     let lt : i < length v = omega (arith, length-map v f) in
     let k : i < n = omega (arith, bytes.full) in
-    get_or-map f v i 0 false lt ∙ agree_below_at f g 256 (get_or v i 0) same (bytes.small i k) ∙ sym (get_or-map g v i 0 false lt))
+    get_or-map f v i 0 false lt ∙ same (get_or v i 0) (bytes.small i k) ∙ sym (get_or-map g v i 0 false lt))
+
+-- the same by computation for each of the 256
+pub map-bytes : (f g : ℕ → Bool) (n : ℕ) (v : List ℕ) → AreBytes n v → agree_below f g 256 ≡ true → map f v ≡ map g v
+map-bytes f g n v bytes same = map-agree f g (λ b h. agree_below_at f g 256 b same h) n v bytes
 
 -- an or of two bits
-bit-or : (p q : ℕ) → p < 2 → q < 2 → nat_eq (bit_or p q) 1 ≡ (nat_eq p 1 || nat_eq q 1)
+pub bit-or : (p q : ℕ) → p < 2 → q < 2 → nat_eq (bit_or p q) 1 ≡ (nat_eq p 1 || nat_eq q 1)
 bit-or zero zero hp hq = refl
 bit-or zero (suc zero) hp hq = refl
 bit-or (suc zero) zero hp hq = refl
@@ -162,6 +170,16 @@ bit-or (suc zero) (suc zero) hp hq = refl
 bit-or zero (suc (suc q)) hp hq = absurd (omega arith)
 bit-or (suc zero) (suc (suc q)) hp hq = absurd (omega arith)
 bit-or (suc (suc p)) q hp hq = absurd (omega arith)
+
+-- an exclusive or of two bits
+pub bit-xor : (p q : ℕ) → p < 2 → q < 2 → nat_eq (bit_xor p q) 1 ≡ is_one_of (nat_eq p 1) (nat_eq q 1)
+bit-xor zero zero hp hq = refl
+bit-xor zero (suc zero) hp hq = refl
+bit-xor (suc zero) zero hp hq = refl
+bit-xor (suc zero) (suc zero) hp hq = refl
+bit-xor (suc (suc p)) q hp hq = absurd (omega arith)
+bit-xor zero (suc (suc q)) hp hq = absurd (omega arith)
+bit-xor (suc zero) (suc (suc q)) hp hq = absurd (omega arith)
 
 -- an and of two bits
 bit-and : (p q : ℕ) → p < 2 → q < 2 → nat_eq (bit_and p q) 1 ≡ (nat_eq p 1 && nat_eq q 1)
@@ -186,7 +204,7 @@ bits-and zero m n = refl
 bits-and (suc k) m n = rw (and_mod m n 1, and_shr m n 1, bit-and (m % 2) (n % 2) (omega arith) (omega arith), bits-and k (m / 2) (n / 2)) refl
 
 -- two vectors, joined lane by lane
-pub zipped : (f : ℕ → ℕ → ℕ) (n : ℕ) (xs ys zs : List ℕ) → length xs ≡ n → length ys ≡ n → length zs ≡ n
+zipped : (f : ℕ → ℕ → ℕ) (n : ℕ) (xs ys zs : List ℕ) → length xs ≡ n → length ys ≡ n → length zs ≡ n
     → ((k : ℕ) → k < n → get_or zs k 0 ≡ f (get_or xs k 0) (get_or ys k 0)) → zs ≡ zip2 f xs ys
 zipped f n xs ys zs l r m at =
     let z = length-both f n xs ys l r in
@@ -203,23 +221,6 @@ tested t n xs ys zs l r m at =
     tests [] right = refl
     tests (a ∷ left) [] = refl
     tests (a ∷ left) (b ∷ right) = ap (λ cs. cond (t a b) 1 0 ∷ cs) (tests left right)
-
--- a mask of 0 and 1 that was made by a test of the lanes of a vector
-pub tested_one : (t : ℕ → Bool) (n : ℕ) (xs zs : List ℕ) → length xs ≡ n → length zs ≡ n
-    → ((k : ℕ) → k < n → get_or zs k 0 ≡ cond (t (get_or xs k 0)) 1 0) → IsMask 1 n zs (map t xs)
-tested_one t n xs zs l m at =
-    let e : zs ≡ mask_lanes 1 (map t xs) = ext_get_or 0 zs (mask_lanes 1 (map t xs)) (m ∙ sym (length-mask 1 (map t xs) ∙ length-map xs t ∙ l)) (λ k h.
-    let r : k < length xs = omega arith in
-    at k (omega arith) ∙ ap (λ b. cond b 1 0) (sym (get_or-map t xs k 0 false r))
-    ∙ sym (get_or-map (λ b. cond b 1 0) (map t xs) k false 0 (omega (arith, length-map xs t)))) in
-    made 1 n zs (map t xs) (omega arith) e (length-map xs t ∙ l)
-
--- the first n bytes of a slice
-pub bytes-front : (n : ℕ) (xs : List ℕ) → n ≤ length xs → ((k : ℕ) → Fits w8 (get_or xs k 0)) → AreBytes n (take n xs)
-bytes-front n xs h fits = record {
-  full = length-take-le n xs h;
-  small = λ k l. rw (get_or-take n xs k 0 l) (fits k).fits;
-}
 
 -- one more bit, above the others
 mask-snoc : (bs : List Bool) (b : Bool) → mask_l (bs ++ b ∷ []) ≡ mask_l bs + cond b 1 0 * 2 ^ length bs

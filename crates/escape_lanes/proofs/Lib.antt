@@ -1,7 +1,11 @@
 pub mod Chunks
 pub mod EntryLemmas
+pub mod FlagLemmas
+pub mod HeldLemmas
 pub mod LaneLemmas
+pub mod LastLemmas
 pub mod MaskLemmas
 pub mod NarrowLemmas
 pub mod NibbleLemmas
 pub mod TableLemmas
+pub mod WordLemmas

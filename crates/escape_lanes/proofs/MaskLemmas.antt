@@ -9,7 +9,7 @@ use lib.Count.{under}
 use Rattle.escape_lanes.specs.Bits.{first_set, none_set, bits_of, lanes_of, clear_last, length-lanes_of}
 
 -- bits are lanes of one bit
-bits-lanes : (k n : ℕ) → bits_of k n ≡ lanes_of 1 k n
+pub bits-lanes : (k n : ℕ) → bits_of k n ≡ lanes_of 1 k n
 unfolding bits_of lanes_of
 bits-lanes zero n = refl
 bits-lanes (suc k) n =
@@ -60,7 +60,7 @@ none_set-cons true bs = refl
 none_set-cons false bs = refl
 
 -- the lowest lane, and those above it
-lanes-suc : (w k n : ℕ) → lanes_of w (suc k) n ≡ not (nat_eq (n % 2 ^ w) 0) ∷ lanes_of w k (n / 2 ^ w)
+pub lanes-suc : (w k n : ℕ) → lanes_of w (suc k) n ≡ not (nat_eq (n % 2 ^ w) 0) ∷ lanes_of w k (n / 2 ^ w)
 unfolding lanes_of
 lanes-suc w k n = refl
 

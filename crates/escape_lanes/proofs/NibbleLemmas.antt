@@ -7,14 +7,9 @@ use Rattle.std.specs.Simd.Lanes.{zip2}
 use mir.Syntax.{w8}
 use Rattle.escape_lanes.specs.Lanes.{AreBytes}
 use Rattle.escape_lanes.specs.Mode.{html}
-use Rattle.escape_lanes.specs.Nibble.{html_flags, html_candidate}
+use Rattle.escape_lanes.specs.Nibble.{at_low_half, at_high_half, html_flags, html_candidate}
 use Rattle.escape_lanes.specs.Replacement.{needs_escape}
-use Rattle.escape_lanes.specs.declared.tables.nibble.TheConstants.{HTML_LO_NIBBLE_TAB, HTML_HI_NIBBLE_TAB, HTML_CANDIDATE_TAB}
 use Rattle.escape_lanes.proofs.LaneLemmas.{map-bytes}
-
--- a byte has a flag exactly where HTML escapes it, for each of the 256 bytes
-pub flags-need : (n : ℕ) (v : List ℕ) → AreBytes n v → map (λ b. not (nat_eq (html_flags b) 0)) v ≡ map (needs_escape html) v
-flags-need n v bytes = map-bytes (λ b. not (nat_eq (html_flags b) 0)) (needs_escape html) n v bytes refl
 
 -- look-ups at the places p b below 16, one for each lane b of a vector
 module _ (p : ℕ → ℕ) (small : (b : ℕ) → b < 256 → p b < 16) (n : ℕ) (v : List ℕ) (bytes : AreBytes n v) (blocks : n % 16 ≡ 0) where
@@ -27,14 +22,14 @@ module _ (p : ℕ → ℕ) (small : (b : ℕ) → b < 256 → p b < 16) (n : ℕ
   below i h = rw (place i h) (small (get_or v i 0) (bytes.small i h))
 
   -- the look-ups stay within their blocks
-  pub places_ok : SwzOk w8 16 n 0 (map p v)
+  places_ok : SwzOk w8 16 n 0 (map p v)
   places_ok =
       let l : length (map p v) ≡ n = length-map v p ∙ bytes.full in
       SwzOk-from_below w8 16 (n / 16) n 0 (map p v) (omega arith) (omega arith)
       (Each1-from_get_or (λ j. j < 16) (map p v) 0 (λ i h. below i (omega arith)))
 
   -- in the table s, which t has in each of its blocks of sixteen
-  pub looked_up : (t s : List ℕ) → ((k : ℕ) → k < n → slice_index t k ≡ slice_index s (k % 16)) → swz_l w8 16 t 0 (map p v) ≡ map (λ b. slice_index s (p b)) v
+  looked_up : (t s : List ℕ) → ((k : ℕ) → k < n → slice_index t k ≡ slice_index s (k % 16)) → swz_l w8 16 t 0 (map p v) ≡ map (λ b. slice_index s (p b)) v
   looked_up t s again =
       let l : length (map p v) ≡ n = length-map v p ∙ bytes.full in
       let m : length (map (λ b. slice_index s (p b)) v) ≡ n = length-map v (λ b. slice_index s (p b)) ∙ bytes.full in
@@ -56,7 +51,7 @@ low_place b h = omega (arith, and_le_r b 15)
 high_place : (b : ℕ) → b < 256 → b / 16 < 16
 high_place b h = omega arith
 
--- the two look-ups of the classifiers
+-- the look-ups of the classifiers
 module _ (n : ℕ) (v : List ℕ) (bytes : AreBytes n v) (blocks : n % 16 ≡ 0) where
   -- the places by the low half
   low : zip2 bit_and v (replicate n 15) ≡ map (λ b. bit_and b 15) v
@@ -74,21 +69,13 @@ module _ (n : ℕ) (v : List ℕ) (bytes : AreBytes n v) (blocks : n % 16 ≡ 0)
   pub high_ok : SwzOk w8 16 n 0 (zip2 (λ a b. a / 2 ^ b) v (replicate n 4))
   high_ok = rw high (places_ok (λ b. b / 16) high_place n v bytes blocks)
 
-  -- the look-up of the candidates
-  pub candidates-looked_up : (t : List ℕ)
-      → ((k : ℕ) → k < n → slice_index t k ≡ slice_index HTML_CANDIDATE_TAB (k % 16))
-      → swz_l w8 16 t 0 (zip2 bit_and v (replicate n 15)) ≡ map html_candidate v
-  candidates-looked_up t again = ap (λ js. swz_l w8 16 t 0 js) low ∙ looked_up (λ b. bit_and b 15) low_place n v bytes blocks t HTML_CANDIDATE_TAB again
+  -- the look-up by the low half
+  pub low-looked_up : (t s : List ℕ) → ((k : ℕ) → k < n → slice_index t k ≡ slice_index s (k % 16)) → swz_l w8 16 t 0 (zip2 bit_and v (replicate n 15)) ≡ map (at_low_half s) v
+  low-looked_up t s again = ap (λ js. swz_l w8 16 t 0 js) low ∙ looked_up (λ b. bit_and b 15) low_place n v bytes blocks t s again
 
-  -- both look-ups, joined by an and
-  pub flags-looked_up : (t u : List ℕ)
-      → ((k : ℕ) → k < n → slice_index t k ≡ slice_index HTML_LO_NIBBLE_TAB (k % 16))
-      → ((k : ℕ) → k < n → slice_index u k ≡ slice_index HTML_HI_NIBBLE_TAB (k % 16))
-      → zip2 bit_and (swz_l w8 16 t 0 (zip2 bit_and v (replicate n 15))) (swz_l w8 16 u 0 (zip2 (λ a b. a / 2 ^ b) v (replicate n 4))) ≡ map html_flags v
-  flags-looked_up t u again_low again_high =
-      zip2_of_maps bit_and (λ b. slice_index HTML_LO_NIBBLE_TAB (bit_and b 15)) (λ b. slice_index HTML_HI_NIBBLE_TAB (b / 16)) v
-      (ap (λ js. swz_l w8 16 t 0 js) low ∙ looked_up (λ b. bit_and b 15) low_place n v bytes blocks t HTML_LO_NIBBLE_TAB again_low)
-      (ap (λ js. swz_l w8 16 u 0 js) high ∙ looked_up (λ b. b / 16) high_place n v bytes blocks u HTML_HI_NIBBLE_TAB again_high)
+  -- the look-up by the high half
+  pub high-looked_up : (t s : List ℕ) → ((k : ℕ) → k < n → slice_index t k ≡ slice_index s (k % 16)) → swz_l w8 16 t 0 (zip2 (λ a b. a / 2 ^ b) v (replicate n 4)) ≡ map (at_high_half s) v
+  high-looked_up t s again = ap (λ js. swz_l w8 16 t 0 js) high ∙ looked_up (λ b. b / 16) high_place n v bytes blocks t s again
 
 -- the comparison of the flags with 0
 module _ (n : ℕ) (v flags : List ℕ) (bytes : AreBytes n v) (e : flags ≡ map html_flags v) where
@@ -96,13 +83,13 @@ module _ (n : ℕ) (v flags : List ℕ) (bytes : AreBytes n v) (e : flags ≡ ma
   pub length-flags : length flags ≡ n
   length-flags = ap length e ∙ length-map v html_flags ∙ bytes.full
 
-  -- a flag that is not 0 is a need
+  -- a flag that is not 0 is a need, for each of the 256 bytes
   pub flagged-need : zip2 (λ a b. not (nat_eq a b)) flags (replicate n 0) ≡ map (needs_escape html) v
   flagged-need =
       zip2_splat (λ a b. not (nat_eq a b)) flags n 0 length-flags
       ∙ ap (λ xs. map (λ b. not (nat_eq b 0)) xs) e
       ∙ map-map (λ b. not (nat_eq b 0)) html_flags v
-      ∙ flags-need n v bytes
+      ∙ map-bytes (λ b. not (nat_eq (html_flags b) 0)) (needs_escape html) n v bytes refl
 
 -- the comparison of the lanes with their candidates
 module _ (n : ℕ) (v candidates : List ℕ) (bytes : AreBytes n v) (e : candidates ≡ map html_candidate v) where

@@ -2,11 +2,12 @@
 use Rattle.std.proofs.Common.{◌≡◌, ℕ, ◌<◌, List, map, get_or, refl, sym, ap, ap₂, ◌∙◌, arith, if◌then◌else◌}
 use Rattle.std.proofs.lemmas.List.FromFn.{get_or-map-range_with_len}
 use Rattle.std.specs.List.{range_with_len}
-use Rattle.escape_lanes.specs.Mode.{Mode, json, html}
+use Rattle.escape_lanes.specs.Mode.{Mode, json, html, script}
 use Rattle.escape_lanes.specs.Replacement.{needs_escape, replacement}
 use Rattle.escape_lanes.specs.Entry.{entry_count, entry_bytes}
 use Rattle.escape_lanes.specs.declared.tables.html.TheConstants.{HTML_ESCAPE_TAB, HTML_NEED_ESCAPED}
 use Rattle.escape_lanes.specs.declared.tables.json.TheConstants.{NEED_ESCAPED, QUOTE_TAB}
+use Rattle.escape_lanes.specs.declared.tables.script.TheConstants.{SCRIPT_FLAGGED, SCRIPT_TAB}
 
 -- the entry of a byte
 abbrev pub entry : Mode → ℕ → ℕ × List ℕ
@@ -20,22 +21,26 @@ mark mode b = if needs_escape mode b then 1 else 0
 abbrev pub entries : Mode → List (ℕ × List ℕ)
 entries json = QUOTE_TAB
 entries html = HTML_ESCAPE_TAB
+entries script = SCRIPT_TAB
 
 -- and the marks
 abbrev pub marks : Mode → List ℕ
 marks json = NEED_ESCAPED
 marks html = HTML_NEED_ESCAPED
+marks script = SCRIPT_FLAGGED
 
 -- each entry that is written out is the one that is defined, by computation
 entries_are : (mode : Mode) → entries mode ≡ map (entry mode) (range_with_len 0 256)
 unfolding replacement
 entries_are json = refl
 entries_are html = refl
+entries_are script = refl
 
 -- likewise each mark
 marks_are : (mode : Mode) → marks mode ≡ map (mark mode) (range_with_len 0 256)
 marks_are json = refl
 marks_are html = refl
+marks_are script = refl
 
 -- a read of a table of a value for each byte
 read : {X : Type 0} (table : List X) (f : ℕ → X) → table ≡ map f (range_with_len 0 256) → (b : ℕ) (d : X) → b < 256 → get_or table b d ≡ f b

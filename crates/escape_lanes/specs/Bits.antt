@@ -1,5 +1,5 @@
 -- Masks as lists of truth values, one for each lane, the first lane first.
-use Rattle.std.specs.Prelude.{◌≡◌, ℕ, ◌-◌, ◌/◌, ◌%◌, ◌^◌, Bool, true, false, List, [], ◌∷◌, ◌++◌, length, take, replicate, nat_eq, refl}
+use Rattle.std.specs.Prelude.{◌≡◌, ℕ, ◌-◌, ◌/◌, ◌%◌, ◌^◌, Bool, true, false, List, [], ◌∷◌, ◌++◌, length, take, drop, replicate, nat_eq, refl}
 use Rattle.std.proofs.Common.{zero, suc, ap, not}
 
 -- the place of the first set lane, and the number of lanes where none is set
@@ -17,6 +17,10 @@ none_set (false ∷ bs) = none_set bs
 -- the last n lanes cleared
 abbrev pub clear_last : ℕ → List Bool → List Bool
 clear_last n bs = take (length bs - n) bs ++ replicate n false
+
+-- the first n lanes cleared
+abbrev pub clear_first : ℕ → List Bool → List Bool
+clear_first n bs = replicate n false ++ drop n bs
 
 -- the lowest k bits of n, lowest first
 unfoldable pub bits_of : ℕ → ℕ → List Bool

@@ -1,5 +1,5 @@
 -- Vectors and masks as lists of lanes.
-use Rattle.std.specs.Prelude.{◌≡◌, ℕ, ◌<◌, Bool, List, length, map, nat_eq, slice_index_or, if◌then◌else◌}
+use Rattle.std.specs.Prelude.{◌≡◌, ℕ, ◌<◌, Bool, List, length, map, not, nat_eq, nat_le, slice_index_or, if◌then◌else◌}
 
 -- n lanes, each a byte
 pub record AreBytes (n : ℕ) (lanes : List ℕ) : Type 0 where
@@ -20,3 +20,13 @@ mask_lanes one = map (λ b. if b then one else 0)
 pub record AreWhole (one n : ℕ) (lanes : List ℕ) : Type 0 where
   pub full : length lanes ≡ n
   pub whole : lanes ≡ mask_lanes one (set_lanes one lanes)
+
+-- A vector of flags has 80 or more in each lane that is flagged, and less in the others.
+
+-- whether each lane is flagged
+abbrev pub flagged_lanes : List ℕ → List Bool
+flagged_lanes = map (λ b. nat_le 0x80 b)
+
+-- exactly one of both
+abbrev pub is_one_of : Bool → Bool → Bool
+is_one_of p q = if p then not q else q

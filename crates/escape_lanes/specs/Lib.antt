@@ -4,4 +4,5 @@ pub mod Entry
 pub mod Bits
 pub mod Lanes
 pub mod Nibble
+pub mod Words
 pub mod Written

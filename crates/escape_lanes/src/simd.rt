@@ -3,7 +3,10 @@
 pub mod avx2;
 pub mod avx512;
 pub mod bits;
+pub mod flags;
+mod front;
 mod lanes;
+pub mod last;
 pub mod neon;
 pub mod sse2;
 pub mod target;
@@ -13,4 +16,6 @@ mod ticks;
 pub mod traits;
 pub mod v128;
 
+pub use flags::{Flags, LaneMask};
+pub use last::LoadLast;
 pub use traits::{BitMask, Mask, Simd};

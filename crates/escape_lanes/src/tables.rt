@@ -1,17 +1,19 @@
 //! What stands for each byte of a text, written out for all 256 bytes.
 ghost use Rattle.std.specs.Prelude.{◌≡◌, [], slice_index, slice_index_or, if◌then◌else◌};
-ghost use Rattle.escape_lanes.specs.Mode.{json, html};
+ghost use Rattle.escape_lanes.specs.Mode.{json, html, script};
 ghost use Rattle.escape_lanes.specs.Replacement.{needs_escape};
 ghost use Rattle.escape_lanes.specs.Entry.{entry_count, entry_bytes};
 
 mod html;
 mod json;
 mod nibble;
+mod script;
 
 pub use html::{HTML_ESCAPE_TAB, HTML_NEED_ESCAPED};
 pub use json::{NEED_ESCAPED, QUOTE_TAB};
-pub(crate) use nibble::HTML_CANDIDATE_TAB;
+pub(crate) use nibble::{HTML_CANDIDATE_TAB, SCRIPT_HI_NIBBLE_TAB, SCRIPT_LO_NIBBLE_TAB};
 pub use nibble::{HTML_HI_NIBBLE_TAB, HTML_LO_NIBBLE_TAB};
+pub use script::{LINE_SEPARATOR, PARAGRAPH_SEPARATOR, SCRIPT_FLAGGED, SCRIPT_TAB};
 
 /// The byte's entry in [`QUOTE_TAB`], by reference: the count of bytes that stand for it in a JSON
 /// string literal, and 0 where it stands for itself; then those bytes, padded with zeros to eight.
@@ -31,6 +33,17 @@ pub fn html_entry(b: u8) -> &'static (u8, [u8; 8])
     ensures bytes { result.now.1 ≡ entry_bytes html b }
 {
     &HTML_ESCAPE_TAB[b as usize]
+}
+
+/// The byte's entry in [`SCRIPT_TAB`], by reference: the count of bytes that stand for it in a script
+/// literal where no separator begins with it, and 0 where it is not flagged; then those bytes, padded
+/// with zeros to eight.
+#[inline(always)]
+pub fn script_entry(b: u8) -> &'static (u8, [u8; 8])
+    ensures count { result.now.0 ≡ entry_count script b }
+    ensures bytes { result.now.1 ≡ entry_bytes script b }
+{
+    &SCRIPT_TAB[b as usize]
 }
 
 /// The byte's row of the JSON tables: its mark in [`NEED_ESCAPED`] and its entry in [`QUOTE_TAB`].

@@ -1,6 +1,8 @@
 ghost use Rattle.std.specs.Prelude.{◌≡◌, ℕ, ◌+◌, ◌<◌, length, slice_set};
 ghost use Rattle.escape_lanes.specs.Written.{bytes_of, quotes_of, IsSameSlice};
 
+mod script;
+
 use crate::simd::bits::NeonBits;
 use crate::simd::sse2::Simd128u;
 use crate::simd::target::{Target, Ticks};
@@ -9,6 +11,21 @@ use crate::tables::{
     HTML_ESCAPE_TAB, HTML_NEED_ESCAPED, NEED_ESCAPED, QUOTE_TAB, html_entry, html_row, json_entry,
     json_row,
 };
+
+// Whether the byte needs an escape in JSON.
+pub(crate) fn needs_json(b: u8) -> bool {
+    matches!(b, 0x00..=0x1f | 0x22 | 0x5c)
+}
+
+// Whether it does in HTML.
+pub(crate) fn needs_html(b: u8) -> bool {
+    matches!(b, 0x22 | 0x26 | 0x27 | 0x2f | 0x3c | 0x3e)
+}
+
+// Whether a script literal has to look at it.
+pub(crate) fn needs_script(b: u8) -> bool {
+    matches!(b, 0x26 | 0x3c | 0x3e | 0xe2) || needs_json(b)
+}
 
 // The lower-case hex digit of a number below 16.
 fn hex_digit(n: u8) -> u8
@@ -72,8 +89,8 @@ fn all_rows(rt: HostRuntime) {
     for b in 0..=u8::MAX {
         let json = expected_json_entry(b);
         let html = expected_html_entry(b);
-        let json_need = if json.0 == 0 { 0 } else { 1 };
-        let html_need = if html.0 == 0 { 0 } else { 1 };
+        let json_need = needs_json(b) as u8;
+        let html_need = needs_html(b) as u8;
         let place = b as usize;
         assert!(rt; &QUOTE_TAB[place] == &json, "JSON, byte {b}");
         assert!(rt; &HTML_ESCAPE_TAB[place] == &html, "HTML, byte {b}");

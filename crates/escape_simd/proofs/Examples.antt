@@ -1,13 +1,16 @@
 -- Outputs and readings that show what the definitions say.
-use Rattle.std.proofs.Common.{◌≡◌, ℕ, List, [], ◌∷◌, ◌++◌, codes, length, length-append, refl, ap, ◌∙◌, arith}
+use Rattle.std.proofs.Common.{◌≡◌, ◌≢◌, ℕ, List, [], ◌∷◌, ◌++◌, codes, length, length-append, refl, ap, ◌∙◌, arith}
 use Rattle.std.specs.Char.{encode_utf8}
 use Rattle.std.specs.List.{concat, AllZip}
-use Rattle.escape_lanes.specs.Mode.{json, html}
+use Rattle.escape_lanes.specs.Mode.{json, html, script}
 use Rattle.escape_lanes.specs.Replacement.{replacement}
-use Rattle.escape_simd.specs.Output.{plain}
+use Rattle.escape_simd.specs.Output.{begins_separator, script_inner_after, inner, plain}
 use Rattle.escape_simd.specs.Html.{HtmlReads, IsHtmlItem, entity_of, entity, raw as html_raw}
 use Rattle.escape_simd.specs.Json.{JsonDenotes, IsJsonItem, raw, short, hex, pair, digits, short_escape, IsHexForm}
-use Rattle.escape_simd.proofs.JsonLemmas.{not_u, length-pair}
+use Rattle.escape_simd.specs.Script.{IsScriptItem, IsScriptFree, IsSafeInScript}
+use Rattle.escape_simd.proofs.JsonLemmas.{not_u, length-pair, literal-least}
+use Rattle.escape_simd.proofs.ReplacementLemmas.{script_replacement}
+use Rattle.escape_simd.proofs.ScriptLemmas.{least}
 use Rattle.std.proofs.lemmas.List.{append_cancel_right}
 use Rattle.std.proofs.lemmas.Str.{char_from_byte}
 use Rattle.escape_simd.proofs.HtmlLemmas.{six_cases, entity_is}
@@ -21,6 +24,21 @@ entities = refl
 literal : plain json (0 ∷ 31 ∷ 8 ∷ 10 ∷ 34 ∷ 92 ∷ 47 ∷ 127 ∷ 226 ∷ []) ≡ codes "\"\\u0000\\u001f\\b\\n\\\"\\\\/" ++ 127 ∷ 226 ∷ 34 ∷ []
 unfolding replacement
 literal = refl
+
+-- the five characters that a script literal escapes besides, and a slash that stands for itself
+script_literal : plain script (codes "</script>&" ++ 0xe2 ∷ 0x80 ∷ 0xa8 ∷ 0xe2 ∷ 0x80 ∷ 0xa9 ∷ []) ≡ codes "\"\\u003c/script\\u003e\\u0026\\u2028\\u2029\""
+unfolding replacement script_inner_after begins_separator
+script_literal = refl
+
+-- the escapes of JSON, and other bytes that begin with e2, also where a separator is cut short
+script_others : plain script (0 ∷ 10 ∷ 34 ∷ 92 ∷ 0xe2 ∷ 0x80 ∷ 0xa7 ∷ 0xe2 ∷ 0x82 ∷ 0xac ∷ 0xe2 ∷ 0x80 ∷ []) ≡ codes "\"\\u0000\\n\\\"\\\\" ++ 0xe2 ∷ 0x80 ∷ 0xa7 ∷ 0xe2 ∷ 0x82 ∷ 0xac ∷ 0xe2 ∷ 0x80 ∷ 34 ∷ []
+unfolding replacement script_inner_after begins_separator
+script_others = refl
+
+-- where a separator is cut in two, neither part is escaped
+cut_separator : inner script (0xe2 ∷ []) ++ inner script (0x80 ∷ 0xa8 ∷ []) ≢ inner script (0xe2 ∷ 0x80 ∷ 0xa8 ∷ [])
+unfolding replacement script_inner_after begins_separator
+cut_separator same = cc
 
 -- a raw `<` reads as itself, and so does its entity
 two_readings : HtmlReads (codes "<&lt;") (60 ∷ 60 ∷ [])
@@ -85,3 +103,19 @@ lone_surrogate text denotes = from denotes.spelled.items text denotes.spelled.ea
     from [] t h e = cc
     from (i ∷ is) [] h e = h
     from (i ∷ is) (c ∷ cs) h e = of_item i (concat is) c h.0 e
+
+-- a raw `<` denotes itself, but not in a script literal
+raw_mark : JsonDenotes (codes "\"<\"") (0x3c ∷ []) × (IsScriptFree (codes "\"<\"") (0x3c ∷ []) → ⊥)
+unfolding encode_utf8 script_replacement
+raw_mark = (
+  record {
+    inside = codes "<";
+    spelled = record { items = codes "<" ∷ []; each = (raw refl (omega arith) (omega arith) (omega arith), tt); joined = refl };
+    between = refl;
+  },
+  λ free. let long = literal-least IsScriptItem script_replacement least (codes "\"<\"") (0x3c ∷ []) free in omega arith,
+)
+
+-- what ends a script element can't stand in one
+script_end : IsSafeInScript (codes "\"</script>\"") → ⊥
+script_end safe = (safe.no_markup 1 0 (omega arith)).0 refl

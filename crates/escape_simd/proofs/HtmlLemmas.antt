@@ -12,8 +12,8 @@ use Rattle.escape_lanes.specs.Mode.{html}
 use Rattle.escape_lanes.specs.Replacement.{replacement, needs_escape}
 use Rattle.escape_simd.specs.Output.{inner, plain}
 use Rattle.escape_simd.specs.Html.{IsHtmlItem, entity_of, entity, raw, HtmlReads, is_markup, IsMarkupFree, IsOnlyHtml, AmpersandsBeginEntities}
-use Rattle.escape_simd.proofs.SpellingLemmas.{flat_map-encode_utf8_all, Spells-flat_map, concat_of_pieces, Spells-one_text, AllByRecursion-append, AllByRecursion-parts}
-use Rattle.escape_simd.proofs.ReplacementLemmas.{inner_clean, inner_needed, needs_escape_low, replacement_clean}
+use Rattle.escape_simd.proofs.SpellingLemmas.{Spells-flat_map, concat_of_pieces, Spells-one_text, AllByRecursion-append, AllByRecursion-parts}
+use Rattle.escape_simd.proofs.ReplacementLemmas.{inner_clean, inner_needed, inner-pieces, needs_escape_low, replacement-clean}
 
 -- what stands for a character
 abbrev piece : ℕ → List ℕ
@@ -21,7 +21,7 @@ piece c = inner html (encode_utf8 c)
 
 -- the output, character by character
 plain_pieces : (text : List ℕ) → plain html (encode_utf8_all text) ≡ flat_map piece text
-plain_pieces text = flat_map-encode_utf8_all (replacement html) text
+plain_pieces text = inner-pieces html text
 
 -- one of the six characters that have an entity
 pub six_cases : (c : ℕ) → needs_escape html c ≡ true → (P : ℕ → Type 0) → P 0x22 → P 0x26 → P 0x27 → P 0x2f → P 0x3c → P 0x3e → P c
@@ -52,8 +52,8 @@ piece_item : (c : ℕ) → IsScalar c → IsHtmlItem (piece c) c
 piece_item c scalar =
     let along = λ (bytes : List ℕ) (e : piece c ≡ bytes) (item : IsHtmlItem bytes c). subst (λ i. IsHtmlItem i c) (sym e) item in
     elim (cases_Bool (needs_escape html c)) [
-      | inl need ↦ along (replacement html c) (inner_needed html c need) (entity (entity_of_needed c need))
-      | inr clean ↦ along (encode_utf8 c) (inner_clean html c clean) (raw scalar (grind (arith, nat_tests)))
+      | inl need ↦ along (replacement html c) (inner_needed html tt c need) (entity (entity_of_needed c need))
+      | inr clean ↦ along (encode_utf8 c) (inner_clean html tt c clean) (raw scalar (grind (arith, nat_tests)))
     ]
 
 -- the output reads as the text
@@ -67,7 +67,7 @@ replacement_markup_free b =
     let free : List ℕ → Type 0 = λ bytes. AllByRecursion (λ x. is_markup x ≡ false) bytes in
     elim (cases_Bool (needs_escape html b)) [
       | inl need ↦ six_cases b need (λ x. free (replacement html x)) (search) (search) (search) (search) (search) (search)
-      | inr clean ↦ subst free (sym (replacement_clean html b clean)) (grind (arith, nat_tests), tt)
+      | inr clean ↦ subst free (sym (replacement-clean html b clean)) (grind (arith, nat_tests), tt)
     ]
 
 -- the output holds no markup
@@ -97,15 +97,15 @@ replacement_ampersand c need =
 
 -- an item without markup is what stands for the character
 markup_free_item : (i : List ℕ) (c : ℕ) → IsHtmlItem i c → AllByRecursion (λ x. is_markup x ≡ false) i → i ≡ piece c
-markup_free_item i c (entity e) free = let h = entity_is c i e in h.1 ∙ sym (inner_needed html c h.0)
+markup_free_item i c (entity e) free = let h = entity_is c i e in h.1 ∙ sym (inner_needed html tt c h.0)
 markup_free_item i c (raw scalar other) free =
     elim (cases_Bool (needs_escape html c)) [
       | inl need ↦
-          let byte = encode_ascii c (needs_escape_low html c need) in
+          let byte = encode_ascii c (needs_escape_low html tt c need) in
           let at : AllByRecursion (λ x. is_markup x ≡ false) (c ∷ []) = subst (λ bytes. AllByRecursion (λ x. is_markup x ≡ false) bytes) byte free in
           let unmarked : is_markup c ≡ false = at.0 in
           grind (arith, nat_tests)
-      | inr clean ↦ sym (inner_clean html c clean)
+      | inr clean ↦ sym (inner_clean html tt c clean)
     ]
 
 -- items without markup are what stands for the characters
@@ -200,7 +200,7 @@ ampersand_step b tail begins =
           subst (λ bytes. AmpersandsBeginEntities (bytes ++ tail)) (sym entity.1) (past_entity b entity.0 tail need entity.1 entity.2 begins)
       | inr clean ↦
           let other : b ≢ 0x26 = grind (arith, nat_tests) in
-          subst (λ bytes. AmpersandsBeginEntities (bytes ++ tail)) (sym (replacement_clean html b clean)) (past_letters (b ∷ []) tail (other, tt) begins)
+          subst (λ bytes. AmpersandsBeginEntities (bytes ++ tail)) (sym (replacement-clean html b clean)) (past_letters (b ∷ []) tail (other, tt) begins)
     ]
 
 -- each ampersand of the output begins an entity

@@ -5,7 +5,7 @@ use Rattle.std.proofs.lemmas.List.{get_or_default}
 use borrow.Author.Count.{below_more}
 use Rattle.escape_lanes.specs.Mode.{Mode}
 use Rattle.escape_simd.specs.Output.{inner}
-use Rattle.escape_simd.proofs.OutputLemmas.{inner-append}
+use Rattle.escape_simd.proofs.OutputLemmas.{CanBeCutAfter, inner-append}
 
 -- one more list, joined
 concat_suc : {X : Type 0} (f : X → List ℕ) (xs : List X) (n : ℕ) (d : X) → n < length xs → concat (take (suc n) (map f xs)) ≡ concat (take n (map f xs)) ++ f (get_or xs n d)
@@ -16,13 +16,14 @@ concat_suc f (x ∷ xs) (suc n) d inside =
 
 -- the bytes that a vector holds once one more text is written
 pub written_more : {X : Type 0} (mode : Mode) (f : X → List ℕ) (xs : List X) (n : ℕ) (d : X) (start before after : List ℕ) → n < length xs
+    → CanBeCutAfter mode (concat (take n (map f xs)))
     → before ≡ start ++ inner mode (concat (take n (map f xs))) → after ≡ before ++ inner mode (f (get_or xs n d))
     → after ≡ start ++ inner mode (concat (take (n + 1) (map f xs)))
-written_more mode f xs n d start before after inside so_far more =
+written_more mode f xs n d start before after inside cut so_far more =
     let front = concat (take n (map f xs)) in
     let next = f (get_or xs n d) in
     let joined : concat (take (n + 1) (map f xs)) ≡ front ++ next = rw add-one (concat_suc f xs n d inside) in
-    more ∙ ap (λ bytes. bytes ++ inner mode next) so_far ∙ append_assoc start (inner mode front) (inner mode next) ∙ ap (λ bytes. start ++ bytes) (sym (inner-append mode (concat (take (n + 1) (map f xs))) front next joined))
+    more ∙ ap (λ bytes. bytes ++ inner mode next) so_far ∙ append_assoc start (inner mode front) (inner mode next) ∙ ap (λ bytes. start ++ bytes) (sym (inner-append mode (concat (take (n + 1) (map f xs))) front next joined cut))
 
 -- what holds of each of the first values, once it holds of one more
 pub each_more : {X : Type 0} (f : X → ℕ) (most : ℕ) (xs : List X) (n : ℕ) (e : X) → n < length xs

@@ -1,8 +1,8 @@
 -- Laws of JSON literals.
-use Rattle.std.proofs.Common.{◌≡◌, ◌≢◌, ℕ, ◌+◌, ◌-◌, ◌*◌, ◌/◌, ◌%◌, ◌<◌, ◌≤◌, true, false, ◌⊎◌, List, [], ◌∷◌, ◌++◌, length, length-append, flat_map, encode_utf8, encode_utf8_all, Some, refl, sym, ap, ap₂, subst, subst₂, ◌∙◌, append_assoc, arith, inl, inr, IsUtf8, chars, le_trans, le_antisymm}
+use Rattle.std.proofs.Common.{◌≡◌, ◌≢◌, ℕ, ◌+◌, ◌-◌, ◌*◌, ◌/◌, ◌%◌, ◌<◌, ◌≤◌, true, false, ◌⊎◌, List, [], ◌∷◌, ◌++◌, length, length-append, flat_map, encode_utf8, encode_utf8_all, Some, refl, sym, ap, ap₂, subst, subst₂, ◌∙◌, append_assoc, arith, inl, inr, IsUtf8, chars, le_antisymm}
 use Rattle.std.specs.Char.{IsScalar, digit_value, digit_char}
 use Rattle.std.specs.Str.{all_scalars}
-use Rattle.std.specs.List.{AllZip, concat}
+use Rattle.std.specs.List.{concat}
 use Rattle.std.proofs.lemmas.Bool.{cases_lt, cases_Bool}
 use Rattle.std.proofs.lemmas.Bool.Decides.{nat_tests}
 use Rattle.std.proofs.lemmas.List.{append_cancel_right}
@@ -10,10 +10,10 @@ use Rattle.std.proofs.lemmas.Str.{encode_same, char_from_byte, length-encode, le
 use Rattle.escape_lanes.specs.Mode.{json}
 use Rattle.escape_lanes.specs.Replacement.{replacement, needs_escape, control_escape}
 use Rattle.escape_simd.specs.Output.{inner, plain, quoted}
-use Rattle.escape_simd.specs.Json.{IsJsonItem, raw, short, hex, pair, IsHexForm, digits, IsHexDigit, short_escape, JsonDenotes, IsNotUpper, HasLowerDigits, IsLowerItem, IsLower, IsShortestJson, IsOnlyJson}
+use Rattle.escape_simd.specs.Json.{IsJsonItem, raw, short, hex, pair, IsHexForm, digits, IsHexDigit, short_escape, IsLiteral, JsonDenotes, IsNotUpper, HasLowerDigits, IsLowerItem, IsLower, IsShortestJson, IsOnlyJson}
 use Rattle.escape_simd.specs.Spelling.{Spells}
-use Rattle.escape_simd.proofs.SpellingLemmas.{flat_map-encode_utf8_all, Spells-flat_map, Spells-one_text, pieces_le, only_pieces}
-use Rattle.escape_simd.proofs.ReplacementLemmas.{inner_clean, inner_needed}
+use Rattle.escape_simd.proofs.SpellingLemmas.{Spells-flat_map, Spells-one_text, pieces_le, only_pieces, AllZip-weaker}
+use Rattle.escape_simd.proofs.ReplacementLemmas.{inner_clean, inner_needed, inner-pieces, hex_escape, length-replacement}
 
 -- what stands for a character
 abbrev piece : ℕ → List ℕ
@@ -21,7 +21,7 @@ piece c = inner json (encode_utf8 c)
 
 -- what stands for the bytes of a text, character by character
 pieces : (text : List ℕ) → inner json (encode_utf8_all text) ≡ flat_map piece text
-pieces text = flat_map-encode_utf8_all (replacement json) text
+pieces text = inner-pieces json text
 
 -- a control character with no short form is written by four hex digits
 pub record IsWrittenByHex (c : ℕ) : Type 0 where
@@ -46,7 +46,7 @@ needed_cases c need P p1 p2 p3 p4 p5 p6 p7 other =
     ]
 
 -- the eight short forms
-short_cases : (b c : ℕ) → short_escape b ≡ Some c → (P : ℕ → ℕ → Type 0) → P 0x22 0x22 → P 0x5c 0x5c → P 0x2f 0x2f → P 0x62 0x08 → P 0x66 0x0c → P 0x6e 0x0a → P 0x72 0x0d → P 0x74 0x09 → P b c
+pub short_cases : (b c : ℕ) → short_escape b ≡ Some c → (P : ℕ → ℕ → Type 0) → P 0x22 0x22 → P 0x5c 0x5c → P 0x2f 0x2f → P 0x62 0x08 → P 0x66 0x0c → P 0x6e 0x0a → P 0x72 0x0d → P 0x74 0x09 → P b c
 unfolding short_escape
 short_cases b c e P p1 p2 p3 p4 p5 p6 p7 p8 =
     let which : ((b ≡ 0x22) × (c ≡ 0x22)) ⊎ (((b ≡ 0x5c) × (c ≡ 0x5c)) ⊎ (((b ≡ 0x2f) × (c ≡ 0x2f)) ⊎ (((b ≡ 0x62) × (c ≡ 0x08)) ⊎ (((b ≡ 0x66) × (c ≡ 0x0c)) ⊎ (((b ≡ 0x6e) × (c ≡ 0x0a)) ⊎ (((b ≡ 0x72) × (c ≡ 0x0d)) ⊎ ((b ≡ 0x74) × (c ≡ 0x09)))))))) = grind (arith, nat_tests) in
@@ -70,51 +70,65 @@ lower_digit d h k = grind (arith, nat_tests)
 digit_char_not_upper : (v : ℕ) → v < 16 → IsNotUpper (digit_char v)
 digit_char_not_upper v h = grind (arith, nat_tests)
 
--- the hex escape of a control character is a form of its value with lower-case digits
-control_form : (c : ℕ) → c < 32 → (form : IsHexForm (control_escape c) c) × HasLowerDigits form
-control_form c low =
-    let high : digit_value (digit_char (c / 16)) ≡ c / 16 = digit_value-digit_char (c / 16) (omega arith) in
-    let rest : digit_value (digit_char (c % 16)) ≡ c % 16 = digit_value-digit_char (c % 16) (omega arith) in
-    let worth : 0 * 0x1000 + 0 * 0x100 + digit_value (digit_char (c / 16)) * 0x10 + digit_value (digit_char (c % 16)) ≡ c = omega arith in
-    subst (λ value. (form : IsHexForm (control_escape c) value) × HasLowerDigits form) worth (
+-- the hex escape of a character is a form of its value with lower-case digits
+pub hex_form : (c : ℕ) → c < 0x10000 → (form : IsHexForm (hex_escape c) c) × HasLowerDigits form
+hex_form c low =
+    let value = λ (d : ℕ). digit_value (digit_char d) in
+    let e3 = digit_value-digit_char (c / 0x1000) (omega arith) in
+    let e2 = digit_value-digit_char (c / 0x100 % 16) (omega arith) in
+    let e1 = digit_value-digit_char (c / 0x10 % 16) (omega arith) in
+    let e0 = digit_value-digit_char (c % 16) (omega arith) in
+    let worth : value (c / 0x1000) * 0x1000 + value (c / 0x100 % 16) * 0x100 + value (c / 0x10 % 16) * 0x10 + value (c % 16) ≡ c = omega arith in
+    subst (λ n. (form : IsHexForm (hex_escape c) n) × HasLowerDigits form) worth (
       digits (omega arith) (omega arith) (omega arith) (omega arith),
-      (inl (omega arith), inl (omega arith), digit_char_not_upper (c / 16) (omega arith), digit_char_not_upper (c % 16) (omega arith)),
+      (digit_char_not_upper (c / 0x1000) (omega arith), digit_char_not_upper (c / 0x100 % 16) (omega arith), digit_char_not_upper (c / 0x10 % 16) (omega arith), digit_char_not_upper (c % 16) (omega arith)),
     )
+
+-- and the only such form
+pub hex_only : (i : List ℕ) (c : ℕ) → (form : IsHexForm i c) → HasLowerDigits form → i ≡ hex_escape c
+hex_only i c (digits {d3 = d3} {d2 = d2} {d1 = d1} {d0 = d0} h3 h2 h1 h0) lower =
+    let e3 : d3 ≡ digit_char (c / 0x1000) = lower_digit d3 h3 lower.0 ∙ ap digit_char (omega arith) in
+    let e2 : d2 ≡ digit_char (c / 0x100 % 16) = lower_digit d2 h2 lower.1 ∙ ap digit_char (omega arith) in
+    let e1 : d1 ≡ digit_char (c / 0x10 % 16) = lower_digit d1 h1 lower.2 ∙ ap digit_char (omega arith) in
+    let e0 : d0 ≡ digit_char (c % 16) = lower_digit d0 h0 lower.3 ∙ ap digit_char (omega arith) in
+    cc
+
+-- a control character is written so
+control_hex : (c : ℕ) → c < 32 → control_escape c ≡ hex_escape c
+control_hex c low =
+    let d3 : c / 0x1000 ≡ 0 = omega arith in
+    let d2 : c / 0x100 % 16 ≡ 0 = omega arith in
+    let d1 : c / 0x10 % 16 ≡ c / 16 = omega arith in
+    rw (d3, d2, d1) refl
 
 -- forms that begin one byte list have one value
 hex_same : (i j x y : List ℕ) (u v : ℕ) → IsHexForm i u → IsHexForm j v → i ++ x ≡ j ++ y → (u ≡ v) × (x ≡ y)
 hex_same i j x y u v (digits _ _ _ _) (digits _ _ _ _) e = (cc, cc)
 
 -- what stands for a character is an item of it with no upper-case hex digit
-lower_item : (c : ℕ) → IsScalar c → IsLowerItem (piece c) c
+pub lower_item : (c : ℕ) → IsScalar c → IsLowerItem (piece c) c
 unfolding replacement short_escape
 lower_item c scalar =
     let Lower : ℕ → Type 0 = λ x. IsLowerItem (replacement json x) x in
     let along = λ (bytes : List ℕ) (e : piece c ≡ bytes) (item : IsLowerItem bytes c). subst (λ bytes. IsLowerItem bytes c) (sym e) item in
     elim (cases_Bool (needs_escape json c)) [
-      | inl need ↦ along (replacement json c) (inner_needed json c need)
+      | inl need ↦ along (replacement json c) (inner_needed json tt c need)
           (needed_cases c need Lower (short refl, tt) (short refl, tt) (short refl, tt) (short refl, tt) (short refl, tt) (short refl, tt) (short refl, tt)
-          (λ h. let form = control_form c h.low in
-          subst (λ bytes. IsLowerItem bytes c) (sym h.written) (hex form.0 (inl (omega arith)), form.1)))
-      | inr clean ↦ along (encode_utf8 c) (inner_clean json c clean) (raw scalar (grind (arith, nat_tests)) (grind (arith, nat_tests)) (grind (arith, nat_tests)), tt)
+          (λ h. let low = h.low in
+          let form = hex_form c (omega arith) in
+          subst (λ bytes. IsLowerItem bytes c) (sym (h.written ∙ control_hex c low)) (hex form.0 (inl (omega arith)), form.1)))
+      | inr clean ↦ along (encode_utf8 c) (inner_clean json tt c clean) (raw scalar (grind (arith, nat_tests)) (grind (arith, nat_tests)) (grind (arith, nat_tests)), tt)
     ]
 
 -- Lengths
 
 -- a form has six bytes
-length-form : (i : List ℕ) (u : ℕ) → IsHexForm i u → length i ≡ 6
+pub length-form : (i : List ℕ) (u : ℕ) → IsHexForm i u → length i ≡ 6
 length-form i u (digits _ _ _ _) = refl
 
 -- two forms have twelve bytes
 pub length-pair : (i j : List ℕ) (u v : ℕ) → IsHexForm i u → IsHexForm j v → length (i ++ j) ≡ 12
 length-pair i j u v f g = length-append i j ∙ ap₂ (λ a b. a + b) (length-form i u f) (length-form j v g)
-
--- an escape has six bytes at most
-length-replacement-le : (c : ℕ) → needs_escape json c ≡ true → length (replacement json c) ≤ 6
-unfolding replacement
-length-replacement-le c need =
-    needed_cases c need (λ x. length (replacement json x) ≤ 6) (omega arith) (omega arith) (omega arith) (omega arith) (omega arith) (omega arith) (omega arith)
-    (λ h. omega (arith, ap length h.written))
 
 -- a character with a short form that needs an escape is written so
 short_written : (b c : ℕ) → short_escape b ≡ Some c → needs_escape json c ≡ true → replacement json c ≡ 0x5c ∷ b ∷ []
@@ -132,42 +146,31 @@ raw_clean c h k l = grind (arith, nat_tests)
 
 -- a character that needs no escape is written by four bytes at most
 length-clean : (c : ℕ) → needs_escape json c ≡ false → length (piece c) ≤ 4
-length-clean c clean = let bound = (len_utf8_bounds c).1 in omega (arith, ap length (inner_clean json c clean), length-encode c)
+length-clean c clean = let bound = (len_utf8_bounds c).1 in omega (arith, ap length (inner_clean json tt c clean), length-encode c)
 
 -- one below U+0080 is written by one byte
 length-low : (c : ℕ) → needs_escape json c ≡ false → c < 128 → length (piece c) ≡ 1
-length-low c clean low = ap length (inner_clean json c clean) ∙ length-encode c ∙ len_utf8_ascii c low
+length-low c clean low = ap length (inner_clean json tt c clean) ∙ length-encode c ∙ len_utf8_ascii c low
 
 -- a character is written by six bytes at most
 length-piece-le : (c : ℕ) → length (piece c) ≤ 6
 length-piece-le c =
     elim (cases_Bool (needs_escape json c)) [
-      | inl need ↦ omega (arith, ap length (inner_needed json c need), length-replacement-le c need)
+      | inl need ↦ omega (arith, ap length (inner_needed json tt c need), (length-replacement json c).1)
       | inr clean ↦ omega (arith, length-clean c clean)
     ]
 
 -- no item is shorter than what stands for the character
 pub least : (i : List ℕ) (c : ℕ) → IsJsonItem i c → length (piece c) ≤ length i
-least i c (raw scalar h k l) = omega (arith, ap length (inner_clean json c (raw_clean c h k l)))
+least i c (raw scalar h k l) = omega (arith, ap length (inner_clean json tt c (raw_clean c h k l)))
 least i c (short {b = b} s) =
     elim (cases_Bool (needs_escape json c)) [
-      | inl need ↦ omega (arith, ap length (inner_needed json c need ∙ short_written b c s need))
+      | inl need ↦ omega (arith, ap length (inner_needed json tt c need ∙ short_written b c s need))
       | inr clean ↦ omega (arith, length-low c clean (short_low b c s))
     ]
 least i c (hex form _) = omega (arith, length-form i c form, length-piece-le c)
 least i c (pair {first = f} {second = s} {high = h} {low = l} first second _ _) =
     omega (arith, length-pair f s h l first second, length-piece-le c)
-
--- four lower-case hex digits of a control character
-control_only : (i : List ℕ) (c : ℕ) → (f : IsHexForm i c) → HasLowerDigits f → c < 32 → i ≡ control_escape c
-control_only i c (digits {d3 = d3} {d2 = d2} {d1 = d1} {d0 = d0} h3 h2 h1 h0) lower low =
-    let v3 : digit_value d3 ≡ 0 = omega arith in
-    let v2 : digit_value d2 ≡ 0 = omega arith in
-    let e3 : d3 ≡ 48 = lower_digit d3 h3 lower.0 ∙ ap digit_char v3 in
-    let e2 : d2 ≡ 48 = lower_digit d2 h2 lower.1 ∙ ap digit_char v2 in
-    let e1 : d1 ≡ digit_char (c / 16) = lower_digit d1 h1 lower.2 ∙ ap digit_char (omega arith) in
-    let e0 : d0 ≡ digit_char (c % 16) = lower_digit d0 h0 lower.3 ∙ ap digit_char (omega arith) in
-    cc
 
 -- six bytes stand for no character with a short form
 hex_written : (c : ℕ) → needs_escape json c ≡ true → 6 ≤ length (replacement json c) → IsWrittenByHex c
@@ -179,18 +182,18 @@ hex_written c need =
 
 -- an item with no upper-case digit that is as short as what stands for the character is that
 pub only : (i : List ℕ) (c : ℕ) → IsLowerItem i c → length i ≤ length (piece c) → i ≡ piece c
-only i c (raw scalar h k l, lower) small = sym (inner_clean json c (raw_clean c h k l))
+only i c (raw scalar h k l, lower) small = sym (inner_clean json tt c (raw_clean c h k l))
 only i c (short {b = b} s, lower) small =
     elim (cases_Bool (needs_escape json c)) [
-      | inl need ↦ sym (inner_needed json c need ∙ short_written b c s need)
+      | inl need ↦ sym (inner_needed json tt c need ∙ short_written b c s need)
       | inr clean ↦ absurd (omega (arith, length-low c clean (short_low b c s)))
     ]
 only i c (hex form apart, lower) small =
     elim (cases_Bool (needs_escape json c)) [
       | inl need ↦
-          let written = inner_needed json c need in
+          let written = inner_needed json tt c need in
           let h = hex_written c need (omega (arith, length-form i c form, ap length written)) in
-          control_only i c form lower h.low ∙ sym (written ∙ h.written)
+          hex_only i c form lower ∙ sym (written ∙ h.written ∙ control_hex c h.low)
       | inr clean ↦ absurd (omega (arith, length-clean c clean, length-form i c form))
     ]
 only i c (pair {first = f} {second = s} {high = h} {low = l} first second _ _, lower) small =
@@ -266,77 +269,87 @@ not_empty i c (short s) = omega arith
 not_empty i c (hex form _) = omega (arith, length-form i c form)
 not_empty i c (pair {first = f} {second = s} {high = h} {low = l} first second _ _) = omega (arith, length-pair f s h l first second)
 
+-- Literals
+
+-- two bytes more between quotation marks
+pub length-quoted : (bytes : List ℕ) → length (quoted bytes) ≡ length bytes + 2
+length-quoted bytes = omega (arith, length-append bytes (0x22 ∷ []))
+
+-- quotation marks stand around one byte list
+pub inside-quoted : (xs ys : List ℕ) → quoted xs ≡ quoted ys → xs ≡ ys
+inside-quoted xs ys same = append_cancel_right xs ys (0x22 ∷ []) (cc same)
+
+-- a literal of items of one kind, where each is one of another
+pub literal-weaker : (P Q : List ℕ → ℕ → Type 0) → ((i : List ℕ) (c : ℕ) → P i c → Q i c) → (bytes text : List ℕ) → IsLiteral P bytes text → IsLiteral Q bytes text
+literal-weaker P Q weaker bytes text h = record {
+  inside = h.inside;
+  spelled = record { items = h.spelled.items; each = AllZip-weaker P Q weaker h.spelled.items text h.spelled.each; joined = h.spelled.joined };
+  between = h.between;
+}
+
+module _ (Item : List ℕ → ℕ → Type 0) (f : ℕ → List ℕ) where
+  -- the pieces of a text between quotation marks, where each is an item of its character
+  pub literal-pieces : ((c : ℕ) → IsScalar c → Item (f c) c) → (text : List ℕ) → all_scalars text ≡ true → IsLiteral Item (quoted (flat_map f text)) text
+  literal-pieces item text scalars = record { inside = flat_map f text; spelled = Spells-flat_map Item f item text scalars; between = refl }
+
+  module _ (least : (i : List ℕ) (c : ℕ) → Item i c → length (f c) ≤ length i) (bytes text : List ℕ) (literal : IsLiteral Item bytes text) where
+    -- where no item is shorter than the piece, no literal is shorter than the pieces
+    pub literal-least : length (quoted (flat_map f text)) ≤ length bytes
+    literal-least =
+        omega (
+          arith,
+          length-quoted (flat_map f text),
+          ap length literal.between,
+          length-quoted literal.inside,
+          pieces_le Item f least literal.spelled.items text literal.spelled.each,
+          ap length literal.spelled.joined,
+        )
+
+    -- where moreover an item as short as the piece is the piece, a literal as short as the pieces is the pieces
+    pub literal-only : ((i : List ℕ) (c : ℕ) → Item i c → length i ≤ length (f c) → i ≡ f c) → length bytes ≤ length (quoted (flat_map f text)) → bytes ≡ quoted (flat_map f text)
+    literal-only same_piece not_longer =
+        let small : length (concat literal.spelled.items) ≤ length (flat_map f text) =
+        omega (arith, length-quoted (flat_map f text), ap length literal.between, length-quoted literal.inside, ap length literal.spelled.joined) in
+        let inside = literal.spelled.joined ∙ only_pieces Item f least same_piece literal.spelled.items text literal.spelled.each small in
+        literal.between ∙ ap quoted inside
+
 -- The laws
 
 -- the output, character by character
 plain_pieces : (text : List ℕ) → plain json (encode_utf8_all text) ≡ quoted (flat_map piece text)
 plain_pieces text = ap quoted (pieces text)
 
--- lower-case items are items
-items_of_lower : (items : List (List ℕ)) (text : List ℕ) → AllZip IsLowerItem items text → AllZip IsJsonItem items text
-items_of_lower [] [] h = tt
-items_of_lower [] (c ∷ cs) h = absurd h
-items_of_lower (i ∷ is) [] h = absurd h
-items_of_lower (i ∷ is) (c ∷ cs) h = (h.0.0, items_of_lower is cs h.1)
-
 -- what denotes a text by lower-case items denotes it
 denotes_from_lower : (bytes text : List ℕ) → IsLower bytes text → JsonDenotes bytes text
-denotes_from_lower bytes text h = record {
-  inside = h.inside;
-  spelled = record { items = h.spelled.items; each = items_of_lower h.spelled.items text h.spelled.each; joined = h.spelled.joined };
-  between = h.between;
-}
+denotes_from_lower bytes text lower = literal-weaker IsLowerItem IsJsonItem (λ i c item. item.0) bytes text lower
 
 -- the output denotes the text, by items with no upper-case hex digit
 plain_lower : (text : List ℕ) → all_scalars text ≡ true → IsLower (plain json (encode_utf8_all text)) text
-plain_lower text scalars = record {
-  inside = flat_map piece text;
-  spelled = Spells-flat_map IsLowerItem piece lower_item text scalars;
-  between = plain_pieces text;
-}
-
--- two bytes more between quotation marks
-pub length-quoted : (bytes : List ℕ) → length (quoted bytes) ≡ length bytes + 2
-length-quoted bytes = omega (arith, length-append bytes (0x22 ∷ []))
+plain_lower text scalars = subst (λ bytes. IsLower bytes text) (sym (plain_pieces text)) (literal-pieces IsLowerItem piece lower_item text scalars)
 
 -- the output is a shortest literal of the text
 plain_shortest : (text : List ℕ) → all_scalars text ≡ true → IsShortestJson (plain json (encode_utf8_all text)) text
 plain_shortest text scalars = record {
   denotes = denotes_from_lower (plain json (encode_utf8_all text)) text (plain_lower text scalars);
-  least = λ other denotes.
-      omega (
-        arith,
-        ap length (plain_pieces text),
-        length-quoted (flat_map piece text),
-        ap length denotes.between,
-        length-quoted denotes.inside,
-        pieces_le IsJsonItem piece least denotes.spelled.items text denotes.spelled.each,
-        ap length denotes.spelled.joined,
-      );
+  least = λ other denotes. omega (arith, ap length (plain_pieces text), literal-least IsJsonItem piece least other text denotes);
 }
+
+-- what denotes the text with no upper-case hex digit and isn't longer is the output
+lower_not_longer : (bytes text : List ℕ) → IsLower bytes text → length bytes ≤ length (plain json (encode_utf8_all text)) → bytes ≡ plain json (encode_utf8_all text)
+lower_not_longer bytes text lower not_longer =
+    let same = plain_pieces text in
+    literal-only IsLowerItem piece (λ i c item. least i c item.0) bytes text lower only (omega (arith, ap length same)) ∙ sym same
 
 -- a shortest literal with no upper-case hex digit is the output
 pub only_plain : (bytes text : List ℕ) → all_scalars text ≡ true → IsShortestJson bytes text → IsLower bytes text → bytes ≡ plain json (encode_utf8_all text)
 only_plain bytes text scalars shortest lower =
-    let output = plain json (encode_utf8_all text) in
-    let short : length bytes ≤ length output = shortest.least output (plain_shortest text scalars).denotes in
-    let small : length (concat lower.spelled.items) ≤ length (flat_map piece text) =
-    omega (arith, ap length (plain_pieces text), length-quoted (flat_map piece text), ap length lower.between, length-quoted lower.inside, ap length lower.spelled.joined) in
-    let inside = lower.spelled.joined ∙ only_pieces IsLowerItem piece (λ i c item. least i c item.0) only lower.spelled.items text lower.spelled.each small in
-    lower.between ∙ ap quoted inside ∙ sym (plain_pieces text)
+    lower_not_longer bytes text lower (shortest.least (plain json (encode_utf8_all text)) (plain_shortest text scalars).denotes)
 
 -- a literal denotes one text at most
 pub one_text : (bytes t u : List ℕ) → JsonDenotes bytes t → JsonDenotes bytes u → t ≡ u
 one_text bytes t u p q =
-    let whole : 0x22 ∷ (p.inside ++ 0x22 ∷ []) ≡ 0x22 ∷ (q.inside ++ 0x22 ∷ []) = sym p.between ∙ q.between in
-    let same : p.inside ≡ q.inside = append_cancel_right p.inside q.inside (0x22 ∷ []) (cc) in
+    let same = inside-quoted p.inside q.inside (sym p.between ∙ q.between) in
     Spells-one_text IsJsonItem apart not_empty p.inside t u p.spelled (subst (λ bytes. Spells IsJsonItem bytes u) (sym same) q.spelled)
-
--- what denotes the text and isn't longer has an upper-case hex digit, or is the output
-lower_not_longer : (bytes text : List ℕ) → all_scalars text ≡ true → IsLower bytes text → length bytes ≤ length (plain json (encode_utf8_all text)) → bytes ≡ plain json (encode_utf8_all text)
-lower_not_longer bytes text scalars lower not_longer =
-    let least = (plain_shortest text scalars).least in
-    only_plain bytes text scalars (record { denotes = denotes_from_lower bytes text lower; least = λ other denotes. le_trans not_longer (least other denotes) }) lower
 
 -- the output for the bytes of a text
 IsOnlyJson-plain : (text : List ℕ) → all_scalars text ≡ true → IsOnlyJson (plain json (encode_utf8_all text)) text
@@ -347,7 +360,7 @@ IsOnlyJson-plain text scalars = record {
   others = λ other denotes differs. elim (cases_lt (length output) (length other)) [
     | inl longer ↦ inl longer
     | inr not_longer ↦
-        inr (le_antisymm not_longer ((plain_shortest text scalars).least other denotes), λ lower. differs (lower_not_longer other text scalars lower not_longer))
+        inr (le_antisymm not_longer ((plain_shortest text scalars).least other denotes), λ lower. differs (lower_not_longer other text lower not_longer))
   ];
   one_text = λ other denotes. one_text output other text denotes (plain_shortest text scalars).denotes;
 }

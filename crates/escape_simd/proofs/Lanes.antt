@@ -1,155 +1,208 @@
 -- What a mask tells of the text that its vector holds.
-use Rattle.std.proofs.Common.{◌≡◌, ℕ, zero, suc, ◌+◌, ◌-◌, ◌*◌, ◌<◌, ◌≤◌, Bool, true, false, List, [], ◌∷◌, ◌++◌, length, take, drop, get_or, map, replicate, refl, sym, ap, ◌∙◌, arith, subst, length-take-le, length-drop}
-use Rattle.std.proofs.Math.Seq.{paste}
-use Rattle.std.proofs.lemmas.List.{length-map, get_or-take, get_or-drop, get_or-map, take-take, take-map}
-use Rattle.escape_lanes.specs.Bits.{first_set, none_set, clear_last}
-use Rattle.escape_lanes.specs.Mode.{Mode}
+use Rattle.std.proofs.Common.{◌≡◌, ℕ, zero, suc, ◌+◌, ◌-◌, ◌*◌, ◌<◌, ◌≤◌, Bool, true, false, true≢false, ◌||◌, List, [], ◌∷◌, ◌++◌, length, take, drop, get_or, map, replicate, refl, sym, ap, ◌∙◌, arith, subst, length-take-le, length-drop, inl, inr}
+use Rattle.std.proofs.lemmas.Bool.{cases_Bool}
+use Rattle.std.proofs.lemmas.Bool.Decides.{leb_tells}
+use Rattle.std.proofs.lemmas.List.{length-map, get_or-take, get_or-drop, get_or-map, get_or_past, take-take, take_all, append-nil, get_or_append_left, get_or-append_right, get_or-replicate, length-replicate}
+use Rattle.std.specs.Simd.Lanes.{zip2}
+use Rattle.escape_lanes.specs.Bits.{first_set, none_set, clear_first, clear_last}
+use Rattle.escape_lanes.specs.Mode.{Mode, json, html, script}
 use Rattle.escape_lanes.specs.Replacement.{needs_escape}
-use Rattle.escape_lanes.specs.Written.{bytes_of, escaped_of, quotes_of, IsSameSlice}
-use Rattle.escape_lanes.specs.declared.simd.target.Target.{Target}
-use Rattle.escape_simd.specs.Stretch.{Stretch, stored_lanes}
+use Rattle.escape_simd.specs.Stretch.{HoldsFlags, CanRun, look_ahead, stored_lanes}
 use Rattle.escape_simd.proofs.Texts.{IsClean}
-use Rattle.escape_simd.proofs.Stretches.{clean_bytes}
 
--- the first set lane is a lane, or the end
-first_set-≤ : (bs : List Bool) → first_set bs ≤ length bs
-unfolding first_set
-first_set-≤ [] = omega arith
-first_set-≤ (true ∷ bs) = omega arith
-first_set-≤ (false ∷ bs) = let r = first_set-≤ bs in omega (arith, r)
-
--- no lane before it is set
-first_set-before : (bs : List Bool) (k : ℕ) → k < first_set bs → get_or bs k true ≡ false
+-- no lane before the first set one is set
+first_set-before : (bs : List Bool) (k : ℕ) → k < first_set bs → get_or bs k false ≡ false
 unfolding first_set
 first_set-before [] k h = absurd (omega arith)
 first_set-before (true ∷ bs) k h = absurd (omega arith)
 first_set-before (false ∷ bs) zero h = refl
 first_set-before (false ∷ bs) (suc k) h = first_set-before bs k (omega arith)
 
--- it is set
-first_set-here : (bs : List Bool) → first_set bs < length bs → get_or bs (first_set bs) false ≡ true
-unfolding first_set
-first_set-here [] h = absurd (omega arith)
+-- where some lane is set, the first one is
+first_set-here : (bs : List Bool) → none_set bs ≡ false → get_or bs (first_set bs) false ≡ true
+unfolding first_set none_set
+first_set-here [] h = absurd (cc)
 first_set-here (true ∷ bs) h = refl
-first_set-here (false ∷ bs) h = first_set-here bs (omega arith)
+first_set-here (false ∷ bs) h = first_set-here bs h
 
--- cleared lanes at the end set none
-none_set-front : (xs : List Bool) (n : ℕ) → none_set (xs ++ replicate n false) ≡ none_set xs
+-- where none is set, no lane is
+none_set-at : (bs : List Bool) (k : ℕ) → none_set bs ≡ true → get_or bs k false ≡ false
 unfolding none_set
-none_set-front [] zero = refl
-none_set-front [] (suc n) = none_set-front [] n
-none_set-front (true ∷ xs) n = refl
-none_set-front (false ∷ xs) n = none_set-front xs n
+none_set-at [] k h = get_or_past [] k false (omega arith)
+none_set-at (true ∷ bs) k h = absurd (cc)
+none_set-at (false ∷ bs) zero h = refl
+none_set-at (false ∷ bs) (suc k) h = none_set-at bs k h
 
--- where none is set it is the end
-first_set-none : (xs : List Bool) → none_set xs ≡ true → first_set xs ≡ length xs
-unfolding none_set first_set
-first_set-none [] h = refl
-first_set-none (true ∷ xs) h = absurd (cc)
-first_set-none (false ∷ xs) h = ap suc (first_set-none xs h)
-
--- lanes after a set one do not matter
-first_set-front : (xs ys : List Bool) → none_set xs ≡ false → first_set (xs ++ ys) ≡ first_set xs
-unfolding none_set first_set
-first_set-front [] ys h = absurd (cc)
-first_set-front (true ∷ xs) ys h = refl
-first_set-front (false ∷ xs) ys h = ap suc (first_set-front xs ys h)
-
--- a mask of n lanes, cut to the first `taken` of them
-module _ (bits cut : List Bool) (n taken : ℕ) (long : length bits ≡ n) (few : taken ≤ n) (cleared : cut ≡ clear_last (n - taken) bits) where
-  -- the lanes that are left
-  front : cut ≡ take taken bits ++ replicate (n - taken) false
-  front = let e : length bits - (n - taken) ≡ taken = omega arith in cleared ∙ rw e refl
-
-  -- none of them is set
-  pub cut-none : none_set cut ≡ true → taken ≡ first_set (take taken bits)
-  cut-none h =
-      sym (length-take-le taken bits (omega arith))
-      ∙ sym (first_set-none (take taken bits) (sym (none_set-front (take taken bits) (n - taken)) ∙ ap none_set (sym front) ∙ h))
-
-  -- one of them is set
-  pub cut-some : none_set cut ≡ false → first_set cut ≡ first_set (take taken bits)
-  cut-some h =
-      ap first_set front
-      ∙ first_set-front (take taken bits) (replicate (n - taken) false) (sym (none_set-front (take taken bits) (n - taken)) ∙ ap none_set (sym front) ∙ h)
-
--- the bytes before the first that needs an escape, and that one
-module _ (mode : Mode) (xs : List ℕ) where
-  -- such a byte is one of the bytes, or there is none
-  first_need-≤ : first_set (map (needs_escape mode) xs) ≤ length xs
-  first_need-≤ = let r = first_set-≤ (map (needs_escape mode) xs) in omega (arith, r, length-map xs (needs_escape mode))
-
-  -- the bytes before it are clean
-  before_need : IsClean mode (take (first_set (map (needs_escape mode) xs)) xs)
-  before_need k h =
-      let l = length-take-le (first_set (map (needs_escape mode) xs)) xs first_need-≤ in
-      ap (needs_escape mode) (get_or-take (first_set (map (needs_escape mode) xs)) xs k 0 (omega (arith, l)))
-      ∙ sym (get_or-map (needs_escape mode) xs k 0 true (omega (arith, l, first_need-≤)))
-      ∙ first_set-before (map (needs_escape mode) xs) k (omega (arith, l))
-
-  -- it needs an escape
-  at_need : first_set (map (needs_escape mode) xs) < length xs → needs_escape mode (get_or xs (first_set (map (needs_escape mode) xs)) 0) ≡ true
-  at_need h = sym (get_or-map (needs_escape mode) xs (first_set (map (needs_escape mode) xs)) 0 false h) ∙ first_set-here (map (needs_escape mode) xs) (rw length-map h)
-
--- a store covers the lanes taken
-stored-least : (exact : Bool) (n taken : ℕ) → taken ≤ n → taken ≤ stored_lanes exact n taken
-stored-least true n taken h = omega arith
-stored-least false n taken h = h
-
--- a store covers a vector at most
-stored-most : (exact : Bool) (n taken : ℕ) → taken ≤ n → stored_lanes exact n taken ≤ n
-stored-most true n taken h = h
-stored-most false n taken h = omega arith
-
--- A vector whose first lanes hold the text from a place on, and the first of these lanes that its mask sets.
-module _ (mode : Mode) (src lanes : List ℕ) (bits : List Bool) (at taken f : ℕ) (inside : at + taken ≤ length src) (loaded : take taken lanes ≡ take taken (drop at src))
-    (flagged : bits ≡ map (needs_escape mode) lanes) (first : f ≡ first_set (take taken bits)) where
-  -- that lane, told of the text
-  found : f ≡ first_set (map (needs_escape mode) (take taken (drop at src)))
-  found = first ∙ ap (λ bs. first_set (take taken bs)) flagged ∙ ap first_set (take-map (needs_escape mode) taken lanes) ∙ ap (λ xs. first_set (map (needs_escape mode) xs)) loaded
-
-  -- the lanes taken are bytes of the text
-  many : length (take taken (drop at src)) ≡ taken
-  many = length-take-le taken (drop at src) (omega (arith, length-drop at src))
-
-  -- it is one of the lanes taken, or there is none
-  pub found-≤ : f ≤ taken
-  found-≤ = let r = first_need-≤ mode (take taken (drop at src)) in omega (arith, r, found, many)
-
-  -- the bytes before that lane are clean
-  pub found-clean : IsClean mode (take f (drop at src))
-  found-clean = subst (IsClean mode) (take-take f taken (drop at src) found-≤) (subst (λ k. IsClean mode (take k (take taken (drop at src)))) (sym found) (before_need mode (take taken (drop at src))))
-
-  -- the lanes before it hold the text
-  pub found-loaded : take f lanes ≡ take f (drop at src)
-  found-loaded = sym (take-take f taken lanes found-≤) ∙ ap (take f) loaded ∙ take-take f taken (drop at src) found-≤
-
-  -- and its own byte begins a run
-  pub found-needs : f < taken → needs_escape mode (get_or src (at + f) 0) ≡ true
-  found-needs h =
-      ap (needs_escape mode) (sym (get_or-drop at src f 0) ∙ sym (get_or-take taken (drop at src) f 0 h) ∙ ap (λ k. get_or (take taken (drop at src)) k 0) found)
-      ∙ at_need mode (take taken (drop at src)) (omega (arith, h, found, many))
-
--- That vector was stored.
-module _ {N : ℕ} (mode : Mode) (exact : Bool) (src lanes : List ℕ) (old mid : Target N) (at to taken f : ℕ) where
-  -- the clean bytes before the place are written
-  pub stored_front : taken ≤ N → f ≤ taken → at + taken ≤ length src → length lanes ≡ N → take f lanes ≡ take f (drop at src) → IsClean mode (take f (drop at src))
-      → stored_lanes exact N taken ≤ 6 * (length src - at) + 32 → to + 6 * (length src - at) + 32 ≤ length (bytes_of old)
-      → IsSameSlice old mid → bytes_of mid ≡ paste (bytes_of old) to lanes (stored_lanes exact N taken) → escaped_of mid ≡ escaped_of old → quotes_of mid ≡ quotes_of old
-      → Stretch mode N src old mid at (at + f) to (to + f)
-  stored_front few less inside long loaded clean narrow room same written escaped quotes =
-      let l = stored-least exact N taken few in let m = stored-most exact N taken few in
-      clean_bytes mode src old mid at to f (stored_lanes exact N taken) lanes same written (omega (arith, narrow, room)) (omega (arith, m, long)) (omega (arith, l, less)) (omega (arith, less, inside))
-      loaded (subst (IsClean mode) (sym loaded) clean) m narrow escaped quotes
-
--- a mask that sets no lane, lane by lane
-none_set-head : (b : Bool) (bs : List Bool) → none_set (b ∷ bs) ≡ true → (b ≡ false) × (none_set bs ≡ true)
+-- where no lane of either is set in the joined lanes, none of either is
+pub none_set-joined : (xs ys : List Bool) → length xs ≡ length ys → none_set (zip2 ◌||◌ xs ys) ≡ true → (none_set xs ≡ true) × (none_set ys ≡ true)
 unfolding none_set
-none_set-head true bs h = absurd (cc)
-none_set-head false bs h = (refl, h)
+none_set-joined [] [] l h = (refl, refl)
+none_set-joined [] (y ∷ ys) l h = absurd (omega arith)
+none_set-joined (x ∷ xs) [] l h = absurd (omega arith)
+none_set-joined (true ∷ xs) (y ∷ ys) l h = absurd (cc)
+none_set-joined (false ∷ xs) (true ∷ ys) l h = absurd (cc)
+none_set-joined (false ∷ xs) (false ∷ ys) l h = none_set-joined xs ys (omega arith) h
 
--- a vector whose mask sets no lane
-pub none_clean : (mode : Mode) (ls : List ℕ) → none_set (map (needs_escape mode) ls) ≡ true → IsClean mode ls
-none_clean mode [] h k l = absurd (omega arith)
-none_clean mode (x ∷ xs) h zero l = (none_set-head (needs_escape mode x) (map (needs_escape mode) xs) h).0
-none_clean mode (x ∷ xs) h (suc k) l = none_clean mode xs (none_set-head (needs_escape mode x) (map (needs_escape mode) xs) h).1 k (omega arith)
+-- and so for four, joined two by two
+pub none_set-four : (n : ℕ) (a b c d ab cd all : List Bool) → length a ≡ n → length b ≡ n → length c ≡ n → length d ≡ n → length ab ≡ n → length cd ≡ n
+    → ab ≡ zip2 ◌||◌ a b → cd ≡ zip2 ◌||◌ c d → all ≡ zip2 ◌||◌ ab cd → none_set all ≡ true
+    → (none_set a ≡ true) × (none_set b ≡ true) × (none_set c ≡ true) × (none_set d ≡ true)
+none_set-four n a b c d ab cd all la lb lc ld lab lcd eab ecd e h =
+    let two = none_set-joined ab cd (lab ∙ sym lcd) (ap none_set (sym e) ∙ h) in
+    let first = none_set-joined a b (la ∙ sym lb) (ap none_set (sym eab) ∙ two.0) in
+    let second = none_set-joined c d (lc ∙ sym ld) (ap none_set (sym ecd) ∙ two.1) in
+    (first.0, first.1, second.0, second.1)
+
+-- cleared lanes are not set
+none_set-replicate : (n i : ℕ) → get_or (replicate n false) i false ≡ false
+none_set-replicate n i = elim (leb_tells n i) [
+  | inl past ↦ get_or_past (replicate n false) i false (omega (arith, past, length-replicate n false))
+  | inr within ↦ get_or-replicate n i false false within.1
+]
+
+-- a lane of a mask whose last lanes were cleared
+get_or-clear_last : (n k : ℕ) (bs : List Bool) → k < length bs - n → get_or (clear_last n bs) k false ≡ get_or bs k false
+get_or-clear_last n k bs h =
+    let l = length-take-le (length bs - n) bs (omega arith) in
+    get_or_append_left (take (length bs - n) bs) (replicate n false) false k (omega (arith, l)) ∙ get_or-take (length bs - n) bs k false h
+
+-- one of those
+get_or-cleared_last : (n k : ℕ) (bs : List Bool) → length bs - n ≤ k → get_or (clear_last n bs) k false ≡ false
+get_or-cleared_last n k bs h =
+    let l = length-take-le (length bs - n) bs (omega arith) in
+    get_or-append_right (take (length bs - n) bs) (replicate n false) (length bs - n) k false l h ∙ none_set-replicate n (k - (length bs - n))
+
+-- a lane of a mask whose first lanes were cleared
+get_or-clear_first : (n k : ℕ) (bs : List Bool) → n ≤ k → get_or (clear_first n bs) k false ≡ get_or bs k false
+get_or-clear_first n k bs h =
+    let e : n + (k - n) ≡ k = omega arith in
+    get_or-append_right (replicate n false) (drop n bs) n k false (length-replicate n false) h ∙ get_or-drop n bs (k - n) false ∙ ap (λ i. get_or bs i false) e
+
+-- one of those
+get_or-cleared_first : (n k : ℕ) (bs : List Bool) → k < n → get_or (clear_first n bs) k false ≡ false
+get_or-cleared_first n k bs h =
+    get_or_append_left (replicate n false) (drop n bs) false k (omega (arith, h, length-replicate n false)) ∙ none_set-replicate n k
+
+-- HoldsFlags
+
+module _ (mode : Mode) (src : List ℕ) (at taken from : ℕ) (bits : List Bool) (held : HoldsFlags mode src at taken from bits) (after : at ≤ from) (inside : at + taken ≤ length src) where
+  -- bytes before a place with no lane set before it are clean
+  clean_to : (f : ℕ) → at + f ≤ length src → f ≤ taken → ((k : ℕ) → k < f → get_or bits k false ≡ false) → IsClean mode (take (at + f - from) (drop from src))
+  clean_to f within few none k h =
+      let l = length-drop from src in
+      let long = length-take-le (at + f - from) (drop from src) (omega (arith, l)) in
+      let e : at + (from - at + k) ≡ from + k = omega arith in
+      ap (needs_escape mode) (get_or-take (at + f - from) (drop from src) k 0 (omega (arith, long)) ∙ get_or-drop from src k 0 ∙ ap (λ i. get_or src i 0) (sym e))
+      ∙ held.unset (from - at + k) (none (from - at + k) (omega (arith, long))) (omega arith) (omega (arith, long))
+
+  -- where no lane is set, all bytes are clean
+  pub held-none : none_set bits ≡ true → IsClean mode (take (at + taken - from) (drop from src))
+  held-none none = clean_to taken inside (omega arith) (λ k h. none_set-at bits k none)
+
+  module _ (some : none_set bits ≡ false) where
+    -- the first set lane is one of the bytes
+    pub first-bounds : ((k : ℕ) → get_or bits k false ≡ true → from ≤ at + k) → (from ≤ at + first_set bits) × (first_set bits < taken)
+    first-bounds cleared = let s = held.set (first_set bits) (first_set-here bits some) in (cleared (first_set bits) (first_set-here bits some), s.0)
+
+    -- it is set
+    pub first-set : get_or bits (first_set bits) false ≡ true
+    first-set = first_set-here bits some
+
+    -- the bytes before it are clean
+    pub held-first : ((k : ℕ) → get_or bits k false ≡ true → from ≤ at + k) → IsClean mode (take (at + first_set bits - from) (drop from src))
+    held-first cleared = let b = first-bounds cleared in clean_to (first_set bits) (omega (arith, b)) (omega (arith, b)) (λ k h. first_set-before bits k h)
+
+  -- the lanes from a place on
+  pub held-rest : HoldsFlags mode src at taken from (clear_first (from - at) bits)
+  held-rest = record {
+    set = λ k s.
+        elim (leb_tells (from - at) k) [
+          | inl past ↦ held.set k (sym (get_or-clear_first (from - at) k bits past.1) ∙ s)
+          | inr before ↦ absurd (true≢false (sym s ∙ get_or-cleared_first (from - at) k bits before.1))
+        ];
+    unset = λ k s later few. held.unset k (sym (get_or-clear_first (from - at) k bits (omega arith)) ∙ s) later few;
+  }
+
+  -- those before it are cleared
+  pub rest-cleared : (k : ℕ) → get_or (clear_first (from - at) bits) k false ≡ true → from ≤ at + k
+  rest-cleared k s =
+      elim (leb_tells (from - at) k) [
+        | inl past ↦ omega (arith, past.1)
+        | inr before ↦ absurd (true≢false (sym s ∙ get_or-cleared_first (from - at) k bits before.1))
+      ]
+
+-- the lanes of a mask, told from further on
+pub held-further : (mode : Mode) (src : List ℕ) (at taken from next : ℕ) (bits : List Bool) → HoldsFlags mode src at taken from bits → from ≤ next → HoldsFlags mode src at taken next bits
+held-further mode src at taken from next bits held h = record { set = held.set; unset = λ k s after few. held.unset k s (omega arith) few }
+
+-- a mask that is the classification of a vector, cut to the text's bytes
+module _ (mode : Mode) (src lanes : List ℕ) (at n taken from : ℕ) (long : length lanes ≡ n) (few : taken ≤ n) (inside : at + taken ≤ length src) (loaded : take taken lanes ≡ take taken (drop at src)) where
+  -- its lanes
+  lane : (k : ℕ) → k < taken → get_or (clear_last (n - taken) (map (needs_escape mode) lanes)) k false ≡ needs_escape mode (get_or src (at + k) 0)
+  lane k h =
+      let m = length-map lanes (needs_escape mode) in
+      get_or-clear_last (n - taken) k (map (needs_escape mode) lanes) (omega (arith, m))
+      ∙ get_or-map (needs_escape mode) lanes k 0 false (omega arith)
+      ∙ ap (needs_escape mode) (sym (get_or-take taken lanes k 0 h) ∙ ap (λ xs. get_or xs k 0) loaded ∙ get_or-take taken (drop at src) k 0 h ∙ get_or-drop at src k 0)
+
+  -- and no others
+  past : (k : ℕ) → taken ≤ k → get_or (clear_last (n - taken) (map (needs_escape mode) lanes)) k false ≡ false
+  past k h = let m = length-map lanes (needs_escape mode) in get_or-cleared_last (n - taken) k (map (needs_escape mode) lanes) (omega (arith, m))
+
+  -- holds their flags
+  pub held-cut : (bits : List Bool) → bits ≡ clear_last (n - taken) (map (needs_escape mode) lanes) → HoldsFlags mode src at taken from bits
+  held-cut bits e = record {
+    set = λ k s.
+        let t = sym (ap (λ bs. get_or bs k false) e) ∙ s in
+        elim (leb_tells taken k) [
+          | inl over ↦ absurd (true≢false (sym t ∙ past k over.1))
+          | inr within ↦ (within.1, sym (lane k within.1) ∙ t)
+        ];
+    unset = λ k s after h. sym (lane k h) ∙ sym (ap (λ bs. get_or bs k false) e) ∙ s;
+  }
+
+-- where the bytes before a place need no escape, its lanes are not before it
+pub none-before : (mode : Mode) (src : List ℕ) (at taken from : ℕ) (bits : List Bool) → HoldsFlags mode src at taken at bits → ((p : ℕ) → at ≤ p → p < from → needs_escape mode (get_or src p 0) ≡ false)
+    → (k : ℕ) → get_or bits k false ≡ true → from ≤ at + k
+none-before mode src at taken from bits held clean k s =
+    elim (leb_tells from (at + k)) [
+      | inl on ↦ on.1
+      | inr before ↦ absurd (true≢false (sym (held.set k s).1 ∙ clean (at + k) (omega arith) before.1))
+    ]
+
+-- the whole of it
+pub clear_none : (bits : List Bool) (n : ℕ) → bits ≡ clear_last (n - n) bits
+clear_none bits n =
+    let e : n - n ≡ 0 = omega arith in let f : length bits - 0 ≡ length bits = omega arith in
+    sym (ap (λ k. clear_last k bits) e ∙ append-nil (take (length bits - 0) bits) ∙ ap (λ k. take k bits) f ∙ take_all (length bits) bits (omega arith))
+
+-- where a vector's mask sets no lane, its bytes are clean
+pub none_clean : (mode : Mode) (lanes : List ℕ) → none_set (map (needs_escape mode) lanes) ≡ true → IsClean mode lanes
+none_clean mode lanes none k h = sym (get_or-map (needs_escape mode) lanes k 0 false h) ∙ none_set-at (map (needs_escape mode) lanes) k none
+
+-- a store covers the lanes taken, and a vector at most
+pub stored-bounds : (exact : Bool) (n taken : ℕ) → taken ≤ n → (taken ≤ stored_lanes exact n taken) × (stored_lanes exact n taken ≤ n)
+stored-bounds true n taken h = (omega arith, h)
+stored-bounds false n taken h = (h, omega arith)
+
+-- what is stored of a vector stays within what the rest becomes and the slack
+pub stored-low : (exact : Bool) (n taken rest past slack : ℕ) → taken ≤ n → taken + past ≤ rest → (exact ≡ false → n ≤ past + slack) → stored_lanes exact n taken ≤ rest + slack
+stored-low true n taken rest past slack few long narrow = omega arith
+stored-low false n taken rest past slack few long narrow = let m = narrow refl in omega (arith, m)
+
+-- no more than two bytes are looked at past a flagged one
+look_ahead≤two : (mode : Mode) → look_ahead mode ≤ 2
+look_ahead≤two json = omega arith
+look_ahead≤two html = omega arith
+look_ahead≤two script = omega arith
+
+-- the run of escapes that begins at a lane of a held mask
+pub can_run : (mode : Mode) (src : List ℕ) (at taken from : ℕ) (bits : List Bool) (n flagged end_held : ℕ) → HoldsFlags mode src at taken from bits → at + taken ≤ length src → taken ≤ n → 16 ≤ n → at + n + n ≤ end_held
+    → at ≤ flagged → get_or bits (flagged - at) false ≡ true → CanRun mode src (λ p. get_or bits (p - at) false) (λ p. (at ≤ p) × (p < at + 2 * n)) flagged end_held
+can_run mode src at taken from bits n flagged end_held held inside few several reach after here = record {
+  begins = here;
+  inside = λ q h s. let b = (held.set (q - at) s).0 in omega (arith, b, h);
+  needed = λ q h s. let b = held.set (q - at) s in let e : at + (q - at) ≡ q = omega (arith, h) in ap (λ k. needs_escape mode (get_or src k 0)) (sym e) ∙ b.1;
+  askable = λ q p h s below near. let b = (held.set (q - at) s).0 in (omega (arith, b, h, below), omega (arith, b, h, near));
+  held = λ q h s. let b = (held.set (q - at) s).0 in let l = look_ahead≤two mode in omega (arith, b, h, l);
+}

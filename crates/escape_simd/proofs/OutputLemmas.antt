@@ -1,31 +1,34 @@
 -- The laws as calls' clauses have them.
-use Rattle.std.proofs.Common.{◌≡◌, ℕ, ◌*◌, ◌<◌, ◌≤◌, true, List, [], ◌∷◌, ◌++◌, length, length-append, drop, IsUtf8, chars, encode_utf8, encode_utf8_all, flat_map, refl, sym, ap, subst, ◌∙◌, arith, inl, inr}
+use Rattle.std.proofs.Common.{◌≡◌, ℕ, zero, suc, ◌+◌, ◌-◌, ◌*◌, ◌<◌, ◌≤◌, true, List, [], ◌∷◌, ◌++◌, length, length-append, drop, IsUtf8, chars, encode_utf8, encode_utf8_all, flat_map, slice_index_or, codes, ◌==◌, append_assoc, refl, sym, ap, subst, ◌∙◌, arith, inl, inr}
 use Rattle.std.specs.Str.{all_scalars}
 use Rattle.std.specs.Char.{IsScalar}
 use Rattle.std.proofs.Math.Utf8.{scalar}
 use Rattle.std.specs.List.{AllByRecursion}
-use Rattle.std.proofs.lemmas.Bool.{and_parts, cases_Bool}
+use Rattle.std.proofs.lemmas.Bool.{and_parts, cases_Bool, cond_both}
 use Rattle.std.proofs.lemmas.Bool.Decides.{nat_tests}
 use Rattle.std.proofs.lemmas.Str.{IsUtf8-append, IsUtf8-nil, IsUtf8-encode, encode_ascii, encodes-chars, scalars-chars}
-use Rattle.escape_lanes.specs.Mode.{Mode, json, html}
+use Rattle.escape_lanes.specs.Mode.{Mode, json, html, script}
 use Rattle.escape_lanes.specs.Replacement.{replacement, needs_escape}
-use Rattle.escape_simd.specs.Output.{inner, plain}
+use Rattle.escape_simd.specs.Output.{script_inner_after, first_replacement, passed, begins_separator, inner, plain, quoted}
 use Rattle.escape_simd.specs.Html.{HtmlReads}
 use Rattle.escape_simd.specs.Json.{JsonDenotes}
+use Rattle.escape_simd.specs.Script.{is_script_marked}
 use Rattle.escape_simd.specs.Spelling.{IsTextOf}
 use Rattle.escape_simd.specs.Headline.{IsOnlyOutput}
-use Rattle.escape_simd.specs.Laws.{appended, IsOfOneText, HasOutputLength}
+use Rattle.escape_simd.specs.Laws.{appended, JoinsTexts, IsOfOneText, HasOutputLength}
 use Rattle.std.proofs.lemmas.Grind.{flat_map-append}
 use Rattle.std.proofs.lemmas.List.{drop_at}
-use Rattle.escape_simd.proofs.SpellingLemmas.{flat_map-encode_utf8_all}
-use Rattle.escape_simd.proofs.ReplacementLemmas.{inner_clean, inner_needed}
+use Rattle.escape_simd.proofs.ReplacementLemmas.{IsBytewise, inner_clean, inner_needed, inner-nil, inner-past, inner-pieces, inner-script, hex_escape, script_replacement, script_replacement-marked, script_replacement-other}
+use Rattle.escape_simd.proofs.Texts.{length-inner}
 use Rattle.escape_simd.proofs.HtmlLemmas.{IsOnlyHtml-output, six_cases}
 use Rattle.escape_simd.proofs.JsonLemmas.{IsOnlyJson-output, needed_cases, length-quoted}
+use Rattle.escape_simd.proofs.ScriptLemmas.{IsOnlyScript-output, denotes_from_free}
 
--- the output for the bytes of a `&str`, in either mode
+-- the output for the bytes of a `&str`, in each mode
 IsOnlyOutput-plain : (mode : Mode) (bytes output : List ℕ) → IsUtf8 bytes → output ≡ plain mode bytes → IsOnlyOutput mode output (chars bytes)
 IsOnlyOutput-plain json bytes output utf8 same = IsOnlyJson-output bytes output utf8 same
 IsOnlyOutput-plain html bytes output utf8 same = IsOnlyHtml-output bytes output utf8 same
+IsOnlyOutput-plain script bytes output utf8 same = IsOnlyScript-output bytes output utf8 same
 
 -- the text of a `&str`, as its clauses name it
 pub IsTextOf-chars : (bytes : List ℕ) → IsUtf8 bytes → IsTextOf bytes (chars bytes)
@@ -40,22 +43,37 @@ ascii_text (b ∷ bs) h =
     let head : IsScalar b = grind (arith, nat_tests, h.0) in
     IsUtf8-append (b ∷ []) bs (subst IsUtf8 (encode_ascii b h.0) (IsUtf8-encode b head)) (ascii_text bs h.1)
 
--- an escape is ASCII
-replacement_ascii : (mode : Mode) (b : ℕ) → needs_escape mode b ≡ true → AllByRecursion (λ x. x < 128) (replacement mode b)
+-- an escape of the modes that take bytes one by one is ASCII
+replacement_ascii : (mode : Mode) → IsBytewise mode → (b : ℕ) → needs_escape mode b ≡ true → AllByRecursion (λ x. x < 128) (replacement mode b)
 unfolding replacement
-replacement_ascii json b need =
+replacement_ascii json h b need =
     needed_cases b need (λ x. AllByRecursion (λ y. y < 128) (replacement json x)) (omega arith) (omega arith) (omega arith) (omega arith) (omega arith) (omega arith) (omega arith)
     (λ h. let low = h.low in subst (λ bytes. AllByRecursion (λ y. y < 128) bytes) (sym h.written) (grind (arith, nat_tests)))
-replacement_ascii html b need =
+replacement_ascii html h b need =
     six_cases b need (λ x. AllByRecursion (λ y. y < 128) (replacement html x)) (omega arith) (omega arith) (omega arith) (omega arith) (omega arith) (omega arith)
+replacement_ascii script h b need = absurd h
+
+-- what stands for a character in them is a text
+IsUtf8-bytewise : (mode : Mode) → IsBytewise mode → (c : ℕ) → IsScalar c → IsUtf8 (inner mode (encode_utf8 c))
+IsUtf8-bytewise mode bytewise c character =
+    elim (cases_Bool (needs_escape mode c)) [
+      | inl need ↦ subst IsUtf8 (sym (inner_needed mode bytewise c need)) (ascii_text (replacement mode c) (replacement_ascii mode bytewise c need))
+      | inr clean ↦ subst IsUtf8 (sym (inner_clean mode bytewise c clean)) (IsUtf8-encode c character)
+    ]
+
+-- and so is what stands for one in a script literal
+IsUtf8-script : (c : ℕ) → IsScalar c → IsUtf8 (script_replacement c)
+IsUtf8-script c character =
+    elim (cases_Bool (is_script_marked c)) [
+      | inl marked ↦ subst IsUtf8 (sym (script_replacement-marked c marked)) (ascii_text (hex_escape c) (grind (arith, nat_tests)))
+      | inr other ↦ subst IsUtf8 (sym (script_replacement-other c other)) (IsUtf8-bytewise json tt c character)
+    ]
 
 -- what stands for a character is a text
 IsUtf8-replacement : (mode : Mode) (c : ℕ) → IsScalar c → IsUtf8 (inner mode (encode_utf8 c))
-IsUtf8-replacement mode c character =
-    elim (cases_Bool (needs_escape mode c)) [
-      | inl need ↦ subst IsUtf8 (sym (inner_needed mode c need)) (ascii_text (replacement mode c) (replacement_ascii mode c need))
-      | inr clean ↦ subst IsUtf8 (sym (inner_clean mode c clean)) (IsUtf8-encode c character)
-    ]
+IsUtf8-replacement json c character = IsUtf8-bytewise json tt c character
+IsUtf8-replacement html c character = IsUtf8-bytewise html tt c character
+IsUtf8-replacement script c character = subst IsUtf8 (sym (inner-script c)) (IsUtf8-script c character)
 
 -- what stands for characters is a text
 IsUtf8-pieces : (mode : Mode) (text : List ℕ) → all_scalars text ≡ true → IsUtf8 (flat_map (λ c. inner mode (encode_utf8 c)) text)
@@ -67,36 +85,24 @@ IsUtf8-pieces mode (c ∷ cs) h =
 -- what stands for the bytes of a text is a text
 IsUtf8-inner : (mode : Mode) (bytes : List ℕ) → IsUtf8 bytes → IsUtf8 (inner mode bytes)
 IsUtf8-inner mode bytes utf8 =
-    let same = sym (flat_map-encode_utf8_all (replacement mode) (chars bytes)) ∙ ap (inner mode) (encodes-chars bytes utf8) in
+    let same = sym (inner-pieces mode (chars bytes)) ∙ ap (inner mode) (encodes-chars bytes utf8) in
     subst IsUtf8 same (IsUtf8-pieces mode (chars bytes) (scalars-chars bytes utf8))
+
+-- and so it is between quotation marks
+IsUtf8-quoted : (bytes : List ℕ) → IsUtf8 bytes → IsUtf8 (quoted bytes)
+IsUtf8-quoted bytes utf8 =
+    let quote = ascii_text (0x22 ∷ []) (omega arith, tt) in
+    IsUtf8-append (0x22 ∷ []) (bytes ++ 0x22 ∷ []) quote (IsUtf8-append bytes (0x22 ∷ []) utf8 quote)
 
 -- the output for the bytes of a text is a text
 IsUtf8-plain : (mode : Mode) (bytes : List ℕ) → IsUtf8 bytes → IsUtf8 (plain mode bytes)
+IsUtf8-plain json bytes utf8 = IsUtf8-quoted (inner json bytes) (IsUtf8-inner json bytes utf8)
 IsUtf8-plain html bytes utf8 = IsUtf8-inner html bytes utf8
-IsUtf8-plain json bytes utf8 =
-    let quote = ascii_text (0x22 ∷ []) (omega arith, tt) in
-    IsUtf8-append (0x22 ∷ []) (inner json bytes ++ 0x22 ∷ []) quote (IsUtf8-append (inner json bytes) (0x22 ∷ []) (IsUtf8-inner json bytes utf8) quote)
+IsUtf8-plain script bytes utf8 = IsUtf8-quoted (inner script bytes) (IsUtf8-inner script bytes utf8)
 
 -- as the condition of a call has it
 pub IsUtf8-output : (mode : Mode) (bytes output : List ℕ) → IsUtf8 bytes → output ≡ plain mode bytes → IsUtf8 output
 IsUtf8-output mode bytes output utf8 same = subst IsUtf8 (sym same) (IsUtf8-plain mode bytes utf8)
-
--- How long the output is
-
--- a byte is written by one to six bytes
-length-replacement : (mode : Mode) (b : ℕ) → (1 ≤ length (replacement mode b)) × (length (replacement mode b) ≤ 6)
-unfolding replacement
-length-replacement json b = (grind (arith, nat_tests), grind (arith, nat_tests))
-length-replacement html b = (grind (arith, nat_tests), grind (arith, nat_tests))
-
--- bytes are written by as many bytes at least, and six times as many at most
-pub length-inner : (mode : Mode) (bytes : List ℕ) → (length bytes ≤ length (inner mode bytes)) × (length (inner mode bytes) ≤ 6 * length bytes)
-length-inner mode [] = (omega arith, omega arith)
-length-inner mode (b ∷ bs) =
-    let one = length-replacement mode b in
-    let rest = length-inner mode bs in
-    let both = length-append (replacement mode b) (inner mode bs) in
-    (omega arith, omega arith)
 
 -- equal outputs come from equal texts
 plain-injective : (mode : Mode) (xs ys : List ℕ) → IsUtf8 xs → IsUtf8 ys → plain mode xs ≡ plain mode ys → xs ≡ ys
@@ -105,18 +111,53 @@ plain-injective mode xs ys p q same = sym (encodes-chars xs p) ∙ ap encode_utf
     chars_same : (m : Mode) → plain m xs ≡ plain m ys → chars xs ≡ chars ys
     chars_same json e = (IsOnlyJson-output ys (plain json ys) q refl).one_text (chars xs) (subst (λ o. JsonDenotes o (chars xs)) e (IsOnlyJson-output xs (plain json xs) p refl).shortest.denotes)
     chars_same html e = (IsOnlyHtml-output ys (plain html ys) q refl).one_text (chars xs) (subst (λ o. HtmlReads o (chars xs)) e (IsOnlyHtml-output xs (plain html xs) p refl).reads)
+    chars_same script e =
+        let free = (IsOnlyScript-output xs (plain script xs) p refl).shortest.free in
+        (IsOnlyScript-output ys (plain script ys) q refl).one_text (chars xs) (subst (λ o. JsonDenotes o (chars xs)) e (denotes_from_free (plain script xs) (chars xs) free))
 
--- how long the output is, with the quotation marks of JSON
+-- How long the output is
+
+-- with the quotation marks of a literal
 HasOutputLength-plain : (mode : Mode) (bytes : List ℕ) → HasOutputLength mode (length bytes) (plain mode bytes)
 HasOutputLength-plain json bytes = let long = length-inner json bytes in let quotes = length-quoted (inner json bytes) in record { at_least = omega arith; at_most = omega arith }
 HasOutputLength-plain html bytes = let long = length-inner html bytes in record { at_least = omega arith; at_most = omega arith }
+HasOutputLength-plain script bytes = let long = length-inner script bytes in let quotes = length-quoted (inner script bytes) in record { at_least = omega arith; at_most = omega arith }
+
+-- Texts that are cut in two
+
+-- A text can be cut after these bytes: wherever bytes are taken one by one, and otherwise between two characters.
+abbrev pub CanBeCutAfter : Mode → List ℕ → Type 0
+CanBeCutAfter json first = Unit {0}
+CanBeCutAfter html first = Unit {0}
+CanBeCutAfter script first = IsUtf8 first
+
+-- what stands for the bytes of a text, and for bytes after them
+inner-text : (mode : Mode) (text rest : List ℕ) → inner mode (encode_utf8_all text ++ rest) ≡ inner mode (encode_utf8_all text) ++ inner mode rest
+inner-text mode [] rest = ap (λ bytes. bytes ++ inner mode rest) (sym (inner-nil mode))
+inner-text mode (c ∷ cs) rest =
+    let here = encode_utf8 c in
+    let after = encode_utf8_all cs in
+    ap (inner mode) (append_assoc here after rest)
+    ∙ inner-past mode c (after ++ rest)
+    ∙ ap (λ bytes. inner mode here ++ bytes) (inner-text mode cs rest)
+    ∙ sym (append_assoc (inner mode here) (inner mode after) (inner mode rest))
+    ∙ ap (λ bytes. bytes ++ inner mode rest) (sym (inner-past mode c after))
 
 -- what stands for two byte lists joined
-pub inner-append : (mode : Mode) (bytes first second : List ℕ) → bytes ≡ first ++ second → inner mode bytes ≡ inner mode first ++ inner mode second
-inner-append mode bytes first second cut = ap (inner mode) cut ∙ flat_map-append (replacement mode) first second
+pub inner-append : (mode : Mode) (bytes first second : List ℕ) → bytes ≡ first ++ second → CanBeCutAfter mode first → inner mode bytes ≡ inner mode first ++ inner mode second
+inner-append json bytes first second cut _ = ap (inner json) cut ∙ flat_map-append (replacement json) first second
+inner-append html bytes first second cut _ = ap (inner html) cut ∙ flat_map-append (replacement html) first second
+inner-append script bytes first second cut text =
+    ap (inner script) cut ∙ subst (λ xs. inner script (xs ++ second) ≡ inner script xs ++ inner script second) (encodes-chars first text) (inner-text script (chars first) second)
+
+-- the output for a text that is cut in two
+pub JoinsTexts-output : (mode : Mode) (bytes output : List ℕ) → output ≡ plain mode bytes → JoinsTexts mode bytes output
+JoinsTexts-output json bytes output same = λ first second cut. same ∙ ap quoted (inner-append json bytes first second cut tt)
+JoinsTexts-output html bytes output same = λ first second cut. same ∙ inner-append html bytes first second cut tt
+JoinsTexts-output script bytes output same = λ first second text _ cut. same ∙ ap quoted (inner-append script bytes first second cut text)
 
 -- what was appended, where a vector is its old bytes and these
-appended-append : (old new added : List ℕ) → new ≡ old ++ added → appended old new ≡ added
+pub appended-append : (old new added : List ℕ) → new ≡ old ++ added → appended old new ≡ added
 appended-append old new added same = ap (drop (length old)) same ∙ drop_at old added (length old) refl
 
 -- as the clauses of a call have it: of the bytes of its `&str` and of its output

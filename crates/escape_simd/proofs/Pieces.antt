@@ -1,23 +1,51 @@
 -- A text that is escaped piece by piece into a vector.
-use Rattle.std.proofs.Common.{◌≡◌, ℕ, ◌+◌, ◌-◌, ◌≤◌, List, ◌++◌, take, drop, slice_range, sym, ap, ◌∙◌, append_assoc, arith}
+use Rattle.std.proofs.Common.{◌≡◌, ℕ, ◌+◌, ◌-◌, ◌<◌, ◌≤◌, List, [], ◌∷◌, ◌++◌, length, length-drop, take, drop, slice_range, IsUtf8, chars, encode_utf8_all, sym, ap, ◌∙◌, append_assoc, arith, inl, inr}
+use Rattle.std.specs.Str.{IsCharBoundary}
+use Rattle.std.specs.Char.{len_utf8}
 use Rattle.std.proofs.Math.Seq.{take-add}
+use Rattle.std.proofs.lemmas.Bool.{cases_lt}
 use Rattle.std.proofs.lemmas.List.{take-take}
-use Rattle.escape_lanes.specs.Mode.{Mode}
+use Rattle.std.proofs.lemmas.Str.{IsUtf8-take, IsUtf8-drop, IsCharBoundary-past_char, encodes-chars, len_utf8_bounds}
+use Rattle.escape_lanes.specs.Mode.{Mode, json, html, script}
 use Rattle.escape_simd.specs.Output.{inner}
-use Rattle.escape_simd.proofs.OutputLemmas.{inner-append}
+use Rattle.escape_simd.proofs.OutputLemmas.{CanBeCutAfter, inner-append}
+
+-- a text can be cut after a text
+cut-text : (mode : Mode) (first : List ℕ) → IsUtf8 first → CanBeCutAfter mode first
+cut-text json first utf8 = tt
+cut-text html first utf8 = tt
+cut-text script first utf8 = utf8
+
+-- A character has four bytes at most: where a text goes on, the nearest place before `index` at which one begins, or
+-- the text ends, is past `at`.
+module _ (bytes : List ℕ) (at index next : ℕ) (utf8 : IsUtf8 bytes) (here : IsCharBoundary bytes at) (inside : at < length bytes)
+    (far : (n : ℕ) → n ≤ 4 → at + n ≤ length bytes → at + n ≤ index) (nearest : (i : ℕ) → next < i → i ≤ index → ¬ (IsCharBoundary bytes i)) where
+  -- told of the character there
+  past_first : next ≤ at → (text : List ℕ) → encode_utf8_all text ≡ drop at bytes → at < next
+  past_first back [] e = absurd (omega (arith, ap length e, length-drop at bytes, inside))
+  past_first back (c ∷ cs) e =
+      let short = len_utf8_bounds c in
+      let ends = IsCharBoundary-past_char bytes (encode_utf8_all cs) at c here.0 (IsUtf8-drop bytes at utf8 here) (sym e) in
+      absurd (nearest (at + len_utf8 c) (omega (arith, back, short)) (far (len_utf8 c) short.1 ends.0) ends)
+
+  pub cut-forward : at < next
+  cut-forward = elim (cases_lt at next) [
+    | inl past ↦ past
+    | inr back ↦ past_first back (chars (drop at bytes)) (encodes-chars (drop at bytes) (IsUtf8-drop bytes at utf8 here))
+  ]
 
 -- what was passed, and one piece more
 passed : (bytes : List ℕ) (at next : ℕ) → at ≤ next → take next bytes ≡ take at bytes ++ slice_range bytes at next
 passed bytes at next forward = let e : at + (next - at) ≡ next = omega arith in rw (← e) (take-add at (next - at) bytes ∙ ap (λ n. take at bytes ++ take n (drop at bytes)) (omega arith))
 
 -- what stands after a piece: the vector was filled up, and the piece escaped at its end
-pub piece-written : (mode : Mode) (bytes old before filled new : List ℕ) (at next end len last : ℕ) → at ≤ next → end ≤ len
+pub piece-written : (mode : Mode) (bytes old before filled new : List ℕ) (at next end len last : ℕ) → IsUtf8 bytes → IsCharBoundary bytes at → at ≤ next → end ≤ len
     → take end before ≡ old ++ inner mode (take at bytes)
     → take len filled ≡ before
     → take last new ≡ take end filled ++ inner mode (slice_range bytes at next)
     → take last new ≡ old ++ inner mode (take next bytes)
-piece-written mode bytes old before filled new at next end len last forward inside so_far front written =
+piece-written mode bytes old before filled new at next end len last utf8 here forward inside so_far front written =
     let same : take end filled ≡ take end before = sym (take-take end len filled inside) ∙ ap (take end) front in
     written ∙ ap (λ xs. xs ++ inner mode (slice_range bytes at next)) (same ∙ so_far)
     ∙ append_assoc old (inner mode (take at bytes)) (inner mode (slice_range bytes at next))
-    ∙ ap (λ xs. old ++ xs) (sym (inner-append mode (take next bytes) (take at bytes) (slice_range bytes at next) (passed bytes at next forward)))
+    ∙ ap (λ xs. old ++ xs) (sym (inner-append mode (take next bytes) (take at bytes) (slice_range bytes at next) (passed bytes at next forward) (cut-text mode (take at bytes) (IsUtf8-take bytes at utf8 here))))

@@ -1,54 +1,273 @@
--- What stands for a character: its bytes' replacements.
-use Rattle.std.proofs.Common.{◌≡◌, ℕ, ◌<◌, ◌≤◌, true, false, List, [], ◌∷◌, ◌++◌, refl, ap, ap₂, append-nil, arith, inl, inr, ltb-true, ltb}
-use Rattle.std.specs.Char.{encode_utf8}
+-- What stands for a byte, and for a character: its bytes' replacements, or the escape of a separator.
+use Rattle.std.proofs.Common.{◌≡◌, ◌≢◌, ℕ, zero, suc, ◌/◌, ◌%◌, ◌<◌, ◌≤◌, ◌⊎◌, true, false, List, [], ◌∷◌, ◌++◌, codes, length, drop, flat_map, encode_utf8_all, refl, sym, ap, ap₂, ◌∙◌, append-nil, arith, inl, inr, ltb-true, ltb, subst, if◌then◌else◌}
+use Rattle.std.specs.Char.{encode_utf8, digit_char}
+use Rattle.std.specs.Int.{IsInRange}
 use Rattle.std.specs.List.{AllByRecursion}
-use Rattle.std.proofs.lemmas.Str.{encode_ascii}
-use Rattle.std.proofs.lemmas.Bool.{cases_lt, cond_both}
+use Rattle.std.proofs.lemmas.Str.{encode_ascii, encode_same}
+use Rattle.std.proofs.lemmas.Bool.{cases_lt, cases_Bool, cond_both}
 use Rattle.std.proofs.lemmas.Bool.Decides.{nat_tests}
-use Rattle.escape_lanes.specs.Mode.{Mode, json, html}
+use Rattle.std.proofs.lemmas.Grind.{flat_map-append}
+use Rattle.escape_lanes.specs.Mode.{Mode, json, html, script}
 use Rattle.escape_lanes.specs.Replacement.{replacement, needs_escape}
-use Rattle.escape_simd.specs.Output.{inner}
-
--- only ASCII needs an escape
-pub needs_escape_low : (mode : Mode) (c : ℕ) → needs_escape mode c ≡ true → c < 128
-needs_escape_low json c h = grind (arith, nat_tests)
-needs_escape_low html c h = grind (arith, nat_tests)
+use Rattle.escape_simd.specs.Output.{begins_separator, passed, script_inner_after, inner}
+use Rattle.escape_simd.specs.Script.{is_script_marked}
 
 -- a byte that needs no escape stands for itself
-pub replacement_clean : (mode : Mode) (b : ℕ) → needs_escape mode b ≡ false → replacement mode b ≡ b ∷ []
+pub replacement-clean : (mode : Mode) (b : ℕ) → needs_escape mode b ≡ false → replacement mode b ≡ b ∷ []
 unfolding replacement
-replacement_clean json b h = grind (arith, nat_tests)
-replacement_clean html b h = grind (arith, nat_tests)
+replacement-clean json b h = grind (arith, nat_tests)
+replacement-clean html b h = grind (arith, nat_tests)
+replacement-clean script b h = grind (arith, nat_tests)
 
--- no byte from 128 on needs an escape
-needs_escape_high : (mode : Mode) (b : ℕ) → 128 ≤ b → needs_escape mode b ≡ false
-needs_escape_high json b h = grind (arith, nat_tests)
-needs_escape_high html b h = grind (arith, nat_tests)
+-- and so does a byte from 128 on
+pub replacement-high : (mode : Mode) (b : ℕ) → 128 ≤ b → replacement mode b ≡ b ∷ []
+unfolding replacement
+replacement-high json b h = grind (arith, nat_tests)
+replacement-high html b h = grind (arith, nat_tests)
+replacement-high script b h = grind (arith, nat_tests)
 
--- bytes from 128 on stand for themselves
-inner_high : (mode : Mode) (bytes : List ℕ) → AllByRecursion (λ b. 128 ≤ b) bytes → inner mode bytes ≡ bytes
-inner_high mode [] h = refl
-inner_high mode (b ∷ bs) h =
-    ap₂ (λ xs ys. xs ++ ys) (replacement_clean mode b (needs_escape_high mode b h.0)) (inner_high mode bs h.1)
+-- a byte is written by one to six bytes
+pub length-replacement : (mode : Mode) (b : ℕ) → (1 ≤ length (replacement mode b)) × (length (replacement mode b) ≤ 6)
+unfolding replacement
+length-replacement json b = (grind (arith, nat_tests), grind (arith, nat_tests))
+length-replacement html b = (grind (arith, nat_tests), grind (arith, nat_tests))
+length-replacement script b = (grind (arith, nat_tests), grind (arith, nat_tests))
 
--- the bytes of a character from U+0080 on are all from 128 on
-encode_utf8_high : (c : ℕ) → 128 ≤ c → AllByRecursion (λ b. 128 ≤ b) (encode_utf8 c)
-unfolding encode_utf8
-encode_utf8_high c h =
-    let are_high : List ℕ → Type 0 = λ bytes. AllByRecursion (λ b. 128 ≤ b) bytes in
-    cond_both (ltb c 128) _ _ are_high (λ low. absurd (omega (arith, ltb-true c 128 low)))
-    (λ _. cond_both (ltb c 2048) _ _ are_high (λ _. (omega arith, (omega arith, tt)))
-    (λ _. cond_both (ltb c 65536) _ _ are_high (λ _. (omega arith, (omega arith, (omega arith, tt))))
-    (λ _. (omega arith, (omega arith, (omega arith, (omega arith, tt)))))))
+-- Step by step
 
--- a character that needs no escape stands for itself
-pub inner_clean : (mode : Mode) (c : ℕ) → needs_escape mode c ≡ false → inner mode (encode_utf8 c) ≡ encode_utf8 c
-inner_clean mode c clean =
-    elim (cases_lt c 128) [
-      | inl low ↦ rw (encode_ascii c low) (ap (λ xs. xs ++ []) (replacement_clean mode c clean))
-      | inr high ↦ inner_high mode (encode_utf8 c) (encode_utf8_high c high)
+-- what stands for the bytes after the first n
+pub script_inner_after-drop : (n : ℕ) (bytes : List ℕ) → script_inner_after n bytes ≡ inner script (drop n bytes)
+unfolding script_inner_after
+script_inner_after-drop zero bytes = refl
+script_inner_after-drop (suc n) [] = refl
+script_inner_after-drop (suc n) (b ∷ bs) = script_inner_after-drop n bs
+
+-- nothing stands for no bytes
+pub inner-nil : (mode : Mode) → inner mode [] ≡ []
+unfolding script_inner_after
+inner-nil json = refl
+inner-nil html = refl
+inner-nil script = refl
+
+-- what stands for a byte that begins no separator, and for those after it
+pub inner-one : (mode : Mode) (b : ℕ) (bs : List ℕ) → passed mode (b ∷ bs) ≡ 1 → inner mode (b ∷ bs) ≡ replacement mode b ++ inner mode bs
+unfolding script_inner_after
+inner-one json b bs h = refl
+inner-one html b bs h = refl
+inner-one script b bs h =
+    elim (cases_Bool (begins_separator (b ∷ bs))) [
+      | inl separator ↦ absurd (omega (arith, rw separator at h))
+      | inr other ↦ rw other refl
     ]
 
--- a character that needs one is a byte, and has that byte's replacement
-pub inner_needed : (mode : Mode) (c : ℕ) → needs_escape mode c ≡ true → inner mode (encode_utf8 c) ≡ replacement mode c
-inner_needed mode c need = let low = needs_escape_low mode c need in rw (encode_ascii c low) (append-nil (replacement mode c))
+-- a separator begins with e2
+pub passed-one : (mode : Mode) (b : ℕ) (bs : List ℕ) → b ≢ 0xe2 → passed mode (b ∷ bs) ≡ 1
+unfolding begins_separator
+passed-one json b bs other = refl
+passed-one html b bs other = refl
+passed-one script b bs other = grind (arith, nat_tests)
+
+-- a byte that needs no escape, before others
+pub inner-clean_byte : (mode : Mode) (b : ℕ) (bs : List ℕ) → needs_escape mode b ≡ false → inner mode (b ∷ bs) ≡ b ∷ inner mode bs
+inner-clean_byte json b bs clean = ap (λ xs. xs ++ inner json bs) (replacement-clean json b clean)
+inner-clean_byte html b bs clean = ap (λ xs. xs ++ inner html bs) (replacement-clean html b clean)
+inner-clean_byte script b bs clean =
+    inner-one script b bs (passed-one script b bs (grind (arith, nat_tests))) ∙ ap (λ xs. xs ++ inner script bs) (replacement-clean script b clean)
+
+-- Characters
+
+-- the bytes of a character after its first
+abbrev AreContinued : List ℕ → Type 0
+AreContinued bytes = AllByRecursion (λ b. IsInRange 128 191 b) bytes
+
+-- a byte from 128 on, and the bytes of a character after its first
+abbrev IsHighForm : List ℕ → Type 0
+IsHighForm bytes = (first : ℕ) × (rest : List ℕ) × (bytes ≡ first ∷ rest) × (128 ≤ first) × AreContinued rest
+
+-- such are the bytes of a character from U+0080 on
+encode_utf8-high : (c : ℕ) → 128 ≤ c → IsHighForm (encode_utf8 c)
+unfolding encode_utf8
+encode_utf8-high c h =
+    cond_both (ltb c 128) _ _ IsHighForm (λ low. absurd (omega (arith, ltb-true c 128 low)))
+    (λ _. cond_both (ltb c 2048) _ _ IsHighForm (λ _. (_, _, refl, omega arith, omega arith))
+    (λ _. cond_both (ltb c 65536) _ _ IsHighForm (λ _. (_, _, refl, omega arith, omega arith))
+    (λ _. (_, _, refl, omega arith, omega arith))))
+
+-- what stands for the character, whatever comes after it
+abbrev pub IsWrittenAs : Mode → ℕ → List ℕ → Type 0
+IsWrittenAs mode c bytes = (rest : List ℕ) → inner mode (encode_utf8 c ++ rest) ≡ bytes ++ inner mode rest
+
+-- bytes after the first of a character stand for themselves
+inner-continued : (mode : Mode) (bytes rest : List ℕ) → AreContinued bytes → inner mode (bytes ++ rest) ≡ bytes ++ inner mode rest
+inner-continued mode [] rest h = refl
+inner-continued mode (b ∷ bs) rest h =
+    inner-one mode b (bs ++ rest) (passed-one mode b (bs ++ rest) (omega arith))
+    ∙ ap₂ (λ xs ys. xs ++ ys) (replacement-high mode b (omega arith)) (inner-continued mode bs rest h.1)
+
+module _ (mode : Mode) (c : ℕ) where
+  -- a character below U+0080 is a byte
+  pub written-low : c < 128 → IsWrittenAs mode c (replacement mode c)
+  written-low low rest =
+      ap (λ bytes. inner mode (bytes ++ rest)) (encode_ascii c low) ∙ inner-one mode c rest (passed-one mode c rest (omega arith))
+
+  -- one from there on stands for itself, unless it is a separator
+  pub written-high : 128 ≤ c → ((rest : List ℕ) → passed mode (encode_utf8 c ++ rest) ≡ 1) → IsWrittenAs mode c (encode_utf8 c)
+  written-high high alone rest =
+      let form = encode_utf8-high c high in
+      let one : passed mode (form.0 ∷ form.1 ++ rest) ≡ 1 = subst (λ bytes. passed mode (bytes ++ rest) ≡ 1) form.2 (alone rest) in
+      ap (λ bytes. inner mode (bytes ++ rest)) form.2
+      ∙ inner-one mode form.0 (form.1 ++ rest) one
+      ∙ ap₂ (λ xs ys. xs ++ ys) (replacement-high mode form.0 form.3) (inner-continued mode form.1 rest form.4)
+      ∙ ap (λ bytes. bytes ++ inner mode rest) (sym form.2)
+
+  -- what stands for the character alone
+  pub inner-character : (bytes : List ℕ) → IsWrittenAs mode c bytes → inner mode (encode_utf8 c) ≡ bytes
+  inner-character bytes written =
+      ap (inner mode) (sym (append-nil (encode_utf8 c))) ∙ written [] ∙ ap (λ rest. bytes ++ rest) (inner-nil mode) ∙ append-nil bytes
+
+-- Modes that take bytes one by one
+
+-- what stands for a byte is told by the byte alone
+abbrev pub IsBytewise : Mode → Type 0
+IsBytewise json = Unit {0}
+IsBytewise html = Unit {0}
+IsBytewise script = ⊥
+
+-- each byte is passed alone
+passed-bytewise : (mode : Mode) → IsBytewise mode → (bytes : List ℕ) → passed mode bytes ≡ 1
+passed-bytewise json h bytes = refl
+passed-bytewise html h bytes = refl
+passed-bytewise script h bytes = absurd h
+
+-- only ASCII needs an escape
+pub needs_escape_low : (mode : Mode) → IsBytewise mode → (c : ℕ) → needs_escape mode c ≡ true → c < 128
+needs_escape_low json h c need = grind (arith, nat_tests)
+needs_escape_low html h c need = grind (arith, nat_tests)
+needs_escape_low script h c need = absurd h
+
+module _ (mode : Mode) (bytewise : IsBytewise mode) (c : ℕ) where
+  -- a character that needs no escape stands for itself
+  pub inner_clean : needs_escape mode c ≡ false → inner mode (encode_utf8 c) ≡ encode_utf8 c
+  inner_clean clean =
+      elim (cases_lt c 128) [
+        | inl low ↦ inner-character mode c (replacement mode c) (written-low mode c low) ∙ replacement-clean mode c clean ∙ sym (encode_ascii c low)
+        | inr high ↦ inner-character mode c (encode_utf8 c) (written-high mode c high (λ rest. passed-bytewise mode bytewise (encode_utf8 c ++ rest)))
+      ]
+
+  -- a character that needs one is a byte, and has that byte's replacement
+  pub inner_needed : needs_escape mode c ≡ true → inner mode (encode_utf8 c) ≡ replacement mode c
+  inner_needed need = inner-character mode c (replacement mode c) (written-low mode c (needs_escape_low mode bytewise c need))
+
+-- Script
+
+-- `\u` and four lower-case hex digits (RFC 8259, section 7)
+abbrev pub hex_escape : ℕ → List ℕ
+hex_escape c = codes "\\u" ++ digit_char (c / 0x1000) ∷ digit_char (c / 0x100 % 16) ∷ digit_char (c / 0x10 % 16) ∷ digit_char (c % 16) ∷ []
+
+-- what stands for the character: for the five that are marked their hex escapes, and for the others what JSON writes
+unfoldable pub script_replacement : ℕ → List ℕ
+script_replacement c = if is_script_marked c then hex_escape c else inner json (encode_utf8 c)
+
+-- a marked character
+pub script_replacement-marked : (c : ℕ) → is_script_marked c ≡ true → script_replacement c ≡ hex_escape c
+unfolding script_replacement
+script_replacement-marked c marked = rw marked refl
+
+-- any other
+pub script_replacement-other : (c : ℕ) → is_script_marked c ≡ false → script_replacement c ≡ inner json (encode_utf8 c)
+unfolding script_replacement
+script_replacement-other c other = rw other refl
+
+-- the five marked characters
+pub marked_cases : (c : ℕ) → is_script_marked c ≡ true → (P : ℕ → Type 0) → P 0x26 → P 0x3c → P 0x3e → P 0x2028 → P 0x2029 → P c
+marked_cases c marked P p1 p2 p3 p4 p5 =
+    let which : (c ≡ 0x26) ⊎ ((c ≡ 0x3c) ⊎ ((c ≡ 0x3e) ⊎ ((c ≡ 0x2028) ⊎ (c ≡ 0x2029)))) = grind (arith, nat_tests) in
+    let along = λ (x : ℕ) (e : c ≡ x) (p : P x). subst P (sym e) p in
+    elim which [
+      | inl e ↦ along 0x26 e p1
+      | inr (inl e) ↦ along 0x3c e p2
+      | inr (inr (inl e)) ↦ along 0x3e e p3
+      | inr (inr (inr (inl e))) ↦ along 0x2028 e p4
+      | inr (inr (inr (inr e))) ↦ along 0x2029 e p5
+    ]
+
+-- bytes that begin with a separator are the form of its character, and others
+pub begins_separator-form : (bytes : List ℕ) → begins_separator bytes ≡ true
+    → (rest : List ℕ) × ((bytes ≡ encode_utf8 0x2028 ++ rest) ⊎ (bytes ≡ encode_utf8 0x2029 ++ rest))
+unfolding begins_separator encode_utf8
+begins_separator-form [] h = absurd (cc)
+begins_separator-form (a ∷ []) h = absurd (grind (arith, nat_tests))
+begins_separator-form (a ∷ b ∷ []) h = absurd (grind (arith, nat_tests))
+begins_separator-form (a ∷ b ∷ c ∷ bs) h =
+    let front : (a ≡ 0xe2) × (b ≡ 0x80) = grind (arith, nat_tests) in
+    let last : (c ≡ 0xa8) ⊎ (c ≡ 0xa9) = grind (arith, nat_tests) in
+    elim last [
+      | inl e ↦ (bs, inl (cc))
+      | inr e ↦ (bs, inr (cc))
+    ]
+
+-- the character of an unmarked form is no separator
+passed-unmarked : (c : ℕ) → is_script_marked c ≡ false → (rest : List ℕ) → passed script (encode_utf8 c ++ rest) ≡ 1
+passed-unmarked c other rest =
+    elim (cases_Bool (begins_separator (encode_utf8 c ++ rest))) [
+      | inl separator ↦
+          let form = begins_separator-form (encode_utf8 c ++ rest) separator in
+          elim form.1 [
+            | inl line ↦ let same = (encode_same c 0x2028 rest form.0 line).0 in grind (arith, nat_tests)
+            | inr paragraph ↦ let same = (encode_same c 0x2029 rest form.0 paragraph).0 in grind (arith, nat_tests)
+          ]
+      | inr none ↦ rw none refl
+    ]
+
+-- what stands for a marked character
+written-marked : (c : ℕ) → is_script_marked c ≡ true → IsWrittenAs script c (hex_escape c)
+unfolding script_inner_after begins_separator replacement encode_utf8
+written-marked c marked =
+    marked_cases c marked (λ x. IsWrittenAs script x (hex_escape x)) (λ rest. refl) (λ rest. refl) (λ rest. refl) (λ rest. refl) (λ rest. refl)
+
+-- a byte that isn't marked stands for what it does in JSON
+pub replacement-unmarked : (b : ℕ) → is_script_marked b ≡ false → replacement script b ≡ replacement json b
+unfolding replacement
+replacement-unmarked b other = grind (arith, nat_tests)
+
+-- what stands for a character
+written-script : (c : ℕ) → IsWrittenAs script c (script_replacement c)
+written-script c =
+    elim (cases_Bool (is_script_marked c)) [
+      | inl marked ↦ subst (IsWrittenAs script c) (sym (script_replacement-marked c marked)) (written-marked c marked)
+      | inr other ↦
+          elim (cases_lt c 128) [
+            | inl low ↦
+                let same = replacement-unmarked c other ∙ sym (inner-character json c (replacement json c) (written-low json c low)) ∙ sym (script_replacement-other c other) in
+                subst (IsWrittenAs script c) same (written-low script c low)
+            | inr high ↦
+                let same = sym (inner-character json c (encode_utf8 c) (written-high json c high (λ rest. refl))) ∙ sym (script_replacement-other c other) in
+                subst (IsWrittenAs script c) same (written-high script c high (passed-unmarked c other))
+          ]
+    ]
+
+-- as it stands alone
+pub inner-script : (c : ℕ) → inner script (encode_utf8 c) ≡ script_replacement c
+inner-script c = inner-character script c (script_replacement c) (written-script c)
+
+-- Texts
+
+-- what stands for a character before others
+pub inner-past : (mode : Mode) (c : ℕ) (rest : List ℕ) → inner mode (encode_utf8 c ++ rest) ≡ inner mode (encode_utf8 c) ++ inner mode rest
+inner-past json c rest = flat_map-append (replacement json) (encode_utf8 c) rest
+inner-past html c rest = flat_map-append (replacement html) (encode_utf8 c) rest
+inner-past script c rest = written-script c rest ∙ ap (λ bytes. bytes ++ inner script rest) (sym (inner-script c))
+
+-- what stands for the bytes of a text, where f is what stands for each character
+module _ (mode : Mode) (f : ℕ → List ℕ) (written : (c : ℕ) → IsWrittenAs mode c (f c)) where
+  inner-flat_map : (text : List ℕ) → inner mode (encode_utf8_all text) ≡ flat_map f text
+  inner-flat_map [] = inner-nil mode
+  inner-flat_map (c ∷ cs) = written c (encode_utf8_all cs) ∙ ap (λ rest. f c ++ rest) (inner-flat_map cs)
+
+-- character by character
+pub inner-pieces : (mode : Mode) (text : List ℕ) → inner mode (encode_utf8_all text) ≡ flat_map (λ c. inner mode (encode_utf8 c)) text
+inner-pieces mode text = inner-flat_map mode (λ c. inner mode (encode_utf8 c)) (inner-past mode) text
+
+-- in a script literal, with the five marked characters written by hex escapes
+pub script_pieces : (text : List ℕ) → inner script (encode_utf8_all text) ≡ flat_map script_replacement text
+script_pieces text = inner-flat_map script script_replacement written-script text

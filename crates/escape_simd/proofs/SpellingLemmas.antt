@@ -1,18 +1,12 @@
 -- Laws of texts that are spelled item by item.
-use Rattle.std.proofs.Common.{◌≡◌, ℕ, ◌<◌, ◌≤◌, true, List, [], ◌∷◌, ◌++◌, map, flat_map, length, encode_utf8, encode_utf8_all, refl, sym, ap, ap₂, ◌∙◌, length-append, arith}
+use Rattle.std.proofs.Common.{◌≡◌, ℕ, ◌<◌, ◌≤◌, true, List, [], ◌∷◌, ◌++◌, map, flat_map, length, refl, sym, ap, ap₂, subst, ◌∙◌, length-append, arith}
 use Rattle.std.specs.Str.{all_scalars}
 use Rattle.std.specs.Char.{IsScalar}
 use Rattle.std.proofs.Math.Utf8.{scalar}
 use Rattle.std.proofs.lemmas.Bool.{and_parts}
 use Rattle.std.specs.List.{AllZip, concat, AllByRecursion}
-use Rattle.std.proofs.lemmas.Grind.{flat_map-append}
+use Rattle.std.proofs.lemmas.List.{append_cancel_right}
 use Rattle.escape_simd.specs.Spelling.{Spells}
-
--- the pieces of the characters' bytes are the pieces of the text's bytes
-pub flat_map-encode_utf8_all : (f : ℕ → List ℕ) (text : List ℕ) → flat_map f (encode_utf8_all text) ≡ flat_map (λ c. flat_map f (encode_utf8 c)) text
-flat_map-encode_utf8_all f [] = refl
-flat_map-encode_utf8_all f (c ∷ cs) =
-    flat_map-append f (encode_utf8 c) (encode_utf8_all cs) ∙ ap (λ rest. flat_map f (encode_utf8 c) ++ rest) (flat_map-encode_utf8_all f cs)
 
 -- pieces joined, as a list of pieces
 concat-map : (f : ℕ → List ℕ) (text : List ℕ) → flat_map f text ≡ concat (map f text)
@@ -28,6 +22,13 @@ AllByRecursion-append P (x ∷ xs) ys h k = (h.0, AllByRecursion-append P xs ys 
 pub AllByRecursion-parts : (P : ℕ → Type 0) (xs ys : List ℕ) → AllByRecursion P (xs ++ ys) → AllByRecursion P xs × AllByRecursion P ys
 AllByRecursion-parts P [] ys h = (tt, h)
 AllByRecursion-parts P (x ∷ xs) ys h = let rest = AllByRecursion-parts P xs ys h.1 in ((h.0, rest.0), rest.1)
+
+-- items of one kind, where each is one of another
+pub AllZip-weaker : (P Q : List ℕ → ℕ → Type 0) → ((i : List ℕ) (c : ℕ) → P i c → Q i c) → (items : List (List ℕ)) (text : List ℕ) → AllZip P items text → AllZip Q items text
+AllZip-weaker P Q weaker [] [] h = tt
+AllZip-weaker P Q weaker [] (c ∷ cs) h = absurd h
+AllZip-weaker P Q weaker (i ∷ is) [] h = absurd h
+AllZip-weaker P Q weaker (i ∷ is) (c ∷ cs) h = (weaker i c h.0, AllZip-weaker P Q weaker is cs h.1)
 
 module _ (Item : List ℕ → ℕ → Type 0) where
   module _ (f : ℕ → List ℕ) where
@@ -89,3 +90,15 @@ module _ (Item : List ℕ → ℕ → Type 0) where
     -- one byte list spells one text at most
     pub Spells-one_text : (h t u : List ℕ) → Spells Item h t → Spells Item h u → t ≡ u
     Spells-one_text h t u p q = same_text p.items q.items t u p.each q.each (sym p.joined ∙ q.joined)
+
+    -- two spellings of one text by one byte list have the same items
+    pub both_items : (P Q : List ℕ → ℕ → Type 0) → ((i : List ℕ) (c : ℕ) → P i c → Item i c) → ((i : List ℕ) (c : ℕ) → Q i c → Item i c)
+        → (is js : List (List ℕ)) (t : List ℕ) → AllZip P is t → AllZip Q js t → concat is ≡ concat js → AllZip (λ i c. P i c × Q i c) is t
+    both_items P Q p q [] js [] h k e = tt
+    both_items P Q p q (i ∷ is) (j ∷ js) (c ∷ cs) h k e =
+        let rest = (apart i j (concat is) (concat js) c c (p i c h.0) (q j c k.0) e).1 in
+        let same : i ≡ j = append_cancel_right i j (concat is) (e ∙ ap (λ x. j ++ x) (sym rest)) in
+        ((h.0, subst (λ x. Q x c) (sym same) k.0), both_items P Q p q is js cs h.1 k.1 rest)
+    both_items P Q p q (i ∷ is) [] (c ∷ cs) h k e = absurd k
+    both_items P Q p q [] js (c ∷ cs) h k e = absurd h
+    both_items P Q p q (i ∷ is) js [] h k e = absurd h

@@ -1,132 +1,242 @@
 -- What a text still needs from a place on: its escaping, its escapes and its runs.
-use Rattle.std.proofs.Common.{◌≡◌, ℕ, zero, suc, ◌+◌, ◌-◌, ◌<◌, ◌≤◌, Bool, true, false, cond, List, [], ◌∷◌, ◌++◌, length, drop, get_or, refl, sym, ap, ◌∙◌, arith, inl, inr, add-one}
-use Rattle.std.proofs.lemmas.Bool.{cases_Bool}
+use Rattle.std.proofs.Common.{◌≡◌, ℕ, zero, suc, ◌+◌, ◌-◌, ◌<◌, ◌≤◌, Bool, true, false, cond, ◌&&◌, ◌||◌, ◌==◌, not, List, [], ◌∷◌, ◌++◌, length, length-append, drop, get_or, slice_index_or, length-drop, ◌*◌, refl, sym, ap, ◌∙◌, arith, inl, inr, add-one, subst}
+use Rattle.std.proofs.lemmas.Bool.{cases_Bool, and_parts}
 use Rattle.std.proofs.lemmas.Bool.Decides.{nat_tests}
-use Rattle.std.proofs.lemmas.List.{drop-drop, drop_all}
+use Rattle.std.proofs.lemmas.List.{drop-drop, drop_all, get_or_past}
 use Rattle.std.proofs.lemmas.List.Sums.{sum_by-append, prefix_len-drop_yes, prefix_len-drop_no}
 use Rattle.std.proofs.Math.Seq.{drop-cons}
-use Rattle.escape_lanes.specs.Mode.{Mode, json, html}
+use Rattle.escape_lanes.specs.Mode.{Mode, json, html, script}
 use Rattle.escape_lanes.specs.Replacement.{needs_escape, replacement}
-use Rattle.escape_simd.specs.Output.{inner}
-use Rattle.escape_simd.specs.Runs.{escaped_count, run_count_after, run_count}
+use Rattle.escape_simd.specs.Output.{inner, begins_separator, passed, first_replacement, script_inner_after}
+use Rattle.escape_simd.specs.Runs.{escaped_count, runs_after, run_count_after, run_count, script_escapes_after, script_runs_after}
 use Rattle.escape_simd.specs.Stretch.{run_end}
+use Rattle.escape_simd.proofs.ReplacementLemmas.{script_inner_after-drop, inner-clean_byte, inner-nil, length-replacement}
 
--- a byte that needs no escape stands for itself
-pub replacement-clean : (mode : Mode) (b : ℕ) → needs_escape mode b ≡ false → replacement mode b ≡ b ∷ []
-unfolding replacement
-replacement-clean json b h = grind (arith, nat_tests)
-replacement-clean html b h = grind (arith, nat_tests)
+-- Separators
+
+-- a separator begins with e2, which is flagged
+separator-flagged : (b : ℕ) (bs : List ℕ) → begins_separator (b ∷ bs) ≡ true → needs_escape script b ≡ true
+unfolding begins_separator
+separator-flagged b bs h = grind (arith, nat_tests)
+
+-- where a byte is not flagged no separator begins
+pub no_separator : (b : ℕ) (bs : List ℕ) → needs_escape script b ≡ false → begins_separator (b ∷ bs) ≡ false
+no_separator b bs clean = elim (cases_Bool (begins_separator (b ∷ bs))) [
+  | inl begins ↦ absurd (let e = sym (separator-flagged b bs begins) ∙ clean in cc)
+  | inr none ↦ none
+]
+
+-- the second byte of a separator is 80
+second_byte : (bytes : List ℕ) → begins_separator bytes ≡ true → get_or bytes 1 0 ≡ 0x80
+unfolding begins_separator
+second_byte bytes h = grind (arith, nat_tests)
+
+-- the third byte is a8 or a9
+third_byte : (bytes : List ℕ) → begins_separator bytes ≡ true → (0xa8 ≤ get_or bytes 2 0) × (get_or bytes 2 0 ≤ 0xa9)
+unfolding begins_separator
+third_byte bytes h = (grind (arith, nat_tests), grind (arith, nat_tests))
+
+-- a separator has three bytes
+separator-long : (bytes : List ℕ) → begins_separator bytes ≡ true → 3 ≤ length bytes
+separator-long [] h = absurd (let e = second_byte [] h in omega (arith, e))
+separator-long (a ∷ []) h = absurd (let e = second_byte (a ∷ []) h in omega (arith, e))
+separator-long (a ∷ b ∷ []) h = absurd (let e = (third_byte (a ∷ b ∷ []) h).0 in omega (arith, e))
+separator-long (a ∷ b ∷ c ∷ rest) h = omega arith
+
+-- How far the first of what stands for bytes goes
+
+-- one byte or three
+pub one≤passed : (mode : Mode) (bytes : List ℕ) → (1 ≤ passed mode bytes) × (passed mode bytes ≤ 3)
+one≤passed json bytes = (omega arith, omega arith)
+one≤passed html bytes = (omega arith, omega arith)
+one≤passed script bytes = elim (cases_Bool (begins_separator bytes)) [
+  | inl begins ↦ rw begins (omega arith, omega arith)
+  | inr none ↦ rw none (omega arith, omega arith)
+]
+
+-- bytes of the list
+pub passed≤length : (mode : Mode) (bytes : List ℕ) → 0 < length bytes → passed mode bytes ≤ length bytes
+passed≤length json bytes some = omega arith
+passed≤length html bytes some = omega arith
+passed≤length script bytes some = elim (cases_Bool (begins_separator bytes)) [
+  | inl begins ↦ rw begins (separator-long bytes begins)
+  | inr none ↦ rw none (omega arith)
+]
+
+-- where no escape is needed, one
+passed-clean : (mode : Mode) (b : ℕ) (bs : List ℕ) → needs_escape mode b ≡ false → passed mode (b ∷ bs) ≡ 1
+passed-clean json b bs clean = refl
+passed-clean html b bs clean = refl
+passed-clean script b bs clean = rw (no_separator b bs clean) refl
+
+-- a byte that is passed with the one before it needs no escape
+pub passed-between : (mode : Mode) (bytes : List ℕ) (k : ℕ) → 0 < k → k < passed mode bytes → needs_escape mode (get_or bytes k 0) ≡ false
+passed-between json bytes k some h = absurd (omega arith)
+passed-between html bytes k some h = absurd (omega arith)
+passed-between script bytes k some h = elim (cases_Bool (begins_separator bytes)) [
+  | inl begins ↦ between begins k some (rw begins at h)
+  | inr none ↦ absurd (let e = rw none at h in omega (arith, e))
+]
+  where
+    between : begins_separator bytes ≡ true → (k : ℕ) → 0 < k → k < 3 → needs_escape script (get_or bytes k 0) ≡ false
+    between begins zero some h = absurd (omega arith)
+    between begins (suc zero) some h = let e = second_byte bytes begins in rw e refl
+    between begins (suc (suc zero)) some h = let e = third_byte bytes begins in grind (arith, nat_tests)
+    between begins (suc (suc (suc k))) some h = absurd (omega arith)
+
+-- What stands for bytes, and its counts, one step on
+
+-- script: the escapes after them
+escapes_after : (n : ℕ) (bs : List ℕ) → script_escapes_after n bs ≡ script_escapes_after 0 (drop n bs)
+unfolding script_escapes_after
+escapes_after zero bs = refl
+escapes_after (suc n) [] = refl
+escapes_after (suc n) (b ∷ bs) = escapes_after n bs
+
+-- script: the runs after them, where they are in a run
+marked_after : (n : ℕ) (bs : List ℕ) → script_runs_after true n bs ≡ script_runs_after true 0 (drop n bs)
+unfolding script_runs_after
+marked_after zero bs = refl
+marked_after (suc n) [] = refl
+marked_after (suc n) (b ∷ bs) = marked_after n bs
 
 module _ (mode : Mode) where
   -- no byte needs an escape
   abbrev pub IsClean : List ℕ → Type 0
   IsClean xs = (k : ℕ) → k < length xs → needs_escape mode (get_or xs k 0) ≡ false
 
-  module _ (b : ℕ) (bs : List ℕ) where
-    -- a clean byte begins no run, and ends one
-    pub runs-clean : (before : Bool) → needs_escape mode b ≡ false → run_count_after mode before (b ∷ bs) ≡ run_count mode bs
-    unfolding run_count_after
-    runs-clean before h = rw h (omega arith)
+module _ (b : ℕ) (bs : List ℕ) where
+  -- the first of what stands for bytes, and the rest
+  inner-step : (mode : Mode) → inner mode (b ∷ bs) ≡ first_replacement mode (b ∷ bs) ++ inner mode (drop (passed mode (b ∷ bs) - 1) bs)
+  unfolding script_inner_after
+  inner-step json = refl
+  inner-step html = refl
+  inner-step script = ap (λ xs. first_replacement script (b ∷ bs) ++ xs) (script_inner_after-drop (passed script (b ∷ bs) - 1) bs)
 
-    -- a byte that needs an escape begins a run after a clean one
-    pub runs-first : needs_escape mode b ≡ true → run_count mode (b ∷ bs) ≡ run_count_after mode true bs + 1
-    unfolding run_count_after
-    runs-first h = rw h (omega arith)
+  -- one byte more, by whether it needs an escape
+  escaped-step : (mode : Mode) → escaped_count mode (b ∷ bs) ≡ escaped_count mode (drop (passed mode (b ∷ bs) - 1) bs) + cond (needs_escape mode b) 1 0
+  unfolding script_escapes_after
+  escaped-step json = let a = sum_by-append (λ x. cond (needs_escape json x) 1 0) (b ∷ []) bs in omega (arith, a)
+  escaped-step html = let a = sum_by-append (λ x. cond (needs_escape html x) 1 0) (b ∷ []) bs in omega (arith, a)
+  escaped-step script = let a = escapes_after (passed script (b ∷ bs) - 1) bs in omega (arith, a)
 
-    -- and none within a run
-    pub runs-next : needs_escape mode b ≡ true → run_count_after mode true (b ∷ bs) ≡ run_count_after mode true bs
-    unfolding run_count_after
-    runs-next h = rw h (omega arith)
+  -- a clean byte begins no run, and ends one
+  pub runs-clean : (mode : Mode) (before : Bool) → needs_escape mode b ≡ false → run_count_after mode before (b ∷ bs) ≡ run_count mode bs
+  unfolding runs_after script_runs_after
+  runs-clean json before h = rw h (omega arith)
+  runs-clean html before h = rw h (omega arith)
+  runs-clean script before h = rw (h, passed-clean script b bs h) (omega arith)
 
-    -- one byte more, by whether it needs an escape
-    escaped_one : (p : Bool) → needs_escape mode b ≡ p → escaped_count mode (b ∷ bs) ≡ escaped_count mode bs + cond p 1 0
-    escaped_one p h =
-        let a = sum_by-append (λ x. cond (needs_escape mode x) 1 0) (b ∷ []) bs in
-        let o : ◌≡◌ {A = ℕ} (cond (needs_escape mode b) 1 0) (cond p 1 0) = rw h refl in
-        omega (arith, a, o)
+  -- a byte that needs an escape begins a run after a clean one
+  pub runs-first : (mode : Mode) → needs_escape mode b ≡ true → run_count mode (b ∷ bs) ≡ run_count_after mode true (drop (passed mode (b ∷ bs) - 1) bs) + 1
+  unfolding runs_after script_runs_after
+  runs-first json h = rw h (omega arith)
+  runs-first html h = rw h (omega arith)
+  runs-first script h = rw h (let a = marked_after (passed script (b ∷ bs) - 1) bs in omega (arith, a))
 
-    -- a clean byte
-    pub escaped-clean : needs_escape mode b ≡ false → escaped_count mode (b ∷ bs) ≡ escaped_count mode bs
-    escaped-clean h = let e = escaped_one false h in omega (arith, e)
+  -- and none within a run
+  pub runs-next : (mode : Mode) → needs_escape mode b ≡ true → run_count_after mode true (b ∷ bs) ≡ run_count_after mode true (drop (passed mode (b ∷ bs) - 1) bs)
+  unfolding runs_after script_runs_after
+  runs-next json h = rw h (omega arith)
+  runs-next html h = rw h (omega arith)
+  runs-next script h = rw h (let a = marked_after (passed script (b ∷ bs) - 1) bs in omega (arith, a))
 
-    -- a byte that needs an escape
-    pub escaped-first : needs_escape mode b ≡ true → escaped_count mode (b ∷ bs) ≡ escaped_count mode bs + 1
-    escaped-first h = escaped_one true h
+-- no byte, no run
+runs-empty : (mode : Mode) (before : Bool) → run_count_after mode before [] ≡ 0
+unfolding runs_after script_runs_after
+runs-empty json before = refl
+runs-empty html before = refl
+runs-empty script before = refl
 
-  -- no byte, no run
-  runs-empty : (before : Bool) → run_count_after mode before [] ≡ 0
-  unfolding run_count_after
-  runs-empty before = refl
+-- no byte, no escape
+pub escaped-empty : (mode : Mode) → escaped_count mode [] ≡ 0
+unfolding script_escapes_after
+escaped-empty json = refl
+escaped-empty html = refl
+escaped-empty script = refl
 
+module _ (mode : Mode) where
   -- within a run at most one run fewer begins
-  runs_after-≤ : (bs : List ℕ) → run_count mode bs ≤ run_count_after mode true bs + 1
-  runs_after-≤ [] = rw (runs-empty true, runs-empty false) (omega arith)
+  pub runs_after-≤ : (bs : List ℕ) → run_count mode bs ≤ run_count_after mode true bs + 1
+  runs_after-≤ [] = rw (runs-empty mode true, runs-empty mode false) (omega arith)
   runs_after-≤ (b ∷ bs) =
       elim (cases_Bool (needs_escape mode b)) [
-        | inl needed ↦ let f = runs-first b bs needed in let n = runs-next b bs needed in omega (arith, f, n)
-        | inr clean ↦ let f = runs-clean b bs false clean in let n = runs-clean b bs true clean in omega (arith, f, n)
+        | inl needed ↦ let f = runs-first b bs mode needed in let n = runs-next b bs mode needed in omega (arith, f, n)
+        | inr clean ↦ let f = runs-clean b bs mode false clean in let n = runs-clean b bs mode true clean in omega (arith, f, n)
       ]
-
-  -- the runs after a first byte
-  runs-rest : (b : ℕ) (bs : List ℕ) → run_count mode bs ≤ run_count mode (b ∷ bs)
-  runs-rest b bs =
-      elim (cases_Bool (needs_escape mode b)) [
-        | inl needed ↦ let f = runs-first b bs needed in let n = runs_after-≤ bs in omega (arith, f, n)
-        | inr clean ↦ let f = runs-clean b bs false clean in omega (arith, f)
-      ]
-
-  -- the runs after n bytes
-  runs_drop-≤ : (n : ℕ) (bs : List ℕ) → run_count mode (drop n bs) ≤ run_count mode bs
-  runs_drop-≤ zero bs = omega arith
-  runs_drop-≤ (suc n) [] = omega arith
-  runs_drop-≤ (suc n) (b ∷ bs) = let r = runs_drop-≤ n bs in let s = runs-rest b bs in omega (arith, r, s)
-
-  -- no more runs begin further on
-  pub runs_from-≤ : (src : List ℕ) (i j : ℕ) → i ≤ j → run_count mode (drop j src) ≤ run_count mode (drop i src)
-  runs_from-≤ src i j h =
-      let n : i + (j - i) ≡ j = omega arith in
-      let r = runs_drop-≤ (j - i) (drop i src) in
-      rw (drop-drop (j - i) i src, n) at r
 
   -- clean bytes at the front
   module _ (ys : List ℕ) where
     -- they stand for themselves
-    pub inner-clean : (xs : List ℕ) → IsClean xs → inner mode (xs ++ ys) ≡ xs ++ inner mode ys
+    pub inner-clean : (xs : List ℕ) → IsClean mode xs → inner mode (xs ++ ys) ≡ xs ++ inner mode ys
     inner-clean [] h = refl
-    inner-clean (x ∷ xs) h = rw (replacement-clean mode x (h 0 (omega arith))) (ap (λ zs. x ∷ zs) (inner-clean xs (λ k l. h (suc k) (omega arith))))
+    inner-clean (x ∷ xs) h = inner-clean_byte mode x (xs ++ ys) (h 0 (omega arith)) ∙ ap (λ zs. x ∷ zs) (inner-clean xs (λ k l. h (suc k) (omega arith)))
+
+    -- one is not escaped
+    escaped_one : (x : ℕ) (xs : List ℕ) → needs_escape mode x ≡ false → escaped_count mode (x ∷ xs) ≡ escaped_count mode xs
+    escaped_one x xs clean =
+        let s = escaped-step x xs mode in
+        let o : ◌≡◌ {A = ℕ} (cond (needs_escape mode x) 1 0) 0 = rw clean refl in
+        let p = ap (λ n. escaped_count mode (drop (n - 1) xs)) (passed-clean mode x xs clean) in
+        omega (arith, s, o, p)
 
     -- none of them is escaped
-    pub escaped_count-clean : (xs : List ℕ) → IsClean xs → escaped_count mode (xs ++ ys) ≡ escaped_count mode ys
+    pub escaped_count-clean : (xs : List ℕ) → IsClean mode xs → escaped_count mode (xs ++ ys) ≡ escaped_count mode ys
     escaped_count-clean [] h = refl
-    escaped_count-clean (x ∷ xs) h = escaped-clean x (xs ++ ys) (h 0 (omega arith)) ∙ escaped_count-clean xs (λ k l. h (suc k) (omega arith))
+    escaped_count-clean (x ∷ xs) h = escaped_one x (xs ++ ys) (h 0 (omega arith)) ∙ escaped_count-clean xs (λ k l. h (suc k) (omega arith))
 
     -- none of them begins a run
-    pub run_count-clean : (xs : List ℕ) → IsClean xs → run_count mode (xs ++ ys) ≡ run_count mode ys
+    pub run_count-clean : (xs : List ℕ) → IsClean mode xs → run_count mode (xs ++ ys) ≡ run_count mode ys
     run_count-clean [] h = refl
-    run_count-clean (x ∷ xs) h = runs-clean x (xs ++ ys) false (h 0 (omega arith)) ∙ run_count-clean xs (λ k l. h (suc k) (omega arith))
+    run_count-clean (x ∷ xs) h = runs-clean x (xs ++ ys) mode false (h 0 (omega arith)) ∙ run_count-clean xs (λ k l. h (suc k) (omega arith))
 
-  -- the rest of a text, one byte on
+  -- the rest of a text, one step on
   module _ (src : List ℕ) (i : ℕ) (inside : i < length src) where
     -- the byte, and the rest
     here : drop i src ≡ get_or src i 0 ∷ drop (i + 1) src
     here = rw add-one (drop-cons src i 0 inside)
 
-    -- what stands for the byte, and for the rest
-    pub inner-here : inner mode (drop i src) ≡ replacement mode (get_or src i 0) ++ inner mode (drop (i + 1) src)
-    inner-here = ap (inner mode) here
+    -- past what the first replacement stands for
+    after : drop (passed mode (drop i src) - 1) (drop (i + 1) src) ≡ drop (i + passed mode (drop i src)) src
+    after =
+        let one = (one≤passed mode (drop i src)).0 in
+        let n : i + 1 + (passed mode (drop i src) - 1) ≡ i + passed mode (drop i src) = omega (arith, one) in
+        drop-drop (passed mode (drop i src) - 1) (i + 1) src ∙ ap (λ k. drop k src) n
+
+    -- the same, told of the byte and the rest
+    after_here : drop (passed mode (get_or src i 0 ∷ drop (i + 1) src) - 1) (drop (i + 1) src) ≡ drop (i + passed mode (drop i src)) src
+    after_here = ap (λ xs. drop (passed mode xs - 1) (drop (i + 1) src)) (sym here) ∙ after
+
+    -- what stands there, and for the rest
+    pub inner-here : inner mode (drop i src) ≡ first_replacement mode (drop i src) ++ inner mode (drop (i + passed mode (drop i src)) src)
+    inner-here =
+        ap (inner mode) here
+        ∙ inner-step (get_or src i 0) (drop (i + 1) src) mode
+        ∙ ap (λ xs. first_replacement mode xs ++ inner mode (drop (passed mode (get_or src i 0 ∷ drop (i + 1) src) - 1) (drop (i + 1) src))) (sym here)
+        ∙ ap (λ xs. first_replacement mode (drop i src) ++ inner mode xs) after_here
 
     module _ (needed : needs_escape mode (get_or src i 0) ≡ true) where
       -- one more that is escaped
-      pub escaped-here : escaped_count mode (drop i src) ≡ escaped_count mode (drop (i + 1) src) + 1
-      escaped-here = ap (escaped_count mode) here ∙ escaped-first (get_or src i 0) (drop (i + 1) src) needed
+      pub escaped-here : escaped_count mode (drop i src) ≡ escaped_count mode (drop (i + passed mode (drop i src)) src) + 1
+      escaped-here =
+          let s = escaped-step (get_or src i 0) (drop (i + 1) src) mode in
+          let o : ◌≡◌ {A = ℕ} (cond (needs_escape mode (get_or src i 0)) 1 0) 1 = rw needed refl in
+          let h = ap (escaped_count mode) here in let a = ap (escaped_count mode) after_here in
+          omega (arith, s, o, h, a)
 
       -- it begins a run where none is open
-      pub first-here : run_count_after mode true (drop i src) + 1 ≡ run_count mode (drop i src)
-      first-here = rw here (let f = runs-first (get_or src i 0) (drop (i + 1) src) needed in let n = runs-next (get_or src i 0) (drop (i + 1) src) needed in omega (arith, f, n))
+      pub first-here : run_count mode (drop i src) ≡ run_count_after mode true (drop (i + passed mode (drop i src)) src) + 1
+      first-here =
+          let s = runs-first (get_or src i 0) (drop (i + 1) src) mode needed in
+          let h = ap (run_count mode) here in let a = ap (run_count_after mode true) after_here in
+          omega (arith, s, h, a)
 
       -- it goes on with an open run
-      pub next-here : run_count_after mode true (drop i src) ≡ run_count_after mode true (drop (i + 1) src)
-      next-here = ap (run_count_after mode true) here ∙ runs-next (get_or src i 0) (drop (i + 1) src) needed
+      pub next-here : run_count_after mode true (drop i src) ≡ run_count_after mode true (drop (i + passed mode (drop i src)) src)
+      next-here =
+          let s = runs-next (get_or src i 0) (drop (i + 1) src) mode needed in
+          let h = ap (run_count_after mode true) here in let a = ap (run_count_after mode true) after_here in
+          omega (arith, s, h, a)
 
       -- the run goes on past it
       pub run_end-here : run_end mode src i ≡ run_end mode src (i + 1)
@@ -135,7 +245,10 @@ module _ (mode : Mode) where
     module _ (clean : needs_escape mode (get_or src i 0) ≡ false) where
       -- it ends an open run
       pub runs_stop-here : run_count_after mode true (drop i src) ≡ run_count mode (drop i src)
-      runs_stop-here = rw here (runs-clean (get_or src i 0) (drop (i + 1) src) true clean ∙ sym (runs-clean (get_or src i 0) (drop (i + 1) src) false clean))
+      runs_stop-here =
+          let t = runs-clean (get_or src i 0) (drop (i + 1) src) mode true clean in let f = runs-clean (get_or src i 0) (drop (i + 1) src) mode false clean in
+          let h = ap (run_count mode) here in let a = ap (run_count_after mode true) here in
+          omega (arith, t, f, h, a)
 
       -- a run ends there
       pub run_end-stop : run_end mode src i ≡ i
@@ -145,4 +258,48 @@ module _ (mode : Mode) where
   module _ (src : List ℕ) (i : ℕ) (over : length src ≤ i) where
     -- the end ends an open run
     pub runs_stop-end : run_count_after mode true (drop i src) ≡ run_count mode (drop i src)
-    runs_stop-end = rw (drop_all i src over) (runs-empty true ∙ sym (runs-empty false))
+    runs_stop-end = let d = drop_all i src over in ap (run_count_after mode true) d ∙ runs-empty mode true ∙ sym (runs-empty mode false) ∙ ap (run_count mode) (sym d)
+
+    -- and it is the end of a run
+    pub run_end-end : run_end mode src i ≡ i
+    run_end-end = rw (drop_all i src over) (omega arith)
+
+-- How long what stands for bytes is
+
+-- a separator by six bytes
+length-separator : (bytes : List ℕ) → begins_separator bytes ≡ true → length (first_replacement script bytes) ≡ 6
+length-separator bytes begins = elim (cases_Bool (get_or bytes 2 0 == 0xa8)) [
+  | inl line ↦ rw (begins, line) refl
+  | inr paragraph ↦ rw (begins, paragraph) refl
+]
+
+-- the first of what stands for bytes has as many bytes at least as it stands for, and six times as many at most
+pub length-first : (mode : Mode) (bytes : List ℕ) → (passed mode bytes ≤ length (first_replacement mode bytes)) × (length (first_replacement mode bytes) ≤ 6 * passed mode bytes)
+length-first json bytes = length-replacement json (get_or bytes 0 0)
+length-first html bytes = length-replacement html (get_or bytes 0 0)
+length-first script bytes = elim (cases_Bool (begins_separator bytes)) [
+  | inl begins ↦ let l = length-separator bytes begins in let p : passed script bytes ≡ 3 = rw begins refl in (omega (arith, l, p), omega (arith, l, p))
+  | inr none ↦
+      let r = length-replacement script (get_or bytes 0 0) in
+      let p : passed script bytes ≡ 1 = rw none refl in
+      let f : first_replacement script bytes ≡ replacement script (get_or bytes 0 0) = rw none refl in
+      let l = ap length f in
+      (omega (arith, r, p, l), omega (arith, r, p, l))
+]
+
+-- bytes are written by as many bytes at least, and six times as many at most
+pub length-inner : (mode : Mode) (bytes : List ℕ) → (length bytes ≤ length (inner mode bytes)) × (length (inner mode bytes) ≤ 6 * length bytes)
+length-inner mode bytes = by_steps (length bytes) bytes (omega arith)
+  where
+    by_steps : (n : ℕ) (bs : List ℕ) → length bs ≤ n → (length bs ≤ length (inner mode bs)) × (length (inner mode bs) ≤ 6 * length bs)
+    by_steps n [] h = let e = ap length (inner-nil mode) in (omega (arith, e), omega (arith, e))
+    by_steps zero (b ∷ bs) h = absurd (omega arith)
+    by_steps (suc n) (b ∷ bs) h =
+        let u : ℕ = passed mode (b ∷ bs) in
+        let one = one≤passed mode (b ∷ bs) in
+        let fits = passed≤length mode (b ∷ bs) (omega arith) in
+        let first = length-first mode (b ∷ bs) in
+        let left = length-drop (u - 1) bs in
+        let rest = by_steps n (drop (u - 1) bs) (omega (arith, left)) in
+        let step = ap length (inner-step b bs mode) ∙ length-append (first_replacement mode (b ∷ bs)) (inner mode (drop (u - 1) bs)) in
+        (omega (arith, step, first, rest, left, one, fits), omega (arith, step, first, rest, left, one, fits))

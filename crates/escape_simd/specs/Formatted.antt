@@ -17,9 +17,9 @@ pub record IsWritten (lanes : ℕ) (mode : Mode) (text old new : List ℕ) (coun
   pub kept_bound : drop (bound mode (length text)) new ≡ drop (bound mode (length text)) old
   pub kept_past : drop (count + lanes) new ≡ drop (count + lanes) old
 
--- The same in a target, at a cost of one vector stored, and `a_run` classified, for each run of
--- escapes, and one for each vector that the text fills or begins.
-pub record IsFormatted {N : ℕ} (a_run : ℕ) (mode : Mode) (text : List ℕ) (old new : Target N) (count ticks_old ticks_new : ℕ) : Type 0 where
+-- The same in a target, at a cost of one vector stored, and one classified, for each run of escapes, and
+-- one for each vector that the text fills or begins.
+pub record IsFormatted {N : ℕ} (mode : Mode) (text : List ℕ) (old new : Target N) (count ticks_old ticks_new : ℕ) : Type 0 where
   pub same_slice : IsSameSlice old new
   pub written : IsWritten N mode text (bytes_of old) (bytes_of new) count
   pub escaped : escaped_of new ≡ escaped_of old + escaped_count mode text
@@ -27,4 +27,4 @@ pub record IsFormatted {N : ℕ} (a_run : ℕ) (mode : Mode) (text : List ℕ) (
   pub stored : stored_of new ≤ stored_of old + (run_count mode text + length text / N + 1)
   -- each vector stored was classified
   pub each_stored : ticks_old + stored_of new ≤ ticks_new + stored_of old
-  pub classified : ticks_new ≤ ticks_old + (a_run * run_count mode text + length text / N + 1)
+  pub classified : ticks_new ≤ ticks_old + (run_count mode text + length text / N + 1)

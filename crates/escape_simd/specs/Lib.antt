@@ -11,6 +11,7 @@ pub mod Kernels
 pub mod Spelling
 pub mod Html
 pub mod Json
+pub mod Script
 pub mod Headline
 pub mod Laws
 pub mod Messages

@@ -1,48 +1,129 @@
 -- What a stretch of a text did to a target, and what it cost.
-use Rattle.std.specs.Prelude.{◌≡◌, ℕ, ◌+◌, ◌-◌, ◌*◌, ◌/◌, ◌≤◌, Bool, List, ◌++◌, length, take, drop, if◌then◌else◌}
+use Rattle.std.specs.Prelude.{◌≡◌, ℕ, ◌+◌, ◌-◌, ◌/◌, ◌<◌, ◌≤◌, Bool, true, false, List, ◌++◌, length, take, drop, slice_index, slice_index_or, if◌then◌else◌}
 use Rattle.std.specs.List.{prefix_len}
-use Rattle.escape_lanes.specs.Mode.{Mode}
+use Rattle.escape_lanes.specs.Mode.{Mode, json, html, script}
 use Rattle.escape_lanes.specs.Replacement.{needs_escape}
-use Rattle.escape_lanes.specs.Written.{bytes_of, escaped_of, quotes_of, IsSameSlice}
+use Rattle.escape_lanes.specs.Written.{bytes_of, stored_of, escaped_of, quotes_of, IsSameSlice}
 use Rattle.escape_lanes.specs.declared.simd.target.Target.{Target}
-use Rattle.escape_simd.specs.Output.{inner}
+use Rattle.escape_simd.specs.Output.{inner, passed}
 use Rattle.escape_simd.specs.Runs.{escaped_count, run_count}
 
 -- where the bytes that need an escape from a place on end
 abbrev pub run_end : Mode → List ℕ → ℕ → ℕ
 run_end mode src at = at + prefix_len (needs_escape mode) (drop at src)
 
--- The bytes of a text from `at` up to `next` were escaped into a target from `to` up to `end`.
--- Writes reached less than `reach` past the end, and none passed what the rest of the text may
--- need.
-pub record Stretch {N : ℕ} (mode : Mode) (reach : ℕ) (src : List ℕ) (old new : Target N) (at next to end : ℕ) : Type 0 where
+-- how many bytes the rest of a text becomes, from a place on
+unfoldable pub rest_length : Mode → List ℕ → ℕ → ℕ
+rest_length mode src at = length (inner mode (drop at src))
+
+-- the room in a target that the rest of a text may need: what it becomes, and a vector of 32 bytes
+abbrev pub room_from : Mode → List ℕ → ℕ → ℕ
+room_from mode src at = rest_length mode src at + 32
+
+-- The bytes of a text from `at` up to `next` were escaped into a target from `to` up to `end`. No write
+-- passed what the rest of the text becomes by more than `slack` bytes.
+pub record Stretch {N : ℕ} (mode : Mode) (slack : ℕ) (src : List ℕ) (old new : Target N) (at next to end : ℕ) : Type 0 where
   pub same_slice : IsSameSlice old new
   pub forward : at ≤ next
   pub inside : next ≤ length src
-  -- each byte of the text takes one to six bytes
-  pub least : to + next ≤ end + at
-  pub most : end + 6 * at ≤ to + 6 * next
+  -- what the whole ends at stays the same
+  pub limit : end + rest_length mode src next ≡ to + rest_length mode src at
   -- what is written and what is yet to be written stay one text
   pub bytes : take end (bytes_of new) ++ inner mode (drop next src) ≡ take to (bytes_of old) ++ inner mode (drop at src)
-  pub kept_past : drop (end + reach) (bytes_of new) ≡ drop (end + reach) (bytes_of old)
-  pub kept_bound : drop (to + 6 * (length src - at) + 32) (bytes_of new) ≡ drop (to + 6 * (length src - at) + 32) (bytes_of old)
+  pub kept : drop (to + rest_length mode src at + slack) (bytes_of new) ≡ drop (to + rest_length mode src at + slack) (bytes_of old)
   pub escaped : escaped_of new + escaped_count mode (drop next src) ≡ escaped_of old + escaped_count mode (drop at src)
   pub quotes : quotes_of new ≡ quotes_of old
 
--- the most that a text costs from a place on: so much for each run, and one for each vector that is
--- filled or begun
-abbrev pub cost_from : ℕ → ℕ → Mode → List ℕ → ℕ → ℕ
-cost_from a_run N mode src at = a_run * run_count mode (drop at src) + (length src - at + (N - 1)) / N
-
--- A stretch of a text from `at` up to `next` cost no more than it takes off the cost of what is
--- left, one for each vector stored and `a_run` classifications for each run, and no vector was
--- stored that was not classified.
-pub record Paid (a_run N : ℕ) (mode : Mode) (src : List ℕ) (at next stored_old stored_new ticks_old ticks_new : ℕ) : Type 0 where
-  pub stored : stored_new + cost_from 1 N mode src next ≤ stored_old + cost_from 1 N mode src at
-  pub classified : ticks_new + cost_from a_run N mode src next ≤ ticks_old + cost_from a_run N mode src at
-  pub each_stored : ticks_old + stored_new ≤ ticks_new + stored_old
+-- A stretch of a text from `at` up to `next` stored no more vectors than it has runs and whole vectors,
+-- and classified each vector that it stored, and no other.
+pub record Paid (N : ℕ) (mode : Mode) (src : List ℕ) (at next stored_old stored_new ticks_old ticks_new : ℕ) : Type 0 where
+  pub stored : stored_new + run_count mode (drop next src) ≤ stored_old + run_count mode (drop at src) + (next - at) / N
+  pub classified : ticks_new + stored_old ≡ ticks_old + stored_new
 
 -- how many lanes of a vector of n are stored for `taken` bytes of text: these, where a store is
 -- exact, or all
 abbrev pub stored_lanes : Bool → ℕ → ℕ → ℕ
 stored_lanes exact n taken = if exact then taken else n
+
+-- A mask has the lanes of the bytes that need an escape, of the first `taken` bytes of a text from `at` on. Those before
+-- `from` it may have or not, and it has no other lane.
+pub record HoldsFlags (mode : Mode) (src : List ℕ) (at taken from : ℕ) (bits : List Bool) : Type 0 where
+  pub set : (k : ℕ) → slice_index_or bits k false ≡ true → (k < taken) × (needs_escape mode (slice_index src (at + k)) ≡ true)
+  pub unset : (k : ℕ) → slice_index_or bits k false ≡ false → from ≤ at + k → k < taken → needs_escape mode (slice_index src (at + k)) ≡ false
+
+-- what stands for a byte is told by that byte alone
+abbrev pub IsByteWise : Mode → Type 0
+IsByteWise mode = (bytes : List ℕ) → passed mode bytes ≡ 1
+
+-- how many bytes past a flagged one are looked at
+abbrev pub look_ahead : Mode → ℕ
+look_ahead json = 0
+look_ahead html = 0
+look_ahead script = 2
+
+-- how far past what it stands for an entry of eight bytes may reach
+abbrev pub run_reach : Mode → ℕ
+run_reach json = 6
+run_reach html = 6
+run_reach script = 7
+
+-- A run of escapes can be written from `at` on: what says where it goes on is set there, is set only at bytes of
+-- the text that need an escape, may be asked as far as an escape passes, and what it looks at can be read.
+pub record CanRun (mode : Mode) (src : List ℕ) (flagged : ℕ → Bool) (asks : ℕ → Type 0) (at end_held : ℕ) : Type 0 where
+  pub begins : flagged at ≡ true
+  pub inside : (q : ℕ) → at ≤ q → flagged q ≡ true → q < length src
+  pub needed : (q : ℕ) → at ≤ q → flagged q ≡ true → needs_escape mode (slice_index src q) ≡ true
+  pub askable : (q p : ℕ) → at ≤ q → flagged q ≡ true → q < p → p ≤ q + 3 → asks p
+  pub held : (q : ℕ) → at ≤ q → flagged q ≡ true → q + look_ahead mode < end_held
+
+-- how far past what the rest of a text becomes the stores of its last bytes reach: a vector, and where they
+-- are exact no more than an escape
+abbrev pub rest_slack : Bool → ℕ → ℕ
+rest_slack exact n = if exact then 8 else n
+
+-- A mask has the flags of `taken` bytes of a text from `at` on, which a vector of N bytes holds; they are passed from
+-- `from` on, with what is written at `to`. Twice a vector's bytes can be read from there, and there is room for the rest.
+pub record IsVectorAt (mode : Mode) (N : ℕ) (src : List ℕ) (start_held end_held at taken from to size : ℕ) (bits : List Bool) : Type 0 where
+  pub count : length bits ≡ N
+  pub flags : HoldsFlags mode src at taken from bits
+  pub few : taken ≤ N
+  pub inside : at + taken ≤ length src
+  pub after : at ≤ from
+  pub before : from < at + taken
+  pub base : start_held ≤ at
+  pub held : at + N + N ≤ end_held
+  pub room : to + room_from mode src from ≤ size
+
+-- a vector, whose first lanes are `taken` bytes of the text from `from` on, can be stored at `to`
+pub record CanStore (N : ℕ) (exact : Bool) (src : List ℕ) (from taken to size : ℕ) : Type 0 where
+  pub few : taken ≤ N
+  pub inside : from + taken ≤ length src
+  pub room : to + stored_lanes exact N taken ≤ size
+
+-- a vector was stored at `to`, whose first lanes are `taken` bytes of the text from `from` on
+pub record IsStored {N : ℕ} (exact : Bool) (src : List ℕ) (old new : Target N) (from taken to : ℕ) : Type 0 where
+  pub same_slice : IsSameSlice old new
+  pub written : take to (bytes_of new) ≡ take to (bytes_of old)
+  pub ahead : take taken (drop to (bytes_of new)) ≡ take taken (drop from src)
+  pub kept : drop (to + stored_lanes exact N taken) (bytes_of new) ≡ drop (to + stored_lanes exact N taken) (bytes_of old)
+  pub stored : stored_of new ≡ stored_of old + 1
+  pub escaped : escaped_of new ≡ escaped_of old
+  pub quotes : quotes_of new ≡ quotes_of old
+
+-- The bytes of a text were passed up to a place not before the border, and at most by the rest of a separator past it:
+-- none of those needs an escape.
+pub record Passed (mode : Mode) (src : List ℕ) (border next : ℕ) : Type 0 where
+  pub whole : border ≤ next
+  pub near : next ≤ border + 2
+  pub exact : IsByteWise mode → next ≡ border
+  pub clean : (p : ℕ) → border ≤ p → p < next → needs_escape mode (slice_index src p) ≡ false
+
+-- The bytes were passed from `from` up to the border, or up to where a run of escapes ends.
+pub record Turned (mode : Mode) (src : List ℕ) (border from next : ℕ) : Type 0 where
+  pub forward : from < next
+  -- a run that ends before the border is over
+  pub over : next < border → run_count mode (drop next src) + 1 ≡ run_count mode (drop from src)
+  pub fewer : run_count mode (drop next src) ≤ run_count mode (drop from src)
+  pub near : next ≤ border + 2
+  pub exact : IsByteWise mode → next ≤ border
+  pub clean : (p : ℕ) → border ≤ p → p < next → needs_escape mode (slice_index src p) ≡ false

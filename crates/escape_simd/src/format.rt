@@ -1,12 +1,13 @@
 //! The output for a text in a slice, by the kernel that is told.
 ghost use Rattle.std.specs.Prelude.{◌≤◌, length, take, chars};
-ghost use Rattle.escape_lanes.specs.Mode.{json, html};
+ghost use Rattle.escape_lanes.specs.Mode.{json, html, script};
 ghost use Rattle.escape_simd.specs.Formatted.{IsWritten};
 ghost use Rattle.escape_simd.specs.Html.{IsOnlyHtml};
 ghost use Rattle.escape_simd.specs.Json.{IsOnlyJson};
 ghost use Rattle.escape_simd.specs.Kernels.{lanes_of};
 ghost use Rattle.escape_simd.specs.Laws.{AgreesWithEach, IsOfOneText};
 ghost use Rattle.escape_simd.specs.Output.{bound};
+ghost use Rattle.escape_simd.specs.Script.{IsOnlyScript, IsSafeInScript};
 
 use crate::kernel::Kernel;
 use crate::simd::{avx2, avx512, neon, sse2, v128};
@@ -64,5 +65,34 @@ pub fn format_html_string(kernel: Kernel, value: &str, dst: &mut [u8]) -> usize
         Kernel::Neon => neon::format_string::<true>(value, dst),
         Kernel::Avx2 => avx2::format_string::<true>(value, dst),
         Kernel::Avx512 => avx512::format_string::<true>(value, dst),
+    }
+}
+
+/// Writes the text as a JSON string literal that can stand in a script element of an HTML page, its
+/// quotation marks included, to the front of `dst` by the kernel, and answers how many bytes it became.
+///
+/// `dst` must have at least `6 * n + 35` bytes for a text of `n` bytes:
+/// [`json_capacity`](crate::json::json_capacity). No byte from that place on changes, and none that is
+/// a vector or more past the last one written. Every kernel writes the same bytes.
+///
+/// ```text
+/// let mut dst = [0; 41];
+/// format_script_string(Kernel::Avx2, "<", &mut dst) == 8
+/// dst.starts_with(b"\"\\u003c\"")
+/// ```
+pub fn format_script_string(kernel: Kernel, value: &str, dst: &mut [u8]) -> usize
+    requires { bound script (length value.now) ≤ length dst.old }
+    ensures written { IsWritten (lanes_of kernel) script value.now dst.old dst.new result }
+    ensures headline { IsOnlyScript (take result dst.new) (chars value.now) }
+    ensures safe { IsSafeInScript (take result dst.new) }
+    ensures equal_texts { IsOfOneText script value.now (take result dst.new) }
+    ensures agree { AgreesWithEach script value.now result (take result dst.new) }
+{
+    match kernel {
+        Kernel::V128 => v128::format_script_string(value, dst),
+        Kernel::Sse2 => sse2::format_script_string(value, dst),
+        Kernel::Neon => neon::format_script_string(value, dst),
+        Kernel::Avx2 => avx2::format_script_string(value, dst),
+        Kernel::Avx512 => avx512::format_script_string(value, dst),
     }
 }

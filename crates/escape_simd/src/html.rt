@@ -10,6 +10,7 @@ mod each;
 mod error;
 
 use crate::output::{append, scratch_bound, text};
+use crate::simd::HTML_MODE;
 pub use each::escape_html_each;
 pub use error::{EscapeHtmlError, InputTooLarge};
 use std::alloc::{Allocator, Global};
@@ -25,7 +26,7 @@ pub fn html_capacity(len: usize) -> Result<usize, InputTooLarge>
     ensures exact { IfOk result (λ capacity. capacity ≡ bound html len) }
     ensures too_large { IsErr result ↔ (usize.MAX < bound html len) }
 {
-    scratch_bound::<true>(len).ok_or(InputTooLarge)
+    scratch_bound::<{ HTML_MODE }>(len).ok_or(InputTooLarge)
 }
 
 /// The text as HTML without markup: none of `"`, `'`, `/`, `<` and `>` stands in it, and each `&`
@@ -79,7 +80,7 @@ pub fn escape_html_in<A: Allocator>(alloc: A, value: &str) -> Result<String<A>, 
     ensures too_large { (result ≡ Err (EscapeHtmlError.TooLarge (record {})))
         ↔ (usize.MAX < bound html (length value.now)) }
 {
-    Ok(text::<true, A>(alloc, value)?)
+    Ok(text::<{ HTML_MODE }, A>(alloc, value)?)
 }
 
 /// Appends the text as [`escape_html`] writes it to `dst`, whatever bytes `dst` holds.
@@ -111,5 +112,5 @@ pub fn escape_html_into<A: Allocator>(
     ensures has_room { vec_len dst.old + bound html (length value.now)
         ≤ vec_capacity dst.old → IsOk result }
 {
-    Ok(append::<true, A>(value, dst)?)
+    Ok(append::<{ HTML_MODE }, A>(value, dst)?)
 }

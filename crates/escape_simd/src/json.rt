@@ -1,14 +1,16 @@
 //! JSON string literals, as RFC 8259 has them in section 7.
 ghost use Rattle.std.specs.Prelude.{◌≡◌, ◌+◌, ◌<◌, ◌≤◌, ◌↔◌, ◌++◌, length, chars, string_bytes, vec_len, vec_capacity, Err, IsOk, IsOkUnless, IfOk, OnOk, OnErr};
-ghost use Rattle.escape_lanes.specs.Mode.{json};
+ghost use Rattle.escape_lanes.specs.Mode.{json, script};
 ghost use Rattle.escape_simd.specs.Output.{plain, bound};
 ghost use Rattle.escape_simd.specs.Json.{IsOnlyJson};
+ghost use Rattle.escape_simd.specs.Script.{IsOnlyScript, IsSafeInScript};
 ghost use Rattle.escape_simd.specs.Spelling.{IsTextOf};
 ghost use Rattle.escape_simd.specs.Laws.{appended, JoinsTexts, IsOfOneText, HasOutputLength};
 
 mod error;
 
 use crate::output::{append, scratch_bound, text};
+use crate::simd::{JSON_MODE, SCRIPT_MODE};
 pub use error::EscapeError;
 use std::alloc::{Allocator, Global};
 
@@ -24,7 +26,7 @@ pub fn json_capacity(len: usize) -> Result<usize, EscapeError>
     ensures too_large { (result ≡ Err EscapeError.TooLarge) ↔ (usize.MAX < bound json len) }
     ensures refusal { IsOkUnless result EscapeError.TooLarge }
 {
-    scratch_bound::<false>(len).ok_or(EscapeError::TooLarge)
+    scratch_bound::<{ JSON_MODE }>(len).ok_or(EscapeError::TooLarge)
 }
 
 /// The JSON string literal of a text, quotation marks included: the shortest with lower-case hex
@@ -76,7 +78,7 @@ pub fn escape_in<A: Allocator>(alloc: A, value: &str) -> Result<String<A>, Escap
     ensures too_large { (result ≡ Err EscapeError.TooLarge)
         ↔ (usize.MAX < bound json (length value.now)) }
 {
-    Ok(text::<false, A>(alloc, value)?)
+    Ok(text::<{ JSON_MODE }, A>(alloc, value)?)
 }
 
 /// Appends the literal that [`escape`] answers to `dst`, whatever bytes `dst` holds.
@@ -105,5 +107,104 @@ pub fn escape_into<A: Allocator>(value: &str, dst: &mut Vec<u8, A>) -> Result<()
     ensures has_room { vec_len dst.old + bound json (length value.now)
         ≤ vec_capacity dst.old → IsOk result }
 {
-    Ok(append::<false, A>(value, dst)?)
+    Ok(append::<{ JSON_MODE }, A>(value, dst)?)
+}
+
+/// The JSON string literal of a text that can stand in a script element of an HTML page, quotation
+/// marks included.
+///
+/// It is a JSON string literal of the same text as [`escape`] answers. Besides what is escaped there,
+/// `<`, `>` and `&` and the separators U+2028 and U+2029 are written by hex escapes. So neither
+/// `</script` nor `<!--` stands in it, which would end the element or begin a comment in it, and it can
+/// be read as JavaScript of any age. It is the shortest such literal with lower-case hex digits, and
+/// the only one.
+///
+/// The literal has from `n + 2` to `6 * n + 2` bytes for a text of `n` bytes, and one request for
+/// `6 * n + 35` bytes is made.
+///
+/// # Errors
+///
+/// Those of [`escape`].
+///
+/// ```text
+/// // <script>const user = ...;</script>
+/// escape_script(alloc, "</script>")? == "\"\\u003c/script\\u003e\""
+/// ```
+pub fn escape_script(alloc: Global, value: &str) -> Result<String, EscapeError>
+    ensures characters { OnOk result (IsTextOf value.now (chars value.now)) }
+    ensures exact { IfOk result (λ output. string_bytes output ≡ plain script value.now) }
+    ensures headline { IfOk result (λ output. IsOnlyScript
+        (string_bytes output) (chars value.now)) }
+    ensures safe { IfOk result (λ output. IsSafeInScript (string_bytes output)) }
+    ensures joined { IfOk result (λ output. JoinsTexts script value.now (string_bytes output)) }
+    ensures equal_texts { IfOk result (λ output. IsOfOneText script value.now
+        (string_bytes output)) }
+    ensures len { IfOk result (λ output. HasOutputLength script
+        (length value.now) (string_bytes output)) }
+    ensures too_large { (result ≡ Err EscapeError.TooLarge)
+        ↔ (usize.MAX < bound script (length value.now)) }
+{
+    escape_script_in(alloc, value)
+}
+
+/// What [`escape_script`] answers, in memory of the caller's allocator, as an arena or a pool: to it
+/// alone the one request is made.
+///
+/// # Errors
+///
+/// Those of [`escape`].
+///
+/// ```text
+/// escape_script_in(&arena, "a<b")? == "\"a\\u003cb\""
+/// ```
+pub fn escape_script_in<A: Allocator>(alloc: A, value: &str) -> Result<String<A>, EscapeError>
+    ensures characters { OnOk result (IsTextOf value.now (chars value.now)) }
+    ensures exact { IfOk result (λ output. string_bytes output ≡ plain script value.now) }
+    ensures headline { IfOk result (λ output. IsOnlyScript
+        (string_bytes output) (chars value.now)) }
+    ensures safe { IfOk result (λ output. IsSafeInScript (string_bytes output)) }
+    ensures joined { IfOk result (λ output. JoinsTexts script value.now (string_bytes output)) }
+    ensures equal_texts { IfOk result (λ output. IsOfOneText script value.now
+        (string_bytes output)) }
+    ensures len { IfOk result (λ output. HasOutputLength script
+        (length value.now) (string_bytes output)) }
+    ensures too_large { (result ≡ Err EscapeError.TooLarge)
+        ↔ (usize.MAX < bound script (length value.now)) }
+{
+    Ok(text::<{ SCRIPT_MODE }, A>(alloc, value)?)
+}
+
+/// Appends the literal that [`escape_script`] answers to `dst`, whatever bytes `dst` holds.
+///
+/// It asks the allocator of `dst`, which may be the caller's own, for room for `6 * n + 35` bytes past
+/// those of `dst` where `dst` has less, and for no memory where it has that.
+///
+/// # Errors
+///
+/// Those of [`escape`]. `dst` then holds its old bytes.
+///
+/// ```text
+/// let mut page = Vec::new(alloc);
+/// page.extend_from_slice(b"<script>const user = ")?;
+/// escape_script_into("Ann </script>", &mut page)?;
+/// page.extend_from_slice(b";</script>")?;
+/// page.as_slice() == b"<script>const user = \"Ann \\u003c/script\\u003e\";</script>"
+/// ```
+pub fn escape_script_into<A: Allocator>(
+    value: &str,
+    dst: &mut Vec<u8, A>,
+) -> Result<(), EscapeError>
+    ensures exact { OnOk result (dst.new.items ≡ dst.old.items ++ plain script value.now) }
+    ensures headline { OnOk result (IsOnlyScript
+        (appended dst.old.items dst.new.items) (chars value.now)) }
+    ensures safe { OnOk result (IsSafeInScript (appended dst.old.items dst.new.items)) }
+    ensures equal_texts { OnOk result (IsOfOneText script value.now
+        (appended dst.old.items dst.new.items)) }
+    ensures unchanged { OnErr result (dst.new.items ≡ dst.old.items) }
+    ensures too_large { (result ≡ Err EscapeError.TooLarge)
+        ↔ (usize.MAX < bound script (length value.now)) }
+    ensures has_room { vec_len dst.old + bound script (length value.now)
+        ≤ vec_capacity dst.old → IsOk result }
+{
+    Ok(append::<{ SCRIPT_MODE }, A>(value, dst)?)
 }

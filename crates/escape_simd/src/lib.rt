@@ -1,14 +1,17 @@
-//! Escapes text as a JSON string literal or as HTML.
+//! Escapes text as a JSON string literal, also one for a script element, or as HTML.
 //!
-//! [`json::escape`] answers the string literal of a text (RFC 8259, section 7), and
+//! [`json::escape`] answers the string literal of a text (RFC 8259, section 7),
+//! [`json::escape_script`] one that can stand in a script element of an HTML page, and
 //! [`html::escape_html`] the text with `"`, `&`, `'`, `/`, `<` and `>` as entities.
-//! [`json::escape_in`] and [`html::escape_html_in`] take an allocator of the caller's own.
-//! [`json::escape_into`], [`html::escape_html_into`] and [`html::escape_html_each`] append to a
-//! vector of bytes instead, of any allocator. [`format_json_string`] and [`format_html_string`] write
+//! [`json::escape_in`], [`json::escape_script_in`] and [`html::escape_html_in`] take an allocator of
+//! the caller's own. [`json::escape_into`], [`json::escape_script_into`],
+//! [`html::escape_html_into`] and [`html::escape_html_each`] append to a vector of bytes instead, of
+//! any allocator. [`format_json_string`], [`format_script_string`] and [`format_html_string`] write
 //! to a slice by the kernel that they are told, and take no memory.
 //!
 //! ```text
 //! escape(alloc, "a\n")? == "\"a\\n\""
+//! escape_script(alloc, "a<b")? == "\"a\\u003cb\""
 //! escape_html(alloc, "a < b")? == "a &lt; b"
 //! ```
 #![tactic(auto)]
@@ -21,5 +24,5 @@ mod output;
 pub mod simd;
 
 pub use escape_lanes::tables;
-pub use format::{format_html_string, format_json_string};
+pub use format::{format_html_string, format_json_string, format_script_string};
 pub use kernel::Kernel;

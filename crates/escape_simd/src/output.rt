@@ -1,11 +1,12 @@
-//! The output for a whole text: its refusals, its one reservation and its bytes, for either mode.
+//! The output for a whole text: its refusals, its one reservation and its bytes, for each mode.
 ghost use Rattle.std.specs.Prelude.{◌≡◌, ◌+◌, ◌*◌, ◌<◌, ◌≤◌, ◌↔◌, ◌++◌, length, take, chars, string_bytes, vec_len, vec_capacity, Err, IsOk, IfOk, OnOk, OnErr, IfSome, IsNone};
-ghost use Rattle.escape_lanes.specs.Mode.{mode_of};
+ghost use Rattle.escape_simd.specs.Modes.{mode_numbered};
 ghost use Rattle.escape_simd.specs.Output.{plain, inner, quote_of, bound};
 ghost use Rattle.escape_simd.specs.Spelling.{IsTextOf};
 ghost use Rattle.escape_simd.specs.Headline.{IsOnlyOutput};
 ghost use Rattle.escape_simd.specs.Laws.{JoinsTexts, IsOfOneText, HasOutputLength};
 
+use crate::simd::HTML_MODE;
 use crate::simd::avx2::escape_at;
 use std::alloc::{AllocError, Allocator};
 
@@ -28,24 +29,25 @@ impl From<AllocError> for Refusal {
 }
 
 /// How many bytes a target must have for a text of `len` bytes, where a `usize` can tell.
-pub(crate) fn scratch_bound<const HTML: bool>(len: usize) -> Option<usize>
-    ensures fits { IfSome result (λ n. n ≡ bound (mode_of HTML) len) }
-    ensures passes { IsNone result ↔ (usize.MAX < bound (mode_of HTML) len) }
+pub(crate) fn scratch_bound<const MODE: u8>(len: usize) -> Option<usize>
+    ensures fits { IfSome result (λ n. n ≡ bound (mode_numbered MODE) len) }
+    ensures passes { IsNone result ↔ (usize.MAX < bound (mode_numbered MODE) len) }
 {
-    len.checked_mul(6)?.checked_add(if HTML { 32 } else { 35 })
+    len.checked_mul(6)?
+        .checked_add(if MODE == HTML_MODE { 32 } else { 35 })
 }
 
 /// How many bytes are escaped at a time. What makes room for them, and what they become, stays in the
 /// first caches.
 const PIECE: usize = 4096;
 
-/// Appends a quotation mark in JSON, and nothing in HTML.
-fn push_quote<const HTML: bool, A: Allocator>(dst: &mut Vec<u8, A>)
+/// Appends a quotation mark in JSON, also in script mode, and nothing in HTML.
+fn push_quote<const MODE: u8, A: Allocator>(dst: &mut Vec<u8, A>)
     requires { vec_len dst.old < vec_capacity dst.old }
-    ensures items { dst.new.items ≡ dst.old.items ++ quote_of (mode_of HTML) }
+    ensures items { dst.new.items ≡ dst.old.items ++ quote_of (mode_numbered MODE) }
     ensures capacity { vec_capacity dst.old ≤ vec_capacity dst.new }
 {
-    if HTML {
+    if MODE == HTML_MODE {
         return;
     }
     let Ok(()) = dst.push(b'"') else {
@@ -68,67 +70,69 @@ fn fill<A: Allocator>(dst: &mut Vec<u8, A>, len: usize)
     }
 }
 
-/// Appends what stands for the bytes, piece by piece, to a vector that has room for it.
-fn append_bytes<const HTML: bool, A: Allocator>(bytes: &[u8], dst: &mut Vec<u8, A>)
-    requires { vec_len dst.old + 6 * length bytes.now + 32 ≤ vec_capacity dst.old }
-    ensures items { dst.new.items ≡ dst.old.items ++ inner (mode_of HTML) bytes.now }
+/// Appends what stands for the text's bytes, piece by piece, to a vector that has room for it.
+///
+/// The pieces are texts: what stands for a separator in a script literal stands for all its bytes.
+fn append_bytes<const MODE: u8, A: Allocator>(value: &str, dst: &mut Vec<u8, A>)
+    requires { vec_len dst.old + 6 * length value.now + 32 ≤ vec_capacity dst.old }
+    ensures items { dst.new.items ≡ dst.old.items ++ inner (mode_numbered MODE) value.now }
     ensures room { vec_len dst.new + 32 ≤ vec_capacity dst.new }
 {
     let mut at = 0;
     let mut end = dst.len();
-    'pieces: while at < bytes.len() {
-        let next = at + PIECE.min(bytes.len() - at);
-        let piece = &bytes[at..next];
+    'pieces: while at < value.len() {
+        let next = value.floor_char_boundary(at + PIECE.min(value.len() - at));
+        let piece = &value.as_bytes()[at..next];
         fill(dst, end + 6 * piece.len() + 32);
-        end = escape_at::<HTML>(piece, dst, end);
+        end = escape_at::<MODE>(piece, dst, end);
         at = next;
     }
     dst.truncate(end);
 }
 
 /// Appends the output for the text.
-pub(crate) fn append<const HTML: bool, A: Allocator>(
+pub(crate) fn append<const MODE: u8, A: Allocator>(
     value: &str,
     dst: &mut Vec<u8, A>,
 ) -> Result<(), Refusal>
-    ensures exact { OnOk result (dst.new.items ≡ dst.old.items ++ plain (mode_of HTML) value.now) }
+    ensures exact { OnOk result (dst.new.items ≡ dst.old.items ++ plain (mode_numbered MODE) value.now) }
     ensures unchanged { OnErr result (dst.new.items ≡ dst.old.items) }
     ensures too_large { (result ≡ Err Refusal.TooLarge)
-        ↔ (usize.MAX < bound (mode_of HTML) (length value.now)) }
-    ensures fits { OnOk result (bound (mode_of HTML) (length value.now) ≤ usize.MAX) }
-    ensures has_room { vec_len dst.old + bound (mode_of HTML) (length value.now)
+        ↔ (usize.MAX < bound (mode_numbered MODE) (length value.now)) }
+    ensures fits { OnOk result (bound (mode_numbered MODE) (length value.now) ≤ usize.MAX) }
+    ensures has_room { vec_len dst.old + bound (mode_numbered MODE) (length value.now)
         ≤ vec_capacity dst.old → IsOk result }
 {
-    let Some(scratch) = scratch_bound::<HTML>(value.len()) else {
+    let Some(scratch) = scratch_bound::<MODE>(value.len()) else {
         return Err(Refusal::TooLarge);
     };
     dst.reserve(scratch)?;
-    push_quote::<HTML, A>(dst);
-    append_bytes::<HTML, A>(value.as_bytes(), dst);
-    push_quote::<HTML, A>(dst);
+    push_quote::<MODE, A>(dst);
+    append_bytes::<MODE, A>(value, dst);
+    push_quote::<MODE, A>(dst);
     Ok(())
 }
 
 /// The output for the text.
-pub(crate) fn text<const HTML: bool, A: Allocator>(
+pub(crate) fn text<const MODE: u8, A: Allocator>(
     alloc: A,
     value: &str,
 ) -> Result<String<A>, Refusal>
     ensures characters { OnOk result (IsTextOf value.now (chars value.now)) }
-    ensures exact { IfOk result (λ output. string_bytes output ≡ plain (mode_of HTML) value.now) }
-    ensures headline { IfOk result (λ output. IsOnlyOutput (mode_of HTML)
+    ensures exact { IfOk result (λ output. string_bytes output ≡ plain (mode_numbered MODE) value.now) }
+    ensures headline { IfOk result (λ output. IsOnlyOutput (mode_numbered MODE)
         (string_bytes output) (chars value.now)) }
-    ensures joined { IfOk result (λ output. JoinsTexts (mode_of HTML)
+    ensures joined { IfOk result (λ output. JoinsTexts (mode_numbered MODE)
         value.now (string_bytes output)) }
-    ensures equal_texts { IfOk result (λ output. IsOfOneText (mode_of HTML)
+    ensures equal_texts { IfOk result (λ output. IsOfOneText (mode_numbered MODE)
         value.now (string_bytes output)) }
-    ensures len { IfOk result (λ output. HasOutputLength (mode_of HTML)
+    ensures len { IfOk result (λ output. HasOutputLength (mode_numbered MODE)
         (length value.now) (string_bytes output)) }
     ensures too_large { (result ≡ Err Refusal.TooLarge)
-        ↔ (usize.MAX < bound (mode_of HTML) (length value.now)) }
+        ↔ (usize.MAX < bound (mode_numbered MODE) (length value.now)) }
 {
     let mut bytes = Vec::new(alloc);
-    append::<HTML, A>(value, &mut bytes)?;
+    append::<MODE, A>(value, &mut bytes)?;
     // The output for a text is a text.
     Ok(unsafe { String::from_utf8_unchecked(bytes) })
 }

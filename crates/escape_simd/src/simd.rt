@@ -3,11 +3,15 @@
 pub mod avx2;
 pub mod avx512;
 mod body;
+mod chunk;
 mod classify;
 pub mod neon;
+mod rest;
+mod source;
 pub mod sse2;
-mod tail;
 pub mod util;
 pub mod v128;
+mod vector;
 
-pub use escape_lanes::simd::{BitMask, Mask, Simd, bits, target};
+pub(crate) use classify::{HTML_MODE, JSON_MODE, SCRIPT_MODE};
+pub use escape_lanes::simd::{BitMask, Flags, LaneMask, LoadLast, Mask, Simd, bits, target};

@@ -7,7 +7,7 @@ use crate::fault::ToolFault;
 use crate::words::Mode;
 use escape_simd::html::html_capacity;
 use escape_simd::json::json_capacity;
-use escape_simd::{Kernel, format_html_string, format_json_string};
+use escape_simd::{Kernel, format_html_string, format_json_string, format_script_string};
 use std::alloc::Allocator;
 
 /// What the kernel makes of the text.
@@ -33,6 +33,7 @@ pub(crate) fn escaped<A: Allocator>(
     let count = match mode {
         Mode::Json => format_json_string(kernel, text, output.as_mut_slice()),
         Mode::Html => format_html_string(kernel, text, output.as_mut_slice()),
+        Mode::Script => format_script_string(kernel, text, output.as_mut_slice()),
     };
     output.truncate(count);
     Ok(output)
@@ -46,7 +47,7 @@ fn capacity(mode: Mode, len: usize) -> Result<usize, ToolFault>
     ensures fault { IfErr result (λ fault. fault ≡ ToolFault.TooLarge) }
 {
     match mode {
-        Mode::Json => match json_capacity(len) {
+        Mode::Json | Mode::Script => match json_capacity(len) {
             Ok(room) => Ok(room),
             Err(_) => Err(ToolFault::TooLarge),
         },

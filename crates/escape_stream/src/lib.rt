@@ -1,4 +1,5 @@
-//! Escapes what a reader gives, as a JSON string literal or as HTML, to a writer.
+//! Escapes what a reader gives, as a JSON string literal, as HTML or as a literal that is safe inside
+//! a script element, to a writer.
 //!
 //! [`run`] reads its input to the end, escapes it by the kernel that it is told, and writes the
 //! output. [`choose`] reads the words of a program on this crate. From memory to memory:

@@ -19,7 +19,7 @@ const KERNELS: [Kernel; 5] = [
     Kernel::Avx512,
 ];
 
-const MODES: [Mode; 2] = [Mode::Json, Mode::Html];
+const MODES: [Mode; 3] = [Mode::Json, Mode::Html, Mode::Script];
 
 const FAILED: Result<(), ToolFault> = Err(ToolFault::WriteFailed);
 
@@ -104,6 +104,11 @@ fn chooses_by_the_words(rt: HostRuntime) {
         choose("html", Some("avx2")),
         Some((Mode::Html, Kernel::Avx2))
     );
+    assert_eq!(rt; choose("script", None), Some((Mode::Script, Kernel::Avx2)));
+    assert_eq!(rt;
+        choose("script", Some("sse2")),
+        Some((Mode::Script, Kernel::Sse2))
+    );
     assert_eq!(rt; choose("html", Some("AVX2")), None);
     assert_eq!(rt; choose("json", Some("avx")), None);
     assert_eq!(rt; choose("json", Some("")), None);
@@ -115,7 +120,7 @@ fn chooses_by_the_words(rt: HostRuntime) {
 fn says_usage_and_faults(rt: HostRuntime) -> Result<(), Fail> {
     assert_eq!(rt;
         USAGE,
-        "usage: escape_tool json|html [v128|sse2|neon|avx2|avx512]"
+        "usage: escape_tool json|html|script [v128|sse2|neon|avx2|avx512]"
     );
     for (fault, text) in [
         (ToolFault::ReadFailed, "reading failed"),
@@ -132,7 +137,7 @@ fn says_usage_and_faults(rt: HostRuntime) -> Result<(), Fail> {
 
 #[test]
 fn escapes_the_whole_input(rt: HostRuntime) -> Result<(), Fail> {
-    let rows: [(Mode, &[u8], &[u8]); 8] = [
+    let rows: [(Mode, &[u8], &[u8]); 12] = [
         (Mode::Html, b"", b""),
         (Mode::Json, b"", b"\"\""),
         (
@@ -145,6 +150,10 @@ fn escapes_the_whole_input(rt: HostRuntime) -> Result<(), Fail> {
         (Mode::Json, b"\n\x01\x7f", b"\"\\n\\u0001\x7f\""),
         (Mode::Json, b"\x0b\\", b"\"\\u000b\\\\\""),
         (Mode::Json, b"\xf0\x9d\x84\x9e/", b"\"\xf0\x9d\x84\x9e/\""),
+        (Mode::Script, b"", b"\"\""),
+        (Mode::Script, b"</script>", b"\"\\u003c/script\\u003e\""),
+        (Mode::Script, b"&\xe2\x80\xa8", b"\"\\u0026\\u2028\""),
+        (Mode::Script, b"\xe2\x80\xa6", b"\"\xe2\x80\xa6\""),
     ];
     for kernel in KERNELS {
         for (mode, bytes, want) in rows {

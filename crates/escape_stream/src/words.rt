@@ -13,10 +13,13 @@ pub enum Mode {
     Json,
     /// HTML: each of `"`, `&`, `'`, `/`, `<` and `>` as its entity.
     Html,
+    /// A JSON string literal that is safe inside a script element: `<`, `>`, `&`, U+2028 and U+2029
+    /// are escaped too.
+    Script,
 }
 
 /// What a program on this crate says where [`choose`] answers `None`.
-pub const USAGE: &str = "usage: escape_tool json|html [v128|sse2|neon|avx2|avx512]";
+pub const USAGE: &str = "usage: escape_tool json|html|script [v128|sse2|neon|avx2|avx512]";
 
 /// The mode and the kernel that the two words name, where each is a word of its table, in lower
 /// case and with nothing around it. With no second word the kernel is `Avx2`.
@@ -40,6 +43,7 @@ fn mode_of_word(word: &str) -> Option<Mode>
     match word {
         "json" => Some(Mode::Json),
         "html" => Some(Mode::Html),
+        "script" => Some(Mode::Script),
         _ => None,
     }
 }

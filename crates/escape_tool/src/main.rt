@@ -1,6 +1,7 @@
-//! Escapes standard input to standard output, as a JSON string literal or as HTML.
+//! Escapes standard input to standard output, as a JSON string literal, as HTML or as a literal that
+//! is safe inside a script element.
 //!
-//! `escape_tool json|html [v128|sse2|neon|avx2|avx512]`: the status is 0 where the whole output was
+//! `escape_tool json|html|script [v128|sse2|neon|avx2|avx512]`: the status is 0 where the whole output was
 //! written, 1 after a fault of the run and 2 where the words aren't such words. Standard error says
 //! which fault it was, or how the program is called.
 #![tactic(auto)]
@@ -55,9 +56,11 @@ mod tests {
 
     #[test]
     fn takes_one_or_two_words(rt: HostRuntime) -> Result<(), Fail> {
-        let rows: [(&[&str], Option<(Mode, Kernel)>); 7] = [
+        let rows: [(&[&str], Option<(Mode, Kernel)>); 9] = [
             (&["html"], Some((Mode::Html, Kernel::Avx2))),
             (&["json", "v128"], Some((Mode::Json, Kernel::V128))),
+            (&["script"], Some((Mode::Script, Kernel::Avx2))),
+            (&["script", "sse2"], Some((Mode::Script, Kernel::Sse2))),
             (&[], None),
             (&["html", "avx2", "avx2"], None),
             (&["xml"], None),

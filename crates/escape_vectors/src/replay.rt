@@ -14,25 +14,25 @@ pub fn agrees(alloc: Global, answer: &Answer) -> Result<bool, Fail> {
     let output = answer.output.as_slice();
     if answer.is_html {
         Ok(
-            kernels_write::<true>(alloc, text, output)?
+            kernels_write(alloc, Mode::Html, text, output)?
                 && html_calls_write(alloc, text, output)?
                 && run_writes(alloc, Mode::Html, text, output)?,
         )
     } else {
         Ok(
-            kernels_write::<false>(alloc, text, output)?
+            kernels_write(alloc, Mode::Json, text, output)?
                 && json_calls_write(alloc, text, output)?
                 && run_writes(alloc, Mode::Json, text, output)?,
         )
     }
 }
 
-fn kernels_write<const HTML: bool>(alloc: Global, text: &str, output: &[u8]) -> Result<bool, Fail> {
-    let room = room::<HTML>(text)?;
+fn kernels_write(alloc: Global, mode: Mode, text: &str, output: &[u8]) -> Result<bool, Fail> {
+    let room = room(mode, text)?;
     for kernel in KERNELS {
         for way in WAYS {
             let mut target = vec![in alloc; 0u8; room]?;
-            let count = format::<HTML>(way, kernel, text, &mut target);
+            let count = format(way, kernel, mode, text, &mut target);
             if &target[..count] != output {
                 return Ok(false);
             }

@@ -1,27 +1,30 @@
 //! Every border: of a vector, a chunk, the tail and the target.
 
 use crate::plain::plain;
-use crate::routes::{KERNELS, WAYS, format, lanes, room};
+use crate::routes::{KERNELS, MODES, WAYS, format, lanes, room};
 use crate::tests::texts::{LENGTHS, WIDTHS, letters_and_quotes, repeated};
 use escape_simd::Kernel;
+use escape_stream::Mode;
 use std::process::Abort;
 use std::test::Fail;
 
 /// What a target holds before.
 const UNTOUCHED: u8 = 0xee;
 
-/// Each kernel writes what stands for the text byte by byte, in both modes.
+/// Each kernel writes what stands for the text byte by byte, in each mode.
 fn is_right(rt: &(impl Abort + AllocGlobal), text: &str) -> Result<(), Fail> {
-    is_right_in::<false>(rt, text)?;
-    is_right_in::<true>(rt, text)
+    for mode in MODES {
+        is_right_in(rt, mode, text)?;
+    }
+    Ok(())
 }
 
 /// So it does in one mode, into a target of exactly the bound and into a longer one.
-fn is_right_in<const HTML: bool>(rt: &(impl Abort + AllocGlobal), text: &str) -> Result<(), Fail> {
-    let wanted = plain::<HTML>(rt.alloc(), text)?;
+fn is_right_in(rt: &(impl Abort + AllocGlobal), mode: Mode, text: &str) -> Result<(), Fail> {
+    let wanted = plain(rt.alloc(), mode, text)?;
     for kernel in KERNELS {
         for more in [0, 100] {
-            is_right_by::<HTML>(rt, kernel, text, more, &wanted)?;
+            is_right_by(rt, kernel, mode, text, more, &wanted)?;
         }
     }
     Ok(())
@@ -29,24 +32,29 @@ fn is_right_in<const HTML: bool>(rt: &(impl Abort + AllocGlobal), text: &str) ->
 
 /// So it does by one kernel. It writes nothing from the bound on, nor from a vector past the last byte
 /// on, and the three ways to it leave the same whole target.
-fn is_right_by<const HTML: bool>(
+fn is_right_by(
     rt: &(impl Abort + AllocGlobal),
     kernel: Kernel,
+    mode: Mode,
     text: &str,
     more: usize,
     wanted: &[u8],
 ) -> Result<(), Fail> {
-    let bound = room::<HTML>(text)?;
+    let bound = room(mode, text)?;
     let len = bound.saturating_add(more);
     let mut first = Vec::new(rt.alloc());
     for way in WAYS {
         let mut target = vec![in rt.alloc(); UNTOUCHED; len]?;
-        let count = format::<HTML>(way, kernel, text, &mut target);
-        assert_eq!(rt; &target[..count], wanted, "{way:?} {kernel:?} {text}");
+        let count = format(way, kernel, mode, text, &mut target);
+        assert_eq!(rt;
+            &target[..count],
+            wanted,
+            "{way:?} {kernel:?} {mode:?} {text}"
+        );
         let end = bound.min(count.saturating_add(lanes(kernel)));
         assert!(rt;
             target[end..].iter().all(|byte| *byte == UNTOUCHED),
-            "{way:?} {kernel:?} {text}"
+            "{way:?} {kernel:?} {mode:?} {text}"
         );
         if first.is_empty() {
             first = target;
@@ -54,7 +62,7 @@ fn is_right_by<const HTML: bool>(
             assert_eq!(rt;
                 target.as_slice(),
                 first.as_slice(),
-                "{way:?} {kernel:?} {text}"
+                "{way:?} {kernel:?} {mode:?} {text}"
             );
         }
     }
@@ -70,14 +78,25 @@ fn letters_or_quotes_of_each_length(rt: HostRuntime) -> Result<(), Fail> {
     Ok(())
 }
 
-#[test]
-fn a_quote_at_each_place(rt: HostRuntime) -> Result<(), Fail> {
+/// So it does in one mode for letters with a quotation mark at each place.
+fn is_right_with_a_quote(rt: &(impl Abort + AllocGlobal), mode: Mode) -> Result<(), Fail> {
     for len in LENGTHS {
         for place in 0..len {
-            is_right(&rt, letters_and_quotes(rt.alloc(), len, place, 1)?.as_str())?;
+            let text = letters_and_quotes(rt.alloc(), len, place, 1)?;
+            is_right_in(rt, mode, text.as_str())?;
         }
     }
     Ok(())
+}
+
+#[test]
+fn a_quote_at_each_place_in_json(rt: HostRuntime) -> Result<(), Fail> {
+    is_right_with_a_quote(&rt, Mode::Json)
+}
+
+#[test]
+fn a_quote_at_each_place_in_html(rt: HostRuntime) -> Result<(), Fail> {
+    is_right_with_a_quote(&rt, Mode::Html)
 }
 
 #[test]
@@ -95,9 +114,10 @@ fn runs_across_each_width(rt: HostRuntime) -> Result<(), Fail> {
     Ok(())
 }
 
-// The tail is copied over what an earlier turn copied: a quote that is left there is no quote of the text.
+// The last vector of so short a rest begins before it: a quote that an earlier run wrote is not written
+// again.
 #[test]
-fn a_stale_tail(rt: HostRuntime) -> Result<(), Fail> {
+fn a_quote_before_the_rest(rt: HostRuntime) -> Result<(), Fail> {
     for kernel in KERNELS {
         let text = repeated(rt.alloc(), &[(lanes(kernel), "a"), (1, "\"a\"b")])?;
         is_right(&rt, text.as_str())?;
@@ -112,7 +132,7 @@ fn one_letter_shows_the_kernel(rt: HostRuntime) {
     for kernel in KERNELS {
         for way in WAYS {
             let mut target = [UNTOUCHED; 100];
-            assert_eq!(rt; format::<true>(way, kernel, "a", &mut target), 1);
+            assert_eq!(rt; format(way, kernel, Mode::Html, "a", &mut target), 1);
             assert_eq!(rt; target[0], b'a');
             let stored = if kernel == Kernel::Avx512 {
                 1
@@ -127,4 +147,62 @@ fn one_letter_shows_the_kernel(rt: HostRuntime) {
             }
         }
     }
+}
+
+/// So it does in script mode for letters with the part at each place. What begins with e2 is told from
+/// other characters by its two other bytes, which may lie in the next vector, chunk or rest.
+fn is_right_with(rt: &(impl Abort + AllocGlobal), part: &str) -> Result<(), Fail> {
+    for len in LENGTHS {
+        for place in 0..=len {
+            let text = repeated(rt.alloc(), &[(place, "a"), (1, part), (len - place, "a")])?;
+            is_right_in(rt, Mode::Script, text.as_str())?;
+        }
+    }
+    Ok(())
+}
+
+#[test]
+fn an_ampersand_at_each_place(rt: HostRuntime) -> Result<(), Fail> {
+    is_right_with(&rt, "&")
+}
+
+#[test]
+fn an_ellipsis_at_each_place(rt: HostRuntime) -> Result<(), Fail> {
+    is_right_with(&rt, "\u{2026}")
+}
+
+#[test]
+fn a_separator_at_each_place(rt: HostRuntime) -> Result<(), Fail> {
+    is_right_with(&rt, "\u{2028}")
+}
+
+#[test]
+fn characters_of_e2_against_each_border(rt: HostRuntime) -> Result<(), Fail> {
+    let parts = [
+        "\u{2000}",
+        "\u{2027}",
+        "\u{202a}",
+        "\u{20ac}",
+        "\u{2fff}",
+        "\u{2029}",
+        "\u{2028}\u{2029}",
+        "\"\u{2028}",
+        "\u{2029}<",
+        "\u{2026}\u{2028}",
+        "\u{e2}\u{80}\u{a8}",
+    ];
+    for width in WIDTHS {
+        for before in 0..5 {
+            for after in [0, 1, 15, 40] {
+                for part in parts {
+                    let text = repeated(
+                        rt.alloc(),
+                        &[(width - before, "a"), (1, part), (after, "a")],
+                    )?;
+                    is_right_in(&rt, Mode::Script, text.as_str())?;
+                }
+            }
+        }
+    }
+    Ok(())
 }

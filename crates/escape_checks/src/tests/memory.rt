@@ -3,7 +3,9 @@
 use crate::routes::KERNELS;
 use crate::tests::rationed::{Rationed, Requests};
 use escape_simd::html::{EscapeHtmlError, escape_html_each, escape_html_in, escape_html_into};
-use escape_simd::json::{EscapeError, escape_in, escape_into};
+use escape_simd::json::{
+    EscapeError, escape_in, escape_into, escape_script_in, escape_script_into,
+};
 use escape_stream::{Mode, ToolFault, run_in};
 use std::alloc::Global;
 use std::test::Fail;
@@ -16,6 +18,7 @@ enum Appending {
     Json,
     Html,
     HtmlEach,
+    Script,
 }
 
 /// What a call came to.
@@ -27,10 +30,11 @@ enum Outcome {
 }
 
 /// The calls, each with the scratch bound of its text and with what it writes.
-const APPENDING: [(Appending, usize, &[u8]); 3] = [
+const APPENDING: [(Appending, usize, &[u8]); 4] = [
     (Appending::Json, 41, b"\"x\""),
     (Appending::Html, 38, b"&lt;"),
     (Appending::HtmlEach, 38, b"&lt;"),
+    (Appending::Script, 41, b"\"\\u0026\""),
 ];
 
 fn append(call: Appending, dst: &mut Vec<u8, &Heap>) -> Outcome {
@@ -48,6 +52,11 @@ fn append(call: Appending, dst: &mut Vec<u8, &Heap>) -> Outcome {
         Appending::HtmlEach => match escape_html_each(&["<"], dst) {
             Ok(()) => Outcome::Written,
             Err((0, EscapeHtmlError::OutOfMemory)) => Outcome::OutOfMemory,
+            Err(_) => Outcome::Other,
+        },
+        Appending::Script => match escape_script_into("&", dst) {
+            Ok(()) => Outcome::Written,
+            Err(EscapeError::OutOfMemory) => Outcome::OutOfMemory,
             Err(_) => Outcome::Other,
         },
     }
@@ -181,6 +190,12 @@ fn a_text_asks_once_for_the_bound(rt: HostRuntime) {
     heap.ration(1);
     assert!(rt; escape_html_in(&heap, "<").is_ok_and(|output| output.as_str() == "&lt;"));
     assert_eq!(rt; heap.requests(), one_request(38));
+
+    heap.ration(0);
+    assert!(rt; matches!(escape_script_in(&heap, "&"), Err(EscapeError::OutOfMemory)));
+    heap.ration(1);
+    assert!(rt; escape_script_in(&heap, "&").is_ok_and(|output| output.as_str() == "\"\\u0026\""));
+    assert_eq!(rt; heap.requests(), one_request(41));
 }
 
 // On so short an input a run asks twice: for the input, and for what the output may take.
@@ -189,6 +204,7 @@ fn a_run_asks_for_the_input_and_the_bound(rt: HostRuntime) -> Result<(), Fail> {
     for (mode, bound, escaped) in [
         (Mode::Json, 41, b"\"<\"".as_slice()),
         (Mode::Html, 38, b"&lt;".as_slice()),
+        (Mode::Script, 41, b"\"\\u003c\"".as_slice()),
     ] {
         for kernel in KERNELS {
             for (granted, outcome, written, made) in [

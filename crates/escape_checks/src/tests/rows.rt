@@ -3,9 +3,12 @@
 use crate::routes::{KERNELS, WAYS, format, room};
 use crate::tests::texts::repeated;
 use escape_simd::html::{escape_html, escape_html_each, escape_html_in, escape_html_into};
-use escape_simd::json::{escape, escape_in, escape_into};
+use escape_simd::json::{
+    escape, escape_in, escape_into, escape_script, escape_script_in, escape_script_into,
+};
 use escape_simd::simd::target::Target;
 use escape_simd::simd::util::escape_unchecked;
+use escape_stream::Mode;
 use std::process::Abort;
 use std::test::Fail;
 
@@ -106,17 +109,64 @@ const MARKUP_FREE: [(Parts, Parts); 13] = [
     (&[(128, "a"), (1, "'")], &[(128, "a"), (1, "&#x27;")]),
 ];
 
+/// Its script literal.
+const ASCII_SCRIPT_LITERAL: &str = "\
+    \"\\u0000\\u0001\\u0002\\u0003\\u0004\\u0005\\u0006\\u0007\\b\\t\\n\\u000b\\\
+    f\\r\\u000e\\u000f\\u0010\\u0011\\u0012\\u0013\\u0014\\u0015\\u0016\\u0017\\\
+    u0018\\u0019\\u001a\\u001b\\u001c\\u001d\\u001e\\u001f !\\\"#$%\\u0026'()*+,-\
+    ./0123456789:;\\u003c=\\u003e?@ABCDEFGHIJKLMNOPQRSTUVWXYZ[\\\\]^_`abcdefghijk\
+    lmnopqrstuvwxyz{|}~\x7f\"";
+
+/// The shortest literal with lower-case digits that is safe inside a script element.
+const SCRIPT_LITERALS: [(Parts, Parts); 15] = [
+    (&[(1, ASCII)], &[(1, ASCII_SCRIPT_LITERAL)]),
+    (&[], &[(2, "\"")]),
+    (
+        &[(1, "</script>&\u{2028}")],
+        &[(1, "\"\\u003c/script\\u003e\\u0026\\u2028\"")],
+    ),
+    (&[(1, "\u{2026}")], &[(1, "\"\u{2026}\"")]),
+    (
+        &[(15, "a"), (1, "\u{2029}")],
+        &[(1, "\""), (15, "a"), (1, "\\u2029\"")],
+    ),
+    (&[(1, "a/b")], &[(1, "\"a/b\"")]),
+    (&[(1, "\n<")], &[(1, "\"\\n\\u003c\"")]),
+    (&[(1, "\u{20ac}")], &[(1, "\"\u{20ac}\"")]),
+    (&[(1, "\u{2028}\u{2029}")], &[(1, "\"\\u2028\\u2029\"")]),
+    (&[(1, "\u{2026}\u{2028}")], &[(1, "\"\u{2026}\\u2028\"")]),
+    (
+        &[(14, "a"), (1, "\u{2028}")],
+        &[(1, "\""), (14, "a"), (1, "\\u2028\"")],
+    ),
+    (
+        &[(31, "a"), (1, "\u{2028}")],
+        &[(1, "\""), (31, "a"), (1, "\\u2028\"")],
+    ),
+    (
+        &[(63, "a"), (1, "\u{2029}")],
+        &[(1, "\""), (63, "a"), (1, "\\u2029\"")],
+    ),
+    (&[(64, "<")], &[(1, "\""), (64, "\\u003c"), (1, "\"")]),
+    (&[(1, "&")], &[(1, "\"\\u0026\"")]),
+];
+
 /// All kernels write the output for the text, in each way.
-fn kernels_write<const HTML: bool>(
+fn kernels_write(
     rt: &(impl Abort + AllocGlobal),
+    mode: Mode,
     text: &str,
     output: &[u8],
 ) -> Result<(), Fail> {
     for kernel in KERNELS {
         for way in WAYS {
-            let mut target = vec![in rt.alloc(); 0xee; room::<HTML>(text)?]?;
-            let count = format::<HTML>(way, kernel, text, &mut target);
-            assert_eq!(rt; &target[..count], output, "{way:?} {kernel:?} {text}");
+            let mut target = vec![in rt.alloc(); 0xee; room(mode, text)?]?;
+            let count = format(way, kernel, mode, text, &mut target);
+            assert_eq!(rt;
+                &target[..count],
+                output,
+                "{way:?} {kernel:?} {mode:?} {text}"
+            );
         }
     }
     Ok(())
@@ -127,7 +177,7 @@ fn literals(rt: HostRuntime) -> Result<(), Fail> {
     for (text, literal) in LITERALS {
         let text = repeated(rt.alloc(), text)?;
         let literal = repeated(rt.alloc(), literal)?;
-        kernels_write::<false>(&rt, text.as_str(), literal.as_bytes())?;
+        kernels_write(&rt, Mode::Json, text.as_str(), literal.as_bytes())?;
         let answered = escape(rt.alloc(), text.as_str())?;
         assert_eq!(rt; answered.as_str(), literal.as_str());
         let answered = escape_in(rt.alloc(), text.as_str())?;
@@ -141,11 +191,29 @@ fn literals(rt: HostRuntime) -> Result<(), Fail> {
 }
 
 #[test]
+fn script_literals(rt: HostRuntime) -> Result<(), Fail> {
+    for (text, literal) in SCRIPT_LITERALS {
+        let text = repeated(rt.alloc(), text)?;
+        let literal = repeated(rt.alloc(), literal)?;
+        kernels_write(&rt, Mode::Script, text.as_str(), literal.as_bytes())?;
+        let answered = escape_script(rt.alloc(), text.as_str())?;
+        assert_eq!(rt; answered.as_str(), literal.as_str());
+        let answered = escape_script_in(rt.alloc(), text.as_str())?;
+        assert_eq!(rt; answered.as_str(), literal.as_str());
+        let mut appended = vec![in rt.alloc(); 0xff]?;
+        escape_script_into(text.as_str(), &mut appended)?;
+        assert_eq!(rt; &appended[..1], [0xff].as_slice());
+        assert_eq!(rt; &appended[1..], literal.as_bytes());
+    }
+    Ok(())
+}
+
+#[test]
 fn markup_free(rt: HostRuntime) -> Result<(), Fail> {
     for (text, html) in MARKUP_FREE {
         let text = repeated(rt.alloc(), text)?;
         let html = repeated(rt.alloc(), html)?;
-        kernels_write::<true>(&rt, text.as_str(), html.as_bytes())?;
+        kernels_write(&rt, Mode::Html, text.as_str(), html.as_bytes())?;
         let answered = escape_html(rt.alloc(), text.as_str())?;
         assert_eq!(rt; answered.as_str(), html.as_str());
         let answered = escape_html_in(rt.alloc(), text.as_str())?;

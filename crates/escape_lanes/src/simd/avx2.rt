@@ -1,18 +1,24 @@
-//! 32 bytes in a vector of `std::simd`, with one bit a lane in the mask. HTML is classified by nibble
-//! tables.
-ghost use Rattle.std.specs.Prelude.{◌≡◌, ◌+◌, ◌||◌, ◌&&◌, ℕ, map, refl};
+//! 32 bytes in a vector of `std::simd`, with one bit a lane in the mask. HTML is classified by one
+//! table of candidates.
+ghost use Rattle.std.specs.Prelude.{◌≡◌, ◌+◌, ◌||◌, ◌&&◌, ℕ, map, nat_le, refl};
 ghost use Rattle.std.specs.Simd.Lanes.{zip2};
-ghost use Rattle.std.proofs.Common.{lit≤};
+ghost use Rattle.std.proofs.Common.{◌∙◌, lit≤};
+ghost use Rattle.std.proofs.lemmas.List.{length-map};
 ghost use Rattle.escape_lanes.specs.Bits.{bits_of, length-bits_of};
-ghost use Rattle.escape_lanes.specs.Lanes.{AreBytes, AreWhole, set_lanes};
+ghost use Rattle.escape_lanes.specs.Lanes.{AreBytes, AreWhole, set_lanes, flagged_lanes};
 ghost use Rattle.escape_lanes.specs.Mode.{mode_of};
-ghost use Rattle.escape_lanes.specs.Nibble.{html_candidate};
+ghost use Rattle.escape_lanes.specs.Nibble.{at_low_half, at_high_half};
 ghost use Rattle.escape_lanes.specs.Replacement.{needs_escape};
 
+mod script;
+
+use crate::simd::flags::Flags;
 use crate::simd::lanes;
+use crate::simd::last::{self, LoadLast};
 use crate::simd::target::Ticks;
 use crate::simd::traits::{BitMask, Mask, Simd};
 use crate::tables::HTML_CANDIDATE_TAB;
+pub use script::{script_flags, script_mask};
 use std::ops::{BitAnd, BitOr, BitOrAssign};
 use std::simd::prelude::*;
 
@@ -101,6 +107,39 @@ impl Mask for Mask256 {
     }
 }
 
+/// Which lanes of a [`Simd256u`] are flagged.
+#[derive(Debug, Clone, Copy)]
+pub struct Flags256 {
+    // 80 or more in a lane that is flagged, and less in the others.
+    lanes: u8x32,
+    ghost are_bytes: { AreBytes 32 lanes },
+}
+
+impl Flags for Flags256 {
+    type BitMask = u32;
+
+    ghost truths = { λ f. flagged_lanes f.lanes };
+
+    ghost width = { λ f. length-map f.lanes (λ b. nat_le 0x80 b) ∙ f.are_bytes.full };
+
+    #[inline(always)]
+    fn join(&self, other: &Flags256) -> Flags256 {
+        Flags256 {
+            lanes: lanes::join(&self.lanes, &other.lanes),
+        }
+    }
+
+    #[inline(always)]
+    fn none(&self) -> bool {
+        lanes::none(&self.lanes)
+    }
+
+    #[inline(always)]
+    fn bitmask(&self) -> u32 {
+        lanes::flag_bits(&self.lanes) as u32
+    }
+}
+
 impl Simd for Simd256u {
     const LANES: usize = 32;
 
@@ -158,28 +197,56 @@ impl Simd for Simd256u {
     }
 }
 
-/// The candidate of each lane: the byte that HTML escapes with its low half.
-#[inline(always)]
-fn candidates(v: &u8x32) -> u8x32
-    requires { AreBytes 32 v.now }
-    ensures { result ≡ map html_candidate v.now }
-{
-    lanes::repeated(&HTML_CANDIDATE_TAB).swizzle_dyn_within::<16>(*v & u8x32::splat(15))
+impl LoadLast for Simd256u {
+    #[inline(always)]
+    fn load_last(src: &[u8], count: usize) -> Self {
+        Simd256u {
+            lanes: last::last_32(src, count),
+        }
+    }
 }
 
-/// The lanes of `v` whose bytes need an escape: in HTML if `HTML`, else in JSON. It ticks once.
+/// What the table has for the low half of each lane.
+#[inline(always)]
+fn by_low_half(v: &u8x32, table: &[u8; 16]) -> u8x32
+    requires { AreBytes 32 v.now }
+    ensures { result ≡ map (at_low_half table.now) v.now }
+{
+    lanes::repeated(table).swizzle_dyn_within::<16>(*v & u8x32::splat(15))
+}
+
+/// What the table has for the high half of each lane.
+#[inline(always)]
+fn by_high_half(v: &u8x32, table: &[u8; 16]) -> u8x32
+    requires { AreBytes 32 v.now }
+    ensures { result ≡ map (at_high_half table.now) v.now }
+{
+    lanes::repeated(table).swizzle_dyn_within::<16>(*v >> u8x32::splat(4))
+}
+
+/// Returns which lanes of `v` have bytes that need an escape: in HTML if `HTML`, else in JSON. It
+/// ticks once.
 ///
-/// Where `v` begins with the bytes of `a<b`, lane 1 is set in HTML, and none of these in JSON.
+/// Where `v` begins with the bytes of `a<b`, lane 1 is flagged in HTML, and none of these in JSON.
+#[inline(always)]
+pub fn escaped_flags<const HTML: bool>(v: &Simd256u, ticks: &mut Ticks) -> Flags256
+    ensures lanes { ⟦<Flags256 as Flags>⟧.truths result ≡ map (needs_escape (mode_of HTML)) (⟦<Simd256u as Simd>⟧.lanes v.now) }
+    ensures tick { ticks.new ≡ ticks.old + 1 }
+{
+    ticks.tick();
+    let lanes = if HTML {
+        lanes::html_needs_by_candidates(&v.lanes, &by_low_half(&v.lanes, &HTML_CANDIDATE_TAB))
+    } else {
+        lanes::json_needs(&v.lanes)
+    };
+    Flags256 { lanes }
+}
+
+/// The bit mask of [`escaped_flags`], which is called once, so it ticks once.
 #[inline(always)]
 pub fn escaped_mask<const HTML: bool>(v: &Simd256u, ticks: &mut Ticks) -> u32
     ensures lanes { ⟦<u32 as BitMask>⟧.bits result ≡ map (needs_escape (mode_of HTML)) (⟦<Simd256u as Simd>⟧.lanes v.now) }
     ensures tick { ticks.new ≡ ticks.old + 1 }
 {
-    ticks.tick();
-    let needs = if HTML {
-        lanes::html_needs_by_candidates(&v.lanes, &candidates(&v.lanes))
-    } else {
-        lanes::json_needs(&v.lanes)
-    };
-    bits(&needs)
+    escaped_flags::<HTML>(v, ticks).bitmask()
 }

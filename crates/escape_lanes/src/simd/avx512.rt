@@ -1,18 +1,24 @@
-//! 64 bytes in a vector of `std::simd`, with one bit a lane in the mask. HTML is classified by nibble
-//! tables.
-ghost use Rattle.std.specs.Prelude.{◌≡◌, ◌+◌, ◌||◌, ◌&&◌, ℕ, map, refl};
+//! 64 bytes in a vector of `std::simd`, with one bit a lane in the mask. HTML is classified by one
+//! table of candidates.
+ghost use Rattle.std.specs.Prelude.{◌≡◌, ◌+◌, ◌||◌, ◌&&◌, ℕ, map, nat_le, refl};
 ghost use Rattle.std.specs.Simd.Lanes.{zip2};
-ghost use Rattle.std.proofs.Common.{lit≤};
+ghost use Rattle.std.proofs.Common.{◌∙◌, lit≤};
+ghost use Rattle.std.proofs.lemmas.List.{length-map};
 ghost use Rattle.escape_lanes.specs.Bits.{bits_of, length-bits_of};
-ghost use Rattle.escape_lanes.specs.Lanes.{AreBytes};
+ghost use Rattle.escape_lanes.specs.Lanes.{AreBytes, flagged_lanes};
 ghost use Rattle.escape_lanes.specs.Mode.{mode_of};
-ghost use Rattle.escape_lanes.specs.Nibble.{html_candidate};
+ghost use Rattle.escape_lanes.specs.Nibble.{at_low_half, at_high_half};
 ghost use Rattle.escape_lanes.specs.Replacement.{needs_escape};
 
+mod script;
+
+use crate::simd::flags::Flags;
 use crate::simd::lanes;
+use crate::simd::last::{self, LoadLast};
 use crate::simd::target::Ticks;
 use crate::simd::traits::{BitMask, Mask, Simd};
 use crate::tables::HTML_CANDIDATE_TAB;
+pub use script::{script_flags, script_mask};
 use std::ops::{BitAnd, BitOr, BitOrAssign};
 use std::simd::prelude::*;
 
@@ -92,6 +98,39 @@ impl Mask for Mask512 {
     }
 }
 
+/// Which lanes of a [`Simd512u`] are flagged.
+#[derive(Debug, Clone, Copy)]
+pub struct Flags512 {
+    // 80 or more in a lane that is flagged, and less in the others.
+    lanes: u8x64,
+    ghost are_bytes: { AreBytes 64 lanes },
+}
+
+impl Flags for Flags512 {
+    type BitMask = u64;
+
+    ghost truths = { λ f. flagged_lanes f.lanes };
+
+    ghost width = { λ f. length-map f.lanes (λ b. nat_le 0x80 b) ∙ f.are_bytes.full };
+
+    #[inline(always)]
+    fn join(&self, other: &Flags512) -> Flags512 {
+        Flags512 {
+            lanes: lanes::join(&self.lanes, &other.lanes),
+        }
+    }
+
+    #[inline(always)]
+    fn none(&self) -> bool {
+        lanes::none(&self.lanes)
+    }
+
+    #[inline(always)]
+    fn bitmask(&self) -> u64 {
+        lanes::flag_bits(&self.lanes)
+    }
+}
+
 impl Simd for Simd512u {
     const LANES: usize = 64;
 
@@ -149,28 +188,56 @@ impl Simd for Simd512u {
     }
 }
 
-/// The candidate of each lane: the byte that HTML escapes with its low half.
-#[inline(always)]
-fn candidates(v: &u8x64) -> u8x64
-    requires { AreBytes 64 v.now }
-    ensures { result ≡ map html_candidate v.now }
-{
-    lanes::repeated(&HTML_CANDIDATE_TAB).swizzle_dyn_within::<16>(*v & u8x64::splat(15))
+impl LoadLast for Simd512u {
+    #[inline(always)]
+    fn load_last(src: &[u8], count: usize) -> Self {
+        Simd512u {
+            lanes: last::last_64(src, count),
+        }
+    }
 }
 
-/// The lanes of `v` whose bytes need an escape: in HTML if `HTML`, else in JSON. It ticks once.
+/// What the table has for the low half of each lane.
+#[inline(always)]
+fn by_low_half(v: &u8x64, table: &[u8; 16]) -> u8x64
+    requires { AreBytes 64 v.now }
+    ensures { result ≡ map (at_low_half table.now) v.now }
+{
+    lanes::repeated(table).swizzle_dyn_within::<16>(*v & u8x64::splat(15))
+}
+
+/// What the table has for the high half of each lane.
+#[inline(always)]
+fn by_high_half(v: &u8x64, table: &[u8; 16]) -> u8x64
+    requires { AreBytes 64 v.now }
+    ensures { result ≡ map (at_high_half table.now) v.now }
+{
+    lanes::repeated(table).swizzle_dyn_within::<16>(*v >> u8x64::splat(4))
+}
+
+/// Returns which lanes of `v` have bytes that need an escape: in HTML if `HTML`, else in JSON. It
+/// ticks once.
 ///
-/// Where `v` begins with the bytes of `a<b`, lane 1 is set in HTML, and none of these in JSON.
+/// Where `v` begins with the bytes of `a<b`, lane 1 is flagged in HTML, and none of these in JSON.
+#[inline(always)]
+pub fn escaped_flags<const HTML: bool>(v: &Simd512u, ticks: &mut Ticks) -> Flags512
+    ensures lanes { ⟦<Flags512 as Flags>⟧.truths result ≡ map (needs_escape (mode_of HTML)) (⟦<Simd512u as Simd>⟧.lanes v.now) }
+    ensures tick { ticks.new ≡ ticks.old + 1 }
+{
+    ticks.tick();
+    let lanes = if HTML {
+        lanes::html_needs_by_candidates(&v.lanes, &by_low_half(&v.lanes, &HTML_CANDIDATE_TAB))
+    } else {
+        lanes::json_needs(&v.lanes)
+    };
+    Flags512 { lanes }
+}
+
+/// The bit mask of [`escaped_flags`], which is called once, so it ticks once.
 #[inline(always)]
 pub fn escaped_mask<const HTML: bool>(v: &Simd512u, ticks: &mut Ticks) -> u64
     ensures lanes { ⟦<u64 as BitMask>⟧.bits result ≡ map (needs_escape (mode_of HTML)) (⟦<Simd512u as Simd>⟧.lanes v.now) }
     ensures tick { ticks.new ≡ ticks.old + 1 }
 {
-    ticks.tick();
-    let needs = if HTML {
-        lanes::html_needs_by_candidates(&v.lanes, &candidates(&v.lanes))
-    } else {
-        lanes::json_needs(&v.lanes)
-    };
-    lanes::bits(&needs)
+    escaped_flags::<HTML>(v, ticks).bitmask()
 }

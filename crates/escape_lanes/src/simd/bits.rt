@@ -2,6 +2,7 @@
 ghost use Rattle.std.specs.Prelude.{◌≡◌, ℕ, length, refl};
 ghost use Rattle.escape_lanes.specs.Bits.{bits_of, lanes_of, nibbles_of, length-bits_of, length-lanes_of};
 
+use crate::simd::flags::LaneMask;
 use crate::simd::traits::BitMask;
 
 /// Lane `i` is bit `i`.
@@ -32,6 +33,23 @@ impl BitMask for u16 {
     #[inline(always)]
     fn clear_high_bits(&self, n: usize) -> Self {
         if n == 16 { 0 } else { *self & (u16::MAX >> n) }
+    }
+}
+
+impl LaneMask for u16 {
+    #[inline(always)]
+    fn is_set(&self, lane: usize) -> bool {
+        (u64::from(*self) >> lane) & 1 == 1
+    }
+
+    #[inline(always)]
+    fn clear_low_bits(&self, n: usize) -> Self {
+        (*self >> n) << n
+    }
+
+    #[inline(always)]
+    fn count_set(&self) -> usize {
+        self.count_ones() as usize
     }
 }
 
@@ -66,6 +84,23 @@ impl BitMask for u32 {
     }
 }
 
+impl LaneMask for u32 {
+    #[inline(always)]
+    fn is_set(&self, lane: usize) -> bool {
+        (u64::from(*self) >> lane) & 1 == 1
+    }
+
+    #[inline(always)]
+    fn clear_low_bits(&self, n: usize) -> Self {
+        (*self >> n) << n
+    }
+
+    #[inline(always)]
+    fn count_set(&self) -> usize {
+        self.count_ones() as usize
+    }
+}
+
 /// Lane `i` is bit `i`.
 impl BitMask for u64 {
     const LEN: usize = 64;
@@ -94,6 +129,23 @@ impl BitMask for u64 {
     #[inline(always)]
     fn clear_high_bits(&self, n: usize) -> Self {
         if n == 64 { 0 } else { *self & (u64::MAX >> n) }
+    }
+}
+
+impl LaneMask for u64 {
+    #[inline(always)]
+    fn is_set(&self, lane: usize) -> bool {
+        lane < 64 && (*self >> lane) & 1 == 1
+    }
+
+    #[inline(always)]
+    fn clear_low_bits(&self, n: usize) -> Self {
+        (*self >> n) << n
+    }
+
+    #[inline(always)]
+    fn count_set(&self) -> usize {
+        self.count_ones() as usize
     }
 }
 
@@ -146,5 +198,24 @@ impl BitMask for NeonBits {
         } else {
             NeonBits(self.0 & (u64::MAX >> (4 * n)))
         }
+    }
+}
+
+impl LaneMask for NeonBits {
+    #[inline(always)]
+    fn is_set(&self, lane: usize) -> bool {
+        lane < 16 && (self.0 >> (4 * lane)) & 15 != 0
+    }
+
+    #[inline(always)]
+    fn clear_low_bits(&self, n: usize) -> Self {
+        NeonBits((self.0 >> (4 * n)) << (4 * n))
+    }
+
+    #[inline(always)]
+    fn count_set(&self) -> usize {
+        // The sum brings a lane's lower bits up to its top bit, and nothing past it.
+        let low = (self.0 & 0x7777_7777_7777_7777) + 0x7777_7777_7777_7777;
+        ((low | self.0) & 0x8888_8888_8888_8888).count_ones() as usize
     }
 }

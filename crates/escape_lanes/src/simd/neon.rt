@@ -1,20 +1,25 @@
-//! 16 bytes in a vector of `std::simd`, with four bits a lane in the bit mask. HTML is classified by
-//! nibble tables.
-ghost use Rattle.std.specs.Prelude.{◌≡◌, ◌+◌, ◌||◌, ◌&&◌, ℕ, map, nat_eq, refl};
+//! 16 bytes in a vector of `std::simd`, with four bits a lane in the bit mask. HTML is classified
+//! by nibble tables.
+ghost use Rattle.std.specs.Prelude.{◌≡◌, ◌+◌, ◌||◌, ◌&&◌, ℕ, map, nat_eq, nat_le, refl};
 ghost use Rattle.std.specs.Simd.Lanes.{zip2};
 ghost use Rattle.std.proofs.Common.{◌∙◌, lit≤};
 ghost use Rattle.std.proofs.lemmas.List.{length-map};
 ghost use Rattle.escape_lanes.specs.Bits.{nibbles_of};
-ghost use Rattle.escape_lanes.specs.Lanes.{AreBytes, AreWhole, set_lanes};
+ghost use Rattle.escape_lanes.specs.Lanes.{AreBytes, AreWhole, set_lanes, flagged_lanes};
 ghost use Rattle.escape_lanes.specs.Mode.{mode_of};
-ghost use Rattle.escape_lanes.specs.Nibble.{html_flags};
+ghost use Rattle.escape_lanes.specs.Nibble.{at_low_half, at_high_half, html_flags};
 ghost use Rattle.escape_lanes.specs.Replacement.{needs_escape};
 
+mod script;
+
 use crate::simd::bits::NeonBits;
+use crate::simd::flags::Flags;
 use crate::simd::lanes;
+use crate::simd::last::{self, LoadLast};
 use crate::simd::target::Ticks;
 use crate::simd::traits::{BitMask, Mask, Simd};
 use crate::tables::{HTML_HI_NIBBLE_TAB, HTML_LO_NIBBLE_TAB};
+pub use script::{script_flags, script_mask};
 use std::ops::{BitAnd, BitOr, BitOrAssign};
 use std::simd::prelude::*;
 
@@ -91,7 +96,40 @@ impl Mask for Mask128 {
 
     #[inline(always)]
     fn bitmask(self) -> NeonBits {
-        NeonBits::new(nibbles(&self.lanes))
+        bits(&self.lanes)
+    }
+}
+
+/// Which lanes of a [`Simd128u`] are flagged.
+#[derive(Debug, Clone, Copy)]
+pub struct Flags128 {
+    // 80 or more in a lane that is flagged, and less in the others.
+    lanes: u8x16,
+    ghost are_bytes: { AreBytes 16 lanes },
+}
+
+impl Flags for Flags128 {
+    type BitMask = NeonBits;
+
+    ghost truths = { λ f. flagged_lanes f.lanes };
+
+    ghost width = { λ f. length-map f.lanes (λ b. nat_le 0x80 b) ∙ f.are_bytes.full };
+
+    #[inline(always)]
+    fn join(&self, other: &Flags128) -> Flags128 {
+        Flags128 {
+            lanes: lanes::join(&self.lanes, &other.lanes),
+        }
+    }
+
+    #[inline(always)]
+    fn none(&self) -> bool {
+        lanes::none(&self.lanes)
+    }
+
+    #[inline(always)]
+    fn bitmask(&self) -> NeonBits {
+        bits(&lanes::flag_mask(&self.lanes))
     }
 }
 
@@ -152,6 +190,15 @@ impl Simd for Simd128u {
     }
 }
 
+impl LoadLast for Simd128u {
+    #[inline(always)]
+    fn load_last(src: &[u8], count: usize) -> Self {
+        Simd128u {
+            lanes: last::last_16(src, count),
+        }
+    }
+}
+
 /// Four bits for each lane of a mask, the first lane's lowest.
 #[inline(always)]
 fn nibbles(mask: &u8x16) -> u64
@@ -164,39 +211,76 @@ fn nibbles(mask: &u8x16) -> u64
     u64x1::from_le_bytes(bytes).to_array()[0]
 }
 
+/// Four bits for each lane of a mask, the first lane's lowest, as a bit mask.
+#[inline(always)]
+fn bits(mask: &u8x16) -> NeonBits
+    requires { AreWhole 255 16 mask.now }
+    ensures { ⟦<NeonBits as BitMask>⟧.bits result ≡ set_lanes 255 mask.now }
+{
+    NeonBits::new(nibbles(mask))
+}
+
+/// What the table has for the low half of each lane.
+#[inline(always)]
+fn by_low_half(v: &u8x16, table: &[u8; 16]) -> u8x16
+    requires { AreBytes 16 v.now }
+    ensures { result ≡ map (at_low_half table.now) v.now }
+{
+    lanes::repeated(table).swizzle_dyn_within::<16>(*v & u8x16::splat(15))
+}
+
+/// What the table has for the high half of each lane.
+#[inline(always)]
+fn by_high_half(v: &u8x16, table: &[u8; 16]) -> u8x16
+    requires { AreBytes 16 v.now }
+    ensures { result ≡ map (at_high_half table.now) v.now }
+{
+    lanes::repeated(table).swizzle_dyn_within::<16>(*v >> u8x16::splat(4))
+}
+
 /// The bits that both nibble tables have for each lane.
 #[inline(always)]
 fn nibble_flags(v: &u8x16) -> u8x16
     requires { AreBytes 16 v.now }
     ensures { result ≡ map html_flags v.now }
 {
-    let low = lanes::repeated(&HTML_LO_NIBBLE_TAB).swizzle_dyn_within::<16>(*v & u8x16::splat(15));
-    let high = lanes::repeated(&HTML_HI_NIBBLE_TAB).swizzle_dyn_within::<16>(*v >> u8x16::splat(4));
-    low & high
+    by_low_half(v, &HTML_LO_NIBBLE_TAB) & by_high_half(v, &HTML_HI_NIBBLE_TAB)
 }
 
-/// The lanes of `v` whose bytes need an escape: in HTML if `HTML`, else in JSON. It ticks once.
+/// Returns which lanes of `v` have bytes that need an escape: in HTML if `HTML`, else in JSON. It
+/// ticks once.
 ///
-/// Where `v` begins with the bytes of `a<b`, lane 1 is set in HTML, and none of these in JSON.
+/// Where `v` begins with the bytes of `a<b`, lane 1 is flagged in HTML, and none of these in JSON.
+#[inline(always)]
+pub fn escaped_flags<const HTML: bool>(v: &Simd128u, ticks: &mut Ticks) -> Flags128
+    ensures lanes { ⟦<Flags128 as Flags>⟧.truths result ≡ map (needs_escape (mode_of HTML)) (⟦<Simd128u as Simd>⟧.lanes v.now) }
+    ensures tick { ticks.new ≡ ticks.old + 1 }
+{
+    ticks.tick();
+    let lanes = if HTML {
+        lanes::html_needs(&v.lanes, &nibble_flags(&v.lanes))
+    } else {
+        lanes::json_needs(&v.lanes)
+    };
+    Flags128 { lanes }
+}
+
+/// The mask of [`escaped_flags`], which is called once, so it ticks once.
 #[inline(always)]
 pub fn escaped_mask_vec<const HTML: bool>(v: &Simd128u, ticks: &mut Ticks) -> Mask128
     ensures lanes { ⟦<Mask128 as Mask>⟧.truths result ≡ map (needs_escape (mode_of HTML)) (⟦<Simd128u as Simd>⟧.lanes v.now) }
     ensures tick { ticks.new ≡ ticks.old + 1 }
 {
-    ticks.tick();
-    let needs = if HTML {
-        lanes::html_needs(&v.lanes, &nibble_flags(&v.lanes))
-    } else {
-        lanes::json_needs(&v.lanes)
-    };
-    Mask128 { lanes: needs }
+    Mask128 {
+        lanes: lanes::flag_mask(&escaped_flags::<HTML>(v, ticks).lanes),
+    }
 }
 
-/// The bit mask of [`escaped_mask_vec`], which is called once, so it ticks once.
+/// The bit mask of [`escaped_flags`], which is called once, so it ticks once.
 #[inline(always)]
 pub fn escaped_mask<const HTML: bool>(v: &Simd128u, ticks: &mut Ticks) -> NeonBits
     ensures lanes { ⟦<NeonBits as BitMask>⟧.bits result ≡ map (needs_escape (mode_of HTML)) (⟦<Simd128u as Simd>⟧.lanes v.now) }
     ensures tick { ticks.new ≡ ticks.old + 1 }
 {
-    escaped_mask_vec::<HTML>(v, ticks).bitmask()
+    escaped_flags::<HTML>(v, ticks).bitmask()
 }

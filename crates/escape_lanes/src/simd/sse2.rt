@@ -1,15 +1,20 @@
-//! 16 bytes in a vector of `std::simd`. HTML is classified by six compares.
-ghost use Rattle.std.specs.Prelude.{◌≡◌, ◌+◌, ◌||◌, ◌&&◌, ℕ, map, nat_eq, refl};
+//! 16 bytes in a vector of `std::simd`. HTML is classified by three compares.
+ghost use Rattle.std.specs.Prelude.{◌≡◌, ◌+◌, ◌||◌, ◌&&◌, ℕ, map, nat_eq, nat_le, refl};
 ghost use Rattle.std.specs.Simd.Lanes.{zip2};
 ghost use Rattle.std.proofs.Common.{◌∙◌, lit≤};
 ghost use Rattle.std.proofs.lemmas.List.{length-map};
-ghost use Rattle.escape_lanes.specs.Lanes.{AreBytes, AreWhole, set_lanes};
+ghost use Rattle.escape_lanes.specs.Lanes.{AreBytes, AreWhole, set_lanes, flagged_lanes};
 ghost use Rattle.escape_lanes.specs.Mode.{html, mode_of};
 ghost use Rattle.escape_lanes.specs.Replacement.{needs_escape};
 
+mod script;
+
+use crate::simd::flags::Flags;
 use crate::simd::lanes;
+use crate::simd::last::{self, LoadLast};
 use crate::simd::target::Ticks;
 use crate::simd::traits::{BitMask, Mask, Simd};
+pub use script::{script_flags, script_mask};
 use std::ops::{BitAnd, BitOr, BitOrAssign};
 use std::simd::prelude::*;
 
@@ -90,6 +95,39 @@ impl Mask for Mask128 {
     }
 }
 
+/// Which lanes of a [`Simd128u`] are flagged.
+#[derive(Debug, Clone, Copy)]
+pub struct Flags128 {
+    // 80 or more in a lane that is flagged, and less in the others.
+    lanes: u8x16,
+    ghost are_bytes: { AreBytes 16 lanes },
+}
+
+impl Flags for Flags128 {
+    type BitMask = u16;
+
+    ghost truths = { λ f. flagged_lanes f.lanes };
+
+    ghost width = { λ f. length-map f.lanes (λ b. nat_le 0x80 b) ∙ f.are_bytes.full };
+
+    #[inline(always)]
+    fn join(&self, other: &Flags128) -> Flags128 {
+        Flags128 {
+            lanes: lanes::join(&self.lanes, &other.lanes),
+        }
+    }
+
+    #[inline(always)]
+    fn none(&self) -> bool {
+        lanes::none(&self.lanes)
+    }
+
+    #[inline(always)]
+    fn bitmask(&self) -> u16 {
+        lanes::flag_bits(&self.lanes) as u16
+    }
+}
+
 impl Simd for Simd128u {
     const LANES: usize = 16;
 
@@ -147,32 +185,56 @@ impl Simd for Simd128u {
     }
 }
 
-/// The lanes whose bytes need an escape in HTML.
+impl LoadLast for Simd128u {
+    #[inline(always)]
+    fn load_last(src: &[u8], count: usize) -> Self {
+        Simd128u {
+            lanes: last::last_16(src, count),
+        }
+    }
+}
+
+/// Flags where HTML needs an escape.
+///
+/// The six bytes are three pairs, each of two bytes that differ in one bit.
 #[inline(always)]
 fn html_needs(v: &u8x16) -> u8x16
     requires { AreBytes 16 v.now }
-    ensures whole { AreWhole 255 16 result }
-    ensures lanes { set_lanes 255 result ≡ map (needs_escape html) v.now }
+    ensures bytes { AreBytes 16 result }
+    ensures lanes { flagged_lanes result ≡ map (needs_escape html) v.now }
 {
-    let quotes = lanes::or(&lanes::is(v, b'"'), &lanes::is(v, b'\''));
-    let angles = lanes::or(&lanes::is(v, b'<'), &lanes::is(v, b'>'));
-    let others = lanes::or(&lanes::is(v, b'&'), &lanes::is(v, b'/'));
-    lanes::or(&lanes::or(&quotes, &angles), &others)
+    let quote_or_ampersand = lanes::is_without(v, 0x04, b'"');
+    let apostrophe_or_slash = lanes::is_without(v, 0x08, b'\'');
+    let angle = lanes::is_without(v, 0x02, b'<');
+    lanes::join(
+        &lanes::join(&quote_or_ampersand, &apostrophe_or_slash),
+        &angle,
+    )
 }
 
-/// The lanes of `v` whose bytes need an escape: in HTML if `HTML`, else in JSON. It ticks once.
+/// Returns which lanes of `v` have bytes that need an escape: in HTML if `HTML`, else in JSON. It
+/// ticks once.
 ///
-/// Where `v` begins with the bytes of `a<b`, lane 1 is set in HTML, and none of these in JSON.
+/// Where `v` begins with the bytes of `a<b`, lane 1 is flagged in HTML, and none of these in JSON.
+#[inline(always)]
+pub fn escaped_flags<const HTML: bool>(v: &Simd128u, ticks: &mut Ticks) -> Flags128
+    ensures lanes { ⟦<Flags128 as Flags>⟧.truths result ≡ map (needs_escape (mode_of HTML)) (⟦<Simd128u as Simd>⟧.lanes v.now) }
+    ensures tick { ticks.new ≡ ticks.old + 1 }
+{
+    ticks.tick();
+    let lanes = if HTML {
+        html_needs(&v.lanes)
+    } else {
+        lanes::json_needs(&v.lanes)
+    };
+    Flags128 { lanes }
+}
+
+/// The bit mask of [`escaped_flags`], which is called once, so it ticks once.
 #[inline(always)]
 pub fn escaped_mask<const HTML: bool>(v: &Simd128u, ticks: &mut Ticks) -> u16
     ensures lanes { ⟦<u16 as BitMask>⟧.bits result ≡ map (needs_escape (mode_of HTML)) (⟦<Simd128u as Simd>⟧.lanes v.now) }
     ensures tick { ticks.new ≡ ticks.old + 1 }
 {
-    ticks.tick();
-    let needs = if HTML {
-        html_needs(&v.lanes)
-    } else {
-        lanes::json_needs(&v.lanes)
-    };
-    Mask128 { lanes: needs }.bitmask()
+    escaped_flags::<HTML>(v, ticks).bitmask()
 }

@@ -3,6 +3,7 @@ ghost use Rattle.std.specs.Prelude.{◌≡◌, ℕ, ◌+◌, ◌<◌, ◌≤◌,
 ghost use Rattle.std.proofs.Math.Seq.{paste};
 ghost use Rattle.escape_lanes.specs.Written.{bytes_of, stored_of, escaped_of, quotes_of, IsOver, IsSameSlice};
 
+use crate::simd::front::copy_front;
 use crate::simd::ticks::Tally;
 pub use crate::simd::ticks::Ticks;
 use crate::simd::traits::Simd;
@@ -85,7 +86,40 @@ impl<'a, const N: usize> Target<'a, N> {
     {
         let mut lanes = [0u8; N];
         v.storeu(&mut lanes);
-        self.slice[at..at + k].copy_from_slice(&lanes[..k]);
+        self.put_front(at, &lanes, k);
+    }
+
+    /// Writes the `N` lanes of a vector at `at`, as [`store`](Target::store) does.
+    ///
+    /// The target has `N` bytes from `at` on.
+    #[inline(always)]
+    pub fn put(&mut self, at: usize, lanes: &[u8; N])
+        requires { at + N ≤ length (bytes_of self.old) }
+        ensures same_slice { IsSameSlice self.old self.new }
+        ensures bytes { bytes_of self.new ≡ paste (bytes_of self.old) at lanes.now N }
+        ensures stored { stored_of self.new ≡ stored_of self.old + 1 }
+        ensures escaped { escaped_of self.new ≡ escaped_of self.old }
+        ensures quotes { quotes_of self.new ≡ quotes_of self.old }
+    {
+        self.slice[at..at + N].copy_from_slice(lanes);
+        self.stored.raise();
+    }
+
+    /// Writes exactly the first `k` lanes of a vector at `at`.
+    ///
+    /// `k` lanes of the `N` are written, and the target has `k` bytes from `at` on.
+    #[inline(always)]
+    pub fn put_front(&mut self, at: usize, lanes: &[u8; N], k: usize)
+        requires few { N ≤ 64 }
+        requires count { k ≤ N }
+        requires room { at + k ≤ length (bytes_of self.old) }
+        ensures same_slice { IsSameSlice self.old self.new }
+        ensures bytes { bytes_of self.new ≡ paste (bytes_of self.old) at lanes.now k }
+        ensures stored { stored_of self.new ≡ stored_of self.old + 1 }
+        ensures escaped { escaped_of self.new ≡ escaped_of self.old }
+        ensures quotes { quotes_of self.new ≡ quotes_of self.old }
+    {
+        copy_front::<N>(&mut self.slice[at..at + k], &lanes[..k]);
         self.stored.raise();
     }
 

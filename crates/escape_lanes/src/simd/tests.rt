@@ -1,12 +1,14 @@
-ghost use Rattle.std.specs.Prelude.{◌≡◌, ◌≤◌, length};
+ghost use Rattle.std.specs.Prelude.{◌≡◌, ◌<◌, ◌≤◌, length};
 
+use crate::simd::bits::NeonBits;
 use crate::simd::target::{Target, Ticks};
-use crate::simd::{BitMask, Mask, Simd, avx2, avx512, neon, sse2, v128};
-use crate::tables::{HTML_HI_NIBBLE_TAB, HTML_LO_NIBBLE_TAB};
+use crate::simd::{BitMask, Flags, LaneMask, Mask, Simd, avx2, avx512, neon, sse2, v128};
+use crate::tables::{HTML_CANDIDATE_TAB, HTML_HI_NIBBLE_TAB, HTML_LO_NIBBLE_TAB};
+use crate::tests::{needs_html, needs_json, needs_script};
 
-// The bytes that HTML escapes, those that share a nibble with them, and some others.
+// The bytes that HTML escapes, some that the other modes do, and others.
 const ROW: [u8; 16] = [
-    0x22, 0x26, 0x27, 0x2f, 0x3c, 0x3e, 0x2c, 0x2e, 0x32, 0x36, 0x37, 0x3f, 0x21, 0x00, 0x80, 0xff,
+    0x22, 0x26, 0x27, 0x2f, 0x3c, 0x3e, 0x2c, 0x2e, 0xe3, 0x5c, 0xe2, 0x3f, 0x21, 0x00, 0x80, 0xff,
 ];
 
 fn any_of<M: Mask>(a: M, b: M, c: M) -> M::BitMask {
@@ -104,6 +106,27 @@ fn nibble_tables(rt: HostRuntime) {
 }
 
 #[test]
+fn html_candidates(rt: HostRuntime) {
+    for low in 0..16u8 {
+        let candidate = match low {
+            0x2 => 0x22,
+            0x6 => 0x26,
+            0x7 => 0x27,
+            0xc => 0x3c,
+            0xe => 0x3e,
+            0xf => 0x2f,
+            0x0 => 0xff,
+            _ => 0x00,
+        };
+        assert_eq!(rt;
+            HTML_CANDIDATE_TAB[low as usize],
+            candidate,
+            "low half {low}"
+        );
+    }
+}
+
+#[test]
 fn classified_lanes(rt: HostRuntime) {
     let mut src = [0; 64];
     for k in 0..64 {
@@ -112,13 +135,16 @@ fn classified_lanes(rt: HostRuntime) {
     let mut ticks = Ticks::new();
     let v = v128::Simd128u::loadu(&src);
     assert_eq!(rt; v128::escaped_mask::<true>(&v, &mut ticks), 0x003f);
-    assert_eq!(rt; v128::escaped_mask::<false>(&v, &mut ticks), 0x2001);
+    assert_eq!(rt; v128::escaped_mask::<false>(&v, &mut ticks), 0x2201);
+    assert_eq!(rt; v128::script_mask(&v, &mut ticks), 0x2633);
     let v = sse2::Simd128u::loadu(&src);
     assert_eq!(rt; sse2::escaped_mask::<true>(&v, &mut ticks), 0x003f);
-    assert_eq!(rt; sse2::escaped_mask::<false>(&v, &mut ticks), 0x2001);
+    assert_eq!(rt; sse2::escaped_mask::<false>(&v, &mut ticks), 0x2201);
+    assert_eq!(rt; sse2::script_mask(&v, &mut ticks), 0x2633);
     let v = avx2::Simd256u::loadu(&src);
     assert_eq!(rt; avx2::escaped_mask::<true>(&v, &mut ticks), 0x003f_003f);
-    assert_eq!(rt; avx2::escaped_mask::<false>(&v, &mut ticks), 0x2001_2001);
+    assert_eq!(rt; avx2::escaped_mask::<false>(&v, &mut ticks), 0x2201_2201);
+    assert_eq!(rt; avx2::script_mask(&v, &mut ticks), 0x2633_2633);
     let v = avx512::Simd512u::loadu(&src);
     assert_eq!(rt;
         avx512::escaped_mask::<true>(&v, &mut ticks),
@@ -126,8 +152,9 @@ fn classified_lanes(rt: HostRuntime) {
     );
     assert_eq!(rt;
         avx512::escaped_mask::<false>(&v, &mut ticks),
-        0x2001_2001_2001_2001
+        0x2201_2201_2201_2201
     );
+    assert_eq!(rt; avx512::script_mask(&v, &mut ticks), 0x2633_2633_2633_2633);
 }
 
 // A mask of four bits a lane shows its first lane alone, so each byte of the row goes in by itself.
@@ -138,15 +165,173 @@ fn classified_lanes_of_neon(rt: HostRuntime) {
         let mut src = [b'a'; 16];
         src[k] = ROW[k];
         let v = neon::Simd128u::loadu(&src);
-        let html = if k < 6 { k } else { 16 };
-        let json = if k == 0 || k == 13 { k } else { 16 };
+        let html = if needs_html(ROW[k]) { k } else { 16 };
+        let json = if needs_json(ROW[k]) { k } else { 16 };
         let in_html = neon::escaped_mask_vec::<true>(&v, &mut ticks).bitmask();
         let in_json = neon::escaped_mask_vec::<false>(&v, &mut ticks).bitmask();
         assert_eq!(rt; in_html.first_offset(), html, "lane {k}");
         assert_eq!(rt; in_json.first_offset(), json, "lane {k}");
-        let in_html = neon::escaped_mask::<true>(&v, &mut ticks);
-        let in_json = neon::escaped_mask::<false>(&v, &mut ticks);
-        assert_eq!(rt; in_html.first_offset(), html, "lane {k}");
-        assert_eq!(rt; in_json.first_offset(), json, "lane {k}");
+    }
+}
+
+// How often the mask's lanes are set before `at`, at it, and from it on.
+fn around<M: LaneMask>(mask: &M, at: usize) -> [usize; 3]
+    requires { at < M.LEN }
+{
+    let from = mask.clear_low_bits(at);
+    let here = if mask.is_set(at) { 1 } else { 0 };
+    [mask.first_offset(), here, from.count_set()]
+}
+
+#[test]
+fn masks_that_are_held(rt: HostRuntime) {
+    assert_eq!(rt; around(&0x8006_u16, 2), [1, 1, 2]);
+    assert_eq!(rt; around(&0x8006_u16, 3), [1, 0, 1]);
+    assert_eq!(rt; around(&0x8000_0006_u32, 2), [1, 1, 2]);
+    assert_eq!(rt; around(&0x8000_0006_u32, 31), [1, 1, 1]);
+    assert_eq!(rt; around(&0x8000_0000_0000_0006_u64, 63), [1, 1, 1]);
+    assert_eq!(rt; around(&0x8000_0000_0000_0006_u64, 0), [1, 0, 3]);
+    assert_eq!(rt; around(&NeonBits::new(0x8000_0000_0000_0310), 1), [1, 1, 3]);
+    assert_eq!(rt; around(&NeonBits::new(0x8000_0000_0000_0310), 3), [1, 0, 1]);
+    assert!(rt; !0xffff_u16.is_set(31));
+    assert!(rt; !0xffff_ffff_u32.is_set(63));
+    assert!(rt; !u64::MAX.is_set(127));
+    assert!(rt; !NeonBits::new(u64::MAX).is_set(31));
+}
+
+// Whether none is flagged, and the first lane that is, in one vector and in both.
+fn joined<F: Flags>(one: &F, other: &F) -> [usize; 3] {
+    let both = one.join(other);
+    let none = if both.none() { 1 } else { 0 };
+    [
+        none,
+        one.bitmask().first_offset(),
+        both.bitmask().first_offset(),
+    ]
+}
+
+#[test]
+fn flags_that_are_joined(rt: HostRuntime) {
+    let mut ticks = Ticks::new();
+    let mut src = [b'a'; 64];
+    let mut other = [b'a'; 64];
+    src[9] = b'<';
+    other[4] = b'"';
+    let (v, w) = (v128::Simd128u::loadu(&src), v128::Simd128u::loadu(&other));
+    let one = v128::escaped_flags::<false>(&v, &mut ticks);
+    assert_eq!(rt; joined(&one, &one), [1, 16, 16]);
+    let one = v128::escaped_flags::<true>(&v, &mut ticks);
+    let two = v128::escaped_flags::<true>(&w, &mut ticks);
+    assert_eq!(rt; joined(&one, &two), [0, 9, 4]);
+    let (v, w) = (sse2::Simd128u::loadu(&src), sse2::Simd128u::loadu(&other));
+    let one = sse2::escaped_flags::<false>(&v, &mut ticks);
+    assert_eq!(rt; joined(&one, &one), [1, 16, 16]);
+    let one = sse2::escaped_flags::<true>(&v, &mut ticks);
+    let two = sse2::escaped_flags::<true>(&w, &mut ticks);
+    assert_eq!(rt; joined(&one, &two), [0, 9, 4]);
+    let (v, w) = (neon::Simd128u::loadu(&src), neon::Simd128u::loadu(&other));
+    let one = neon::escaped_flags::<false>(&v, &mut ticks);
+    assert_eq!(rt; joined(&one, &one), [1, 16, 16]);
+    let one = neon::escaped_flags::<true>(&v, &mut ticks);
+    let two = neon::escaped_flags::<true>(&w, &mut ticks);
+    assert_eq!(rt; joined(&one, &two), [0, 9, 4]);
+    let (v, w) = (avx2::Simd256u::loadu(&src), avx2::Simd256u::loadu(&other));
+    let one = avx2::escaped_flags::<false>(&v, &mut ticks);
+    assert_eq!(rt; joined(&one, &one), [1, 32, 32]);
+    let one = avx2::escaped_flags::<true>(&v, &mut ticks);
+    let two = avx2::escaped_flags::<true>(&w, &mut ticks);
+    assert_eq!(rt; joined(&one, &two), [0, 9, 4]);
+    let (v, w) = (
+        avx512::Simd512u::loadu(&src),
+        avx512::Simd512u::loadu(&other),
+    );
+    let one = avx512::escaped_flags::<false>(&v, &mut ticks);
+    assert_eq!(rt; joined(&one, &one), [1, 64, 64]);
+    let one = avx512::escaped_flags::<true>(&v, &mut ticks);
+    let two = avx512::escaped_flags::<true>(&w, &mut ticks);
+    assert_eq!(rt; joined(&one, &two), [0, 9, 4]);
+}
+
+// Each byte in each lane, of the kernels with 16 lanes.
+#[test]
+fn every_byte_in_every_lane(rt: HostRuntime) {
+    let mut ticks = Ticks::new();
+    for b in 0..=255 {
+        for k in 0..16 {
+            let mut src = [b'a'; 16];
+            src[k] = b;
+            let expected = [
+                if needs_json(b) { k } else { 16 },
+                if needs_html(b) { k } else { 16 },
+                if needs_script(b) { k } else { 16 },
+            ];
+            let v = v128::Simd128u::loadu(&src);
+            let json = v128::escaped_mask::<false>(&v, &mut ticks).first_offset();
+            let html = v128::escaped_mask::<true>(&v, &mut ticks).first_offset();
+            let script = v128::script_mask(&v, &mut ticks).first_offset();
+            assert_eq!(rt; [json, html, script], expected, "v128: byte {b}, lane {k}");
+            let v = sse2::Simd128u::loadu(&src);
+            let json = sse2::escaped_mask::<false>(&v, &mut ticks).first_offset();
+            let html = sse2::escaped_mask::<true>(&v, &mut ticks).first_offset();
+            let script = sse2::script_mask(&v, &mut ticks).first_offset();
+            assert_eq!(rt; [json, html, script], expected, "sse2: byte {b}, lane {k}");
+            let v = neon::Simd128u::loadu(&src);
+            let json = neon::escaped_mask::<false>(&v, &mut ticks).first_offset();
+            let html = neon::escaped_mask::<true>(&v, &mut ticks).first_offset();
+            let script = neon::script_mask(&v, &mut ticks).first_offset();
+            assert_eq!(rt; [json, html, script], expected, "neon: byte {b}, lane {k}");
+        }
+    }
+}
+
+// Each byte in a lane of each half, of the wider kernels.
+#[test]
+fn every_byte_in_wide_lanes(rt: HostRuntime) {
+    let mut ticks = Ticks::new();
+    for b in 0..=255 {
+        for k in [3, 12, 21, 30] {
+            let mut src = [b'a'; 64];
+            src[k] = b;
+            let v = avx2::Simd256u::loadu(&src);
+            let json = avx2::escaped_mask::<false>(&v, &mut ticks).first_offset();
+            let html = avx2::escaped_mask::<true>(&v, &mut ticks).first_offset();
+            let script = avx2::script_mask(&v, &mut ticks).first_offset();
+            assert_eq!(rt;
+                json,
+                if needs_json(b) { k } else { 32 },
+                "byte {b}, lane {k}"
+            );
+            assert_eq!(rt;
+                html,
+                if needs_html(b) { k } else { 32 },
+                "byte {b}, lane {k}"
+            );
+            assert_eq!(rt;
+                script,
+                if needs_script(b) { k } else { 32 },
+                "byte {b}, lane {k}"
+            );
+            src[k] = b'a';
+            src[2 * k] = b;
+            let v = avx512::Simd512u::loadu(&src);
+            let json = avx512::escaped_mask::<false>(&v, &mut ticks).first_offset();
+            let html = avx512::escaped_mask::<true>(&v, &mut ticks).first_offset();
+            let script = avx512::script_mask(&v, &mut ticks).first_offset();
+            assert_eq!(rt;
+                json,
+                if needs_json(b) { 2 * k } else { 64 },
+                "byte {b}, lane {k}"
+            );
+            assert_eq!(rt;
+                html,
+                if needs_html(b) { 2 * k } else { 64 },
+                "byte {b}, lane {k}"
+            );
+            assert_eq!(rt;
+                script,
+                if needs_script(b) { 2 * k } else { 64 },
+                "byte {b}, lane {k}"
+            );
+        }
     }
 }

@@ -1,26 +1,33 @@
-//! 16 bytes in an array, by plain loops, with one bit a lane in the mask. HTML is classified by one
-//! table look-up a byte.
+//! 16 bytes in two words, by plain arithmetic on all lanes of a word at once. The compiler makes
+//! operations on vectors of it where there are any.
 //!
-//! The classifiers hold a mask as an array of bytes, 1 in each lane that is set and 0 in the others,
-//! and take its bits once, at the end.
-ghost use Rattle.std.specs.Prelude.{◌≡◌, ◌+◌, ◌<◌, ◌||◌, ◌&&◌, ℕ, if◌then◌else◌, length, map, nat_eq, nat_le, refl, slice_index};
+//! The comparisons hold a mask as an array of bytes, 1 in each lane that is set and 0 in the
+//! others, and take its bits once, at the end.
+ghost use Rattle.std.specs.Prelude.{◌≡◌, ◌+◌, ◌<◌, ◌≤◌, ◌^◌, ◌||◌, ◌&&◌, ◌++◌, ℕ, List, length, map, nat_eq, nat_le, refl, slice_index, take, drop, replicate, bit_and, bit_xor};
 ghost use Rattle.std.specs.Simd.Lanes.{zip2};
-ghost use Rattle.std.proofs.Common.{lit≤};
-ghost use Rattle.escape_lanes.specs.Bits.{bits_of, length-bits_of};
-ghost use Rattle.escape_lanes.specs.Lanes.{AreBytes, AreWhole, set_lanes};
+ghost use Rattle.std.proofs.Common.{◌∙◌, lit≤};
+ghost use Rattle.std.proofs.lemmas.List.{length-map};
+ghost use Rattle.escape_lanes.specs.Bits.{bits_of, length-bits_of, none_set};
+ghost use Rattle.escape_lanes.specs.Lanes.{AreBytes, AreWhole, set_lanes, flagged_lanes};
 ghost use Rattle.escape_lanes.specs.Mode.{json, html, mode_of};
 ghost use Rattle.escape_lanes.specs.Replacement.{needs_escape};
+ghost use Rattle.escape_lanes.specs.Words.{lanes_of_word, lanes_of_words, words-bytes};
 
+mod script;
+
+use crate::simd::flags::Flags;
+use crate::simd::last::{self, LoadLast};
 use crate::simd::target::Ticks;
 use crate::simd::traits::{BitMask, Mask, Simd};
-use crate::tables::HTML_NEED_ESCAPED;
+pub use script::{script_flags, script_mask};
 use std::ops::{BitAnd, BitOr, BitOrAssign};
 
 /// A vector of 16 bytes.
 #[derive(Debug, Drop)]
 pub struct Simd128u {
-    lanes: [u8; 16],
-    ghost are_bytes: { AreBytes 16 lanes },
+    // The first eight lanes, and the others, the first lane lowest.
+    low: u64,
+    high: u64,
 }
 
 /// A truth value for each lane of a [`Simd128u`].
@@ -28,6 +35,89 @@ pub struct Simd128u {
 pub struct Mask128 {
     // Bit `i` is set where lane `i` is.
     bits: u16,
+}
+
+/// Which lanes of a [`Simd128u`] are flagged.
+#[derive(Debug, Drop)]
+pub struct Flags128 {
+    // 80 or more in a lane that is flagged, and less in the others. The first lane is lowest.
+    low: u64,
+    high: u64,
+}
+
+/// Eight bytes as a word, the first one lowest.
+#[inline(always)]
+fn word(bytes: [u8; 8]) -> u64
+    ensures { lanes_of_word result ≡ bytes }
+{
+    u64::from_le_bytes(bytes)
+}
+
+/// The eight bytes from `at` on, as a word.
+#[inline(always)]
+fn word_at(src: &[u8], at: usize) -> u64
+    requires { at + 8 ≤ length src.now }
+    ensures { lanes_of_word result ≡ take 8 (drop at src.now) }
+{
+    word([
+        src[at],
+        src[at + 1],
+        src[at + 2],
+        src[at + 3],
+        src[at + 4],
+        src[at + 5],
+        src[at + 6],
+        src[at + 7],
+    ])
+}
+
+/// The word with the byte in each of its lanes.
+#[inline(always)]
+fn each_lane(byte: u8) -> u64
+    ensures { lanes_of_word result ≡ replicate 8 byte }
+{
+    word([byte; 8])
+}
+
+/// The eight bytes of a word.
+#[inline(always)]
+fn bytes_of(word: u64) -> [u8; 8]
+    ensures { result ≡ lanes_of_word word }
+{
+    word.to_le_bytes()
+}
+
+/// The lanes of both words.
+#[inline(always)]
+fn lanes_of(v: &Simd128u) -> [u8; 16]
+    ensures { result ≡ lanes_of_words v.now.low v.now.high }
+{
+    let mut lanes = [0; 16];
+    v.storeu(&mut lanes);
+    lanes
+}
+
+/// The top bit of each lane of a word.
+const TOPS: u64 = 0x8080_8080_8080_8080;
+
+/// Whether no lane of a word is flagged.
+#[inline(always)]
+fn none_in(flags: u64) -> bool
+    ensures { result ≡ none_set (flagged_lanes (lanes_of_word flags)) }
+{
+    flags & TOPS == 0
+}
+
+/// One bit for each lane of a word that is flagged, the first lane's lowest.
+///
+/// The product has the top bit of lane `i` at `56 + i`, since lane `i` of the word meets one bit of
+/// the factor for each place, and no two meet at one.
+#[inline(always)]
+fn flag_bits(flags: u64) -> u16
+    ensures below { result < 2 ^ 8 }
+    ensures bits { bits_of 8 result ≡ flagged_lanes (lanes_of_word flags) }
+{
+    ((flags & TOPS).wrapping_mul(0x0002_0408_1020_4081) >> 56) as u16
 }
 
 /// What `f` makes of each lane of both.
@@ -64,17 +154,6 @@ fn le(a: &[u8; 16], b: &[u8; 16]) -> [u8; 16]
     ensures lanes { set_lanes 1 result ≡ zip2 nat_le a.now b.now }
 {
     each(a, b, |x, y| (x <= y) as u8)
-}
-
-/// Where either mask is set.
-#[inline(always)]
-fn or(a: &[u8; 16], b: &[u8; 16]) -> [u8; 16]
-    requires left { AreWhole 1 16 a.now }
-    requires right { AreWhole 1 16 b.now }
-    ensures whole { AreWhole 1 16 result }
-    ensures lanes { set_lanes 1 result ≡ zip2 ◌||◌ (set_lanes 1 a.now) (set_lanes 1 b.now) }
-{
-    each(a, b, |x, y| x | y)
 }
 
 /// One bit for each lane of a mask, the first lane's lowest.
@@ -152,6 +231,32 @@ impl Mask for Mask128 {
     }
 }
 
+impl Flags for Flags128 {
+    type BitMask = u16;
+
+    ghost truths = { λ f. flagged_lanes (lanes_of_words f.low f.high) };
+
+    ghost width = { λ f. length-map (lanes_of_words f.low f.high) (λ b. nat_le 0x80 b) ∙ (words-bytes f.low f.high).full };
+
+    #[inline(always)]
+    fn join(&self, other: &Flags128) -> Flags128 {
+        Flags128 {
+            low: self.low | other.low,
+            high: self.high | other.high,
+        }
+    }
+
+    #[inline(always)]
+    fn none(&self) -> bool {
+        none_in(self.low | self.high)
+    }
+
+    #[inline(always)]
+    fn bitmask(&self) -> u16 {
+        flag_bits(self.low) | flag_bits(self.high) << 8
+    }
+}
+
 impl Simd for Simd128u {
     const LANES: usize = 16;
 
@@ -161,13 +266,13 @@ impl Simd for Simd128u {
 
     ghost LANES = { 16 };
 
-    ghost lanes = { λ v. v.lanes };
+    ghost lanes = { λ v. lanes_of_words v.low v.high };
 
     ghost number = { λ e. e };
 
-    ghost width = { λ v. v.are_bytes.full };
+    ghost width = { λ v. (words-bytes v.low v.high).full };
 
-    ghost bytes = { λ v. v.are_bytes.small };
+    ghost bytes = { λ v. (words-bytes v.low v.high).small };
 
     ghost mask_width = { refl };
 
@@ -177,84 +282,117 @@ impl Simd for Simd128u {
 
     #[inline(always)]
     fn loadu(src: &[u8]) -> Self {
-        let mut lanes = [0; 16];
-        lanes.copy_from_slice(&src[..16]);
-        Simd128u { lanes }
+        Simd128u {
+            low: word_at(src, 0),
+            high: word_at(src, 8),
+        }
     }
 
     #[inline(always)]
     fn storeu(&self, dst: &mut [u8]) {
-        dst[..16].copy_from_slice(&self.lanes);
+        dst[..8].copy_from_slice(&bytes_of(self.low));
+        dst[8..16].copy_from_slice(&bytes_of(self.high));
     }
 
     #[inline(always)]
     fn eq(&self, rhs: &Self) -> Mask128 {
         Mask128 {
-            bits: bits(&eq(&self.lanes, &rhs.lanes)),
+            bits: bits(&eq(&lanes_of(self), &lanes_of(rhs))),
         }
     }
 
     #[inline(always)]
     fn splat(elem: u8) -> Self {
-        Simd128u { lanes: [elem; 16] }
+        Simd128u {
+            low: each_lane(elem),
+            high: each_lane(elem),
+        }
     }
 
     #[inline(always)]
     fn le(&self, rhs: &Self) -> Mask128 {
         Mask128 {
-            bits: bits(&le(&self.lanes, &rhs.lanes)),
+            bits: bits(&le(&lanes_of(self), &lanes_of(rhs))),
         }
     }
 }
 
-/// Where JSON needs an escape.
-#[inline(always)]
-fn json_needs(v: &[u8; 16]) -> [u8; 16]
-    requires { AreBytes 16 v.now }
-    ensures whole { AreWhole 1 16 result }
-    ensures lanes { set_lanes 1 result ≡ map (needs_escape json) v.now }
-{
-    let control = le(v, &[0x1f; 16]);
-    let backslash = eq(v, &[b'\\'; 16]);
-    let quote = eq(v, &[b'"'; 16]);
-    or(&or(&control, &backslash), &quote)
-}
-
-/// 1 where HTML needs an escape for the byte, else 0.
-#[inline(always)]
-fn html_need(b: u8) -> u8
-    ensures { result ≡ (if needs_escape html b then 1 else 0) }
-{
-    HTML_NEED_ESCAPED[b as usize]
-}
-
-/// Where HTML needs an escape.
-#[inline(always)]
-fn html_needs(v: &[u8; 16]) -> [u8; 16]
-    requires { AreBytes 16 v.now }
-    ensures whole { AreWhole 1 16 result }
-    ensures lanes { set_lanes 1 result ≡ map (needs_escape html) v.now }
-{
-    let mut lanes = [0; 16];
-    for k in 0..16 {
-        lanes[k] = html_need(v[k]);
+impl LoadLast for Simd128u {
+    #[inline(always)]
+    fn load_last(src: &[u8], count: usize) -> Self {
+        let [low, high] = last::words(src, count);
+        Simd128u { low, high }
     }
-    lanes
 }
 
-/// The lanes of `v` whose bytes need an escape: in HTML if `HTML`, else in JSON. It ticks once.
+/// In each lane the bits of `kept`, with those of `flipped` flipped, and `more` on top: 80 or more
+/// where what is kept and flipped is not below `80 - more`.
 ///
-/// Where `v` begins with the bytes of `a<b`, lane 1 is set in HTML, and none of these in JSON.
+/// All three are below 80, so no lane runs over into the next.
+#[inline(always)]
+fn sums(lanes: u64, kept: u8, flipped: u8, more: u8) -> u64
+    requires kept { kept < 0x80 }
+    requires flipped { flipped < 0x80 }
+    requires more { more < 0x80 }
+    ensures { lanes_of_word result ≡ map (λ b. bit_xor (bit_and b kept) flipped + more) (lanes_of_word lanes) }
+{
+    ((lanes & each_lane(kept)) ^ each_lane(flipped)) + each_lane(more)
+}
+
+/// Flags where JSON needs an escape, in one word.
+///
+/// A flip of bit 1 brings the quotation mark, 22, to 20, past the control characters, which stay
+/// below it. A byte that is not ASCII needs none.
+#[inline(always)]
+fn json_needs(lanes: u64) -> u64
+    ensures { flagged_lanes (lanes_of_word result) ≡ map (needs_escape json) (lanes_of_word lanes) }
+{
+    let above = sums(lanes, 0x7f, 0x02, 0x5f);
+    let not_backslash = sums(lanes, 0x7f, b'\\', 0x7f);
+    ((above & not_backslash) | lanes) ^ each_lane(0x80)
+}
+
+/// Flags where HTML needs an escape, in one word.
+///
+/// The six bytes are three pairs, each of two bytes that differ in one bit.
+#[inline(always)]
+fn html_needs(lanes: u64) -> u64
+    ensures { flagged_lanes (lanes_of_word result) ≡ map (needs_escape html) (lanes_of_word lanes) }
+{
+    let not_quote_or_ampersand = sums(lanes, 0x7b, b'"', 0x7f);
+    let not_apostrophe_or_slash = sums(lanes, 0x77, b'\'', 0x7f);
+    let not_angle = sums(lanes, 0x7d, b'<', 0x7f);
+    ((not_quote_or_ampersand & not_apostrophe_or_slash & not_angle) | lanes) ^ each_lane(0x80)
+}
+
+/// Returns which lanes of `v` have bytes that need an escape: in HTML if `HTML`, else in JSON. It
+/// ticks once.
+///
+/// Where `v` begins with the bytes of `a<b`, lane 1 is flagged in HTML, and none of these in JSON.
+#[inline(always)]
+pub fn escaped_flags<const HTML: bool>(v: &Simd128u, ticks: &mut Ticks) -> Flags128
+    ensures lanes { ⟦<Flags128 as Flags>⟧.truths result ≡ map (needs_escape (mode_of HTML)) (⟦<Simd128u as Simd>⟧.lanes v.now) }
+    ensures tick { ticks.new ≡ ticks.old + 1 }
+{
+    ticks.tick();
+    if HTML {
+        Flags128 {
+            low: html_needs(v.low),
+            high: html_needs(v.high),
+        }
+    } else {
+        Flags128 {
+            low: json_needs(v.low),
+            high: json_needs(v.high),
+        }
+    }
+}
+
+/// The bit mask of [`escaped_flags`], which is called once, so it ticks once.
 #[inline(always)]
 pub fn escaped_mask<const HTML: bool>(v: &Simd128u, ticks: &mut Ticks) -> u16
     ensures lanes { ⟦<u16 as BitMask>⟧.bits result ≡ map (needs_escape (mode_of HTML)) (⟦<Simd128u as Simd>⟧.lanes v.now) }
     ensures tick { ticks.new ≡ ticks.old + 1 }
 {
-    ticks.tick();
-    let needs = if HTML {
-        html_needs(&v.lanes)
-    } else {
-        json_needs(&v.lanes)
-    };
-    bits(&needs)
+    escaped_flags::<HTML>(v, ticks).bitmask()
 }

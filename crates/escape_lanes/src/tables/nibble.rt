@@ -1,4 +1,5 @@
-//! The six bytes that HTML escapes, by the two halves of a byte.
+//! The bytes that HTML escapes, and those that a script literal has to look at, by the two halves of a
+//! byte.
 
 /// A bit for each of the bytes that HTML escapes, by the low four bits of a byte.
 ///
@@ -16,4 +17,21 @@ pub static HTML_HI_NIBBLE_TAB: [u8; 16] = [0, 0, 15, 48, 0, 0, 0, 0, 0, 0, 0, 0,
 /// low half.
 pub(crate) static HTML_CANDIDATE_TAB: [u8; 16] = [
     255, 0, 0x22, 0, 0, 0, 0x26, 0x27, 0, 0, 0, 0, 0x3c, 0, 0x3e, 0x2f,
+];
+
+/// What the low four bits of a byte add to [`SCRIPT_HI_NIBBLE_TAB`].
+///
+/// For a byte `b`, the sum of `SCRIPT_LO_NIBBLE_TAB[b & 15]` and `SCRIPT_HI_NIBBLE_TAB[b >> 4]`,
+/// which wraps, is 80 or more exactly where a script literal has to look at `b`.
+pub(crate) static SCRIPT_LO_NIBBLE_TAB: [u8; 16] = [
+    0, 0, 0x20, 0, 0, 0, 0x10, 0, 0, 0, 0, 0, 0xe0, 0, 0xf0, 0,
+];
+
+/// The sums where the low four bits add nothing.
+///
+/// Control characters, 0 and 1, are far from both ends. Of the others, 2 and e fall short of 80,
+/// and 3 and 5 are past ff: 2 and 6 among the low bits add what `"`, `&` and e2 lack, and c and e
+/// take away what `<`, `>` and `\` are too much.
+pub(crate) static SCRIPT_HI_NIBBLE_TAB: [u8; 16] = [
+    0xc0, 0xc0, 0x70, 0x00, 0x40, 0x10, 0x40, 0x40, 0x40, 0x40, 0x40, 0x40, 0x40, 0x40, 0x60, 0x40,
 ];

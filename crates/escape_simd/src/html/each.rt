@@ -6,6 +6,7 @@ ghost use Rattle.escape_simd.specs.Output.{plain, bound};
 
 use crate::html::EscapeHtmlError;
 use crate::output::append;
+use crate::simd::HTML_MODE;
 use std::alloc::Allocator;
 
 /// Appends the texts one after another as [`escape_html`](crate::html::escape_html) writes them,
@@ -36,7 +37,7 @@ pub fn escape_html_each<A: Allocator>(
         ↔ (usize.MAX < bound html (length v.now)))) }
 {
     for (count, value) in values.iter().enumerate() {
-        if let Err(refusal) = append::<true, A>(value, dst) {
+        if let Err(refusal) = append::<{ HTML_MODE }, A>(value, dst) {
             return Err((count, EscapeHtmlError::from(refusal)));
         }
     }

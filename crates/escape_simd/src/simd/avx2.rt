@@ -1,28 +1,61 @@
 //! The kernel of 32 lanes.
-ghost use Rattle.std.specs.Prelude.{◌≡◌, ◌+◌, ◌*◌, ◌≤◌, ◌++◌, length, take, chars};
-ghost use Rattle.escape_lanes.specs.Mode.{mode_of};
+ghost use Rattle.std.specs.Prelude.{◌≡◌, ◌+◌, ◌≤◌, ◌++◌, length, take, chars, refl};
+ghost use Rattle.std.proofs.Common.{lit≤};
+ghost use Rattle.escape_lanes.specs.Mode.{mode_of, script};
 ghost use Rattle.escape_lanes.specs.Written.{bytes_of};
 ghost use Rattle.escape_simd.specs.Output.{bound, inner};
 ghost use Rattle.escape_simd.specs.Formatted.{IsFormatted, IsWritten};
 ghost use Rattle.escape_simd.specs.Headline.{IsOnlyOutput};
 ghost use Rattle.escape_simd.specs.Laws.{IsOfOneText};
+ghost use Rattle.escape_simd.specs.Modes.{mode_numbered};
+ghost use Rattle.escape_simd.specs.Stretch.{room_from};
 
 use crate::simd::body;
-use crate::simd::classify::{Classify, HTML_MODE, JSON_MODE};
-pub use escape_lanes::simd::avx2::{Mask256, Simd256u, escaped_mask};
+use crate::simd::classify::{HTML_MODE, JSON_MODE, SCRIPT_MODE, Vector};
+use crate::simd::source::Source;
+pub use escape_lanes::simd::avx2::{
+    Flags256, Mask256, Simd256u, escaped_flags, escaped_mask, script_flags, script_mask,
+};
 use escape_lanes::simd::target::{Target, Ticks};
+use escape_lanes::simd::{LoadLast, Simd};
 
-impl Classify<{ JSON_MODE }> for Simd256u {
+impl Vector<32> for Simd256u {
+    type Flags = Flags256;
+
+    ghost lanes = { λ v. ⟦<Simd256u as Simd>⟧.lanes v };
+
+    ghost width = { λ v. v.are_bytes.full };
+
+    ghost flag_width = { refl };
+
+    ghost several = { lit≤ tt };
+
+    ghost few = { lit≤ tt };
+
     #[inline(always)]
-    fn flagged(v: &Self, ticks: &mut Ticks) -> u32 {
-        escaped_mask::<false>(v, ticks)
+    fn load(source: &Source<'_>, at: usize) -> Self {
+        source.load::<Self, 32>(at)
     }
-}
 
-impl Classify<{ HTML_MODE }> for Simd256u {
     #[inline(always)]
-    fn flagged(v: &Self, ticks: &mut Ticks) -> u32 {
-        escaped_mask::<true>(v, ticks)
+    fn load_last(text: &[u8], count: usize) -> Self {
+        <Self as LoadLast>::load_last(text, count)
+    }
+
+    #[inline(always)]
+    fn flags(&self, mode: u8, ticks: &mut Ticks) -> Flags256 {
+        if mode == JSON_MODE {
+            escaped_flags::<false>(self, ticks)
+        } else if mode == HTML_MODE {
+            escaped_flags::<true>(self, ticks)
+        } else {
+            script_flags(self, ticks)
+        }
+    }
+
+    #[inline(always)]
+    fn put(&self, bytes: &mut [u8]) {
+        self.storeu(bytes);
     }
 }
 
@@ -37,7 +70,7 @@ pub fn format_target<const HTML: bool>(
     ticks: &mut Ticks,
 ) -> usize
     requires { bound (mode_of HTML) (length value.now) ≤ length (bytes_of target.old) }
-    ensures { IsFormatted 4 (mode_of HTML) value.now
+    ensures { IsFormatted (mode_of HTML) value.now
         target.old target.new result ticks.old ticks.new }
 {
     body::format_target::<Simd256u, HTML, 32, 4, false>(value, target, ticks)
@@ -59,11 +92,41 @@ pub fn format_string<const HTML: bool>(value: &str, dst: &mut [u8]) -> usize
     body::format_string::<Simd256u, HTML, 32, 4, false>(value, dst)
 }
 
-/// Escapes the bytes to `dst` from `to` on, with no quotation marks, and answers the place reached.
-pub(crate) fn escape_at<const HTML: bool>(src: &[u8], dst: &mut [u8], to: usize) -> usize
-    requires { to + 6 * length src.now + 32 ≤ length dst.old }
-    ensures end { result ≡ to + length (inner (mode_of HTML) src.now) }
-    ensures written { take result dst.new ≡ take to dst.old ++ inner (mode_of HTML) src.now }
+/// Escapes the text to the front of the target as a JSON string literal that can stand in a script
+/// element, and answers how many bytes it became.
+///
+/// A text of n bytes needs a target of at least 6n + 35 bytes. No byte from that place on changes, and
+/// none that is 32 or more past the last one written.
+pub fn format_script_target(value: &str, target: &mut Target<'_, 32>, ticks: &mut Ticks) -> usize
+    requires { bound script (length value.now) ≤ length (bytes_of target.old) }
+    ensures { IsFormatted script value.now
+        target.old target.new result ticks.old ticks.new }
 {
-    body::escape_at::<Simd256u, HTML, 32, 4, false>(src, dst, to)
+    body::body::<Simd256u, { SCRIPT_MODE }, 32, 4, false>(value, target, ticks)
+}
+
+/// As [`format_script_target`], with the target made over `dst`.
+///
+/// ```text
+/// let mut dst = [0; 41];
+/// avx2::format_script_string("<", &mut dst) == 8
+/// dst.starts_with(b"\"\\u003c\"")
+/// ```
+pub fn format_script_string(value: &str, dst: &mut [u8]) -> usize
+    requires { bound script (length value.now) ≤ length dst.old }
+    ensures written { IsWritten 32 script value.now dst.old dst.new result }
+    ensures headline { IsOnlyOutput script (take result dst.new) (chars value.now) }
+    ensures equal_texts { IsOfOneText script value.now (take result dst.new) }
+{
+    body::format_in_mode::<Simd256u, { SCRIPT_MODE }, 32, 4, false>(value, dst)
+}
+
+/// Escapes the bytes to `dst` from `to` on in the mode numbered `MODE`, with no quotation marks, and
+/// answers the place reached.
+pub(crate) fn escape_at<const MODE: u8>(src: &[u8], dst: &mut [u8], to: usize) -> usize
+    requires { to + room_from (mode_numbered MODE) src.now 0 ≤ length dst.old }
+    ensures end { result ≡ to + length (inner (mode_numbered MODE) src.now) }
+    ensures written { take result dst.new ≡ take to dst.old ++ inner (mode_numbered MODE) src.now }
+{
+    body::escape_at::<Simd256u, MODE, 32, 4, false>(src, dst, to)
 }

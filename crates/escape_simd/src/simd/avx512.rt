@@ -1,6 +1,7 @@
 //! The kernel of 64 lanes, which stores exactly the bytes of a text's tail.
-ghost use Rattle.std.specs.Prelude.{◌≤◌, length, take, chars};
-ghost use Rattle.escape_lanes.specs.Mode.{mode_of};
+ghost use Rattle.std.specs.Prelude.{◌≡◌, ◌≤◌, length, take, chars, refl};
+ghost use Rattle.std.proofs.Common.{lit≤};
+ghost use Rattle.escape_lanes.specs.Mode.{mode_of, script};
 ghost use Rattle.escape_lanes.specs.Written.{bytes_of};
 ghost use Rattle.escape_simd.specs.Output.{bound};
 ghost use Rattle.escape_simd.specs.Formatted.{IsFormatted, IsWritten};
@@ -8,21 +9,51 @@ ghost use Rattle.escape_simd.specs.Headline.{IsOnlyOutput};
 ghost use Rattle.escape_simd.specs.Laws.{IsOfOneText};
 
 use crate::simd::body;
-use crate::simd::classify::{Classify, HTML_MODE, JSON_MODE};
-pub use escape_lanes::simd::avx512::{Mask512, Simd512u, escaped_mask};
+use crate::simd::classify::{HTML_MODE, JSON_MODE, SCRIPT_MODE, Vector};
+use crate::simd::source::Source;
+pub use escape_lanes::simd::avx512::{
+    Flags512, Mask512, Simd512u, escaped_flags, escaped_mask, script_flags, script_mask,
+};
 use escape_lanes::simd::target::{Target, Ticks};
+use escape_lanes::simd::{LoadLast, Simd};
 
-impl Classify<{ JSON_MODE }> for Simd512u {
+impl Vector<64> for Simd512u {
+    type Flags = Flags512;
+
+    ghost lanes = { λ v. ⟦<Simd512u as Simd>⟧.lanes v };
+
+    ghost width = { λ v. v.are_bytes.full };
+
+    ghost flag_width = { refl };
+
+    ghost several = { lit≤ tt };
+
+    ghost few = { lit≤ tt };
+
     #[inline(always)]
-    fn flagged(v: &Self, ticks: &mut Ticks) -> u64 {
-        escaped_mask::<false>(v, ticks)
+    fn load(source: &Source<'_>, at: usize) -> Self {
+        source.load::<Self, 64>(at)
     }
-}
 
-impl Classify<{ HTML_MODE }> for Simd512u {
     #[inline(always)]
-    fn flagged(v: &Self, ticks: &mut Ticks) -> u64 {
-        escaped_mask::<true>(v, ticks)
+    fn load_last(text: &[u8], count: usize) -> Self {
+        <Self as LoadLast>::load_last(text, count)
+    }
+
+    #[inline(always)]
+    fn flags(&self, mode: u8, ticks: &mut Ticks) -> Flags512 {
+        if mode == JSON_MODE {
+            escaped_flags::<false>(self, ticks)
+        } else if mode == HTML_MODE {
+            escaped_flags::<true>(self, ticks)
+        } else {
+            script_flags(self, ticks)
+        }
+    }
+
+    #[inline(always)]
+    fn put(&self, bytes: &mut [u8]) {
+        self.storeu(bytes);
     }
 }
 
@@ -37,7 +68,7 @@ pub fn format_target<const HTML: bool>(
     ticks: &mut Ticks,
 ) -> usize
     requires { bound (mode_of HTML) (length value.now) ≤ length (bytes_of target.old) }
-    ensures { IsFormatted 4 (mode_of HTML) value.now
+    ensures { IsFormatted (mode_of HTML) value.now
         target.old target.new result ticks.old ticks.new }
 {
     body::format_target::<Simd512u, HTML, 64, 4, true>(value, target, ticks)
@@ -57,4 +88,33 @@ pub fn format_string<const HTML: bool>(value: &str, dst: &mut [u8]) -> usize
     ensures equal_texts { IsOfOneText (mode_of HTML) value.now (take result dst.new) }
 {
     body::format_string::<Simd512u, HTML, 64, 4, true>(value, dst)
+}
+
+/// Escapes the text to the front of the target as a JSON string literal that can stand in a script
+/// element, and answers how many bytes it became.
+///
+/// A text of n bytes needs a target of at least 6n + 35 bytes. No byte from that place on changes, and
+/// none that is 64 or more past the last one written.
+pub fn format_script_target(value: &str, target: &mut Target<'_, 64>, ticks: &mut Ticks) -> usize
+    requires { bound script (length value.now) ≤ length (bytes_of target.old) }
+    ensures { IsFormatted script value.now
+        target.old target.new result ticks.old ticks.new }
+{
+    body::body::<Simd512u, { SCRIPT_MODE }, 64, 4, true>(value, target, ticks)
+}
+
+/// As [`format_script_target`], with the target made over `dst`.
+///
+/// ```text
+/// let mut dst = [0; 41];
+/// avx512::format_script_string("<", &mut dst) == 8
+/// dst.starts_with(b"\"\\u003c\"")
+/// ```
+pub fn format_script_string(value: &str, dst: &mut [u8]) -> usize
+    requires { bound script (length value.now) ≤ length dst.old }
+    ensures written { IsWritten 64 script value.now dst.old dst.new result }
+    ensures headline { IsOnlyOutput script (take result dst.new) (chars value.now) }
+    ensures equal_texts { IsOfOneText script value.now (take result dst.new) }
+{
+    body::format_in_mode::<Simd512u, { SCRIPT_MODE }, 64, 4, true>(value, dst)
 }

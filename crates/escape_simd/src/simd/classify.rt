@@ -1,10 +1,13 @@
-//! What a vector gives the kernels' body: which of its bytes need an escape.
-ghost use Rattle.std.specs.Prelude.{◌≡◌, ◌+◌, map};
+//! What the kernels' body asks of a vector.
+ghost use Rattle.std.specs.Prelude.{◌≡◌, ℕ, ◌+◌, ◌-◌, ◌<◌, ◌≤◌, ◌++◌, List, length, take, drop, replicate, map};
 ghost use Rattle.escape_lanes.specs.Replacement.{needs_escape};
+ghost use Rattle.escape_lanes.specs.Written.{bytes_of};
 ghost use Rattle.escape_simd.specs.Modes.{mode_numbered};
+ghost use Rattle.escape_simd.specs.Stretch.{CanStore, IsStored, stored_lanes};
 
-use escape_lanes::simd::target::Ticks;
-use escape_lanes::simd::{Mask, Simd};
+use crate::simd::source::Source;
+use escape_lanes::simd::Flags;
+use escape_lanes::simd::target::{Target, Ticks};
 
 /// The body's number for a JSON string literal.
 pub(crate) const JSON_MODE: u8 = 0;
@@ -12,11 +15,78 @@ pub(crate) const JSON_MODE: u8 = 0;
 /// The body's number for HTML.
 pub(crate) const HTML_MODE: u8 = 1;
 
-/// A vector whose bytes can be classified in the mode numbered `MODE`.
-pub(crate) trait Classify<const MODE: u8>: Simd {
-    /// Sets the lanes whose byte needs an escape, and ticks once.
-    fn flagged(v: &Self, ticks: &mut Ticks) -> <Self::Mask as Mask>::BitMask
-        ensures lanes { Self.Mask.BitMask.bits result
-            ≡ map (needs_escape (mode_numbered MODE)) (Self.lanes v.now) }
+/// The body's number for a JSON string literal that can stand in a script element.
+pub(crate) const SCRIPT_MODE: u8 = 2;
+
+/// A vector of `N` bytes, as the body loads, classifies and stores it.
+///
+/// It has of `Simd` what the body asks for, so that the body's proofs carry nothing else of a vector.
+pub(crate) trait Vector<const N: usize>: Drop {
+    /// Which lanes are flagged, before they are a bit mask.
+    type Flags: Flags;
+
+    // The bytes, lane by lane.
+    ghost lanes: { Self → List ℕ };
+
+    /// The text's bytes from `at` on, with zeros past its end.
+    fn load(source: &Source<'_>, at: usize) -> Self
+        requires after { source.now.base ≤ at }
+        requires held { at + N ≤ source.now.base + length source.now.bytes.now }
+        ensures { (taken : ℕ)
+            → taken ≤ N
+            → at + taken ≤ length source.now.text.now
+            → take taken (lanes result) ≡ take taken (drop at source.now.text.now) };
+
+    /// The text's last `count` bytes, and zeros.
+    fn load_last(text: &[u8], count: usize) -> Self
+        requires few { count < N }
+        requires inside { count ≤ length text.now }
+        ensures { lanes result
+            ≡ drop (length text.now - count) text.now ++ replicate (N - count) 0 };
+
+    /// Flags the lanes whose byte needs an escape in the mode numbered `mode`, and ticks once.
+    fn flags(&self, mode: u8, ticks: &mut Ticks) -> Self::Flags
+        ensures lanes { Self.Flags.truths result
+            ≡ map (needs_escape (mode_numbered mode)) (lanes self.now) }
         ensures tick { ticks.new ≡ ticks.old + 1 };
+
+    /// Writes the lanes to the front of the bytes.
+    fn put(&self, bytes: &mut [u8])
+        requires { N ≤ length bytes.old }
+        ensures { bytes.new ≡ lanes self.now ++ drop N bytes.old };
+
+    // There are `N` lanes, and as many flags.
+    ghost width: { (v : Self) → length (lanes v) ≡ N };
+
+    ghost flag_width: { Self.Flags.BitMask.LEN ≡ N };
+
+    // Room for what is looked at past a flagged byte, and so few that three vectors fit in memory.
+    ghost several: { 16 ≤ N };
+
+    ghost few: { N ≤ 64 };
+}
+
+/// Stores the vector's lanes to the target, or only the first `taken` where `exact`: these are the
+/// text's bytes from `from` on.
+#[inline(always)]
+pub(crate) fn store<V: Vector<N>, const N: usize>(
+    v: &V,
+    _text: &[u8],
+    _from: usize,
+    taken: usize,
+    exact: bool,
+    target: &mut Target<'_, N>,
+    to: usize,
+)
+    requires place { CanStore N exact _text.now _from taken to (length (bytes_of target.old)) }
+    requires loaded { take taken (V.lanes v.now) ≡ take taken (drop _from _text.now) }
+    ensures { IsStored exact _text.now target.old target.new _from taken to }
+{
+    let mut lanes = [0u8; N];
+    v.put(&mut lanes);
+    if exact {
+        target.put_front(to, &lanes, taken);
+    } else {
+        target.put(to, &lanes);
+    }
 }

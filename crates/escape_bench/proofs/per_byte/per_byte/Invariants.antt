@@ -1,5 +1,5 @@
-use Rattle.std.proofs.Common.{◌*◌, ◌≤◌}
+use Rattle.std.proofs.Common.{◌+◌, ◌*◌, ◌≤◌}
 use Rattle.escape_bench.proofs.per_byte.per_byte.Given as goal
 
 abbrev pub invariant-loop-byte : goal.invariant-loop-byte
-invariant-loop-byte g l = l.to ≤ 6 * l.byte-index
+invariant-loop-byte l = l.to ≤ 6 * l.byte-index + 1

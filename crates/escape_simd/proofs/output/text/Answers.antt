@@ -1,5 +1,5 @@
 use Rattle.std.proofs.Common.{ap, ◌∙◌}
-use Rattle.escape_simd.proofs.OutputLemmas.{IsTextOf-chars, IsUtf8-output, IsOnlyOutput-output, IsOfOneText-output, HasOutputLength-output}
+use Rattle.escape_simd.proofs.OutputLemmas.{IsTextOf-chars, IsUtf8-output, IsOnlyOutput-output, IsOfOneText-output, HasOutputLength-output, JoinsTexts-output}
 use Rattle.escape_simd.proofs.output.text.Goals as goal
 
 pub from_utf8_unchecked-requires : goal.from_utf8_unchecked-requires
@@ -13,6 +13,11 @@ pub returns-clause-headline : goal.returns-clause-headline
 returns-clause-headline g c =
     let bytes = rw c.new-bytes.ensures.items at c.in_ok-append.ensures.exact in
     IsOnlyOutput-output _ _ _ (ap (λ v. v.items) c.from_utf8_unchecked.ensures.value ∙ bytes) c.utf8.value
+
+pub returns-clause-joined : goal.returns-clause-joined
+returns-clause-joined g c =
+    let bytes = rw c.new-bytes.ensures.items at c.in_ok-append.ensures.exact in
+    JoinsTexts-output _ _ _ (ap (λ v. v.items) c.from_utf8_unchecked.ensures.value ∙ bytes)
 
 pub returns-clause-equal_texts : goal.returns-clause-equal_texts
 returns-clause-equal_texts g c =

@@ -1,9 +1,7 @@
-use Rattle.std.proofs.Common.{nat_le, ap, ◌∙◌}
-use Rattle.std.specs.Simd.Lanes.{zip2}
-use Rattle.std.proofs.lemmas.Simd.{zip2_splat}
+use Rattle.escape_lanes.proofs.FlagLemmas.{flags-at_most}
 use Rattle.escape_lanes.proofs.simd.lanes.is_at_most.Goals as goal
 
-pub returns-clause-lanes : goal.returns-clause-lanes
-returns-clause-lanes g c =
-    c.le.ensures.lanes ∙ ap (λ ys. zip2 nat_le c.args.v.now ys) c.splat.ensures.lanes
-    ∙ zip2_splat nat_le c.args.v.now g.row.N c.args.most c.requires.full
+pub returns : goal.returns
+returns g c =
+    let m = flags-at_most g.row.N c.args.v.now c.args.most c.requires.low c.requires.bytes in
+    record { bytes = m.bytes; lanes = m.lanes }

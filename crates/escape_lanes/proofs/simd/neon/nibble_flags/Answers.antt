@@ -1,12 +1,9 @@
-use Rattle.std.proofs.Common.{refl}
-use Rattle.escape_lanes.proofs.NibbleLemmas.{low_ok, high_ok, flags-looked_up}
+use Rattle.std.proofs.Common.{bit_and}
+use Rattle.std.proofs.lemmas.Simd.{zip2_of_maps}
+use Rattle.escape_lanes.specs.Nibble.{at_low_half, at_high_half}
+use Rattle.escape_lanes.specs.declared.tables.nibble.TheConstants.{HTML_LO_NIBBLE_TAB, HTML_HI_NIBBLE_TAB}
 use Rattle.escape_lanes.proofs.simd.neon.nibble_flags.Goals as goal
 
-pub swizzle-low : goal.swizzle-low
-swizzle-low c = low_ok 16 c.args.v.now c.requires refl
-
-pub swizzle-high : goal.swizzle-high
-swizzle-high c = high_ok 16 c.args.v.now c.requires refl
-
 pub returns : goal.returns
-returns c = flags-looked_up 16 c.args.v.now c.requires refl c.repeated.result c.repeated-2.result c.repeated.ensures.lanes c.repeated-2.ensures.lanes
+returns c =
+    zip2_of_maps bit_and (at_low_half HTML_LO_NIBBLE_TAB) (at_high_half HTML_HI_NIBBLE_TAB) c.args.v.now c.by_low_half.ensures c.by_high_half.ensures

@@ -1,4 +1,4 @@
-use Rattle.std.proofs.Common.{ℕ, ◌||◌, nat_eq, refl, ◌∙◌}
+use Rattle.std.proofs.Common.{ℕ, ◌||◌, nat_eq, bit_and, refl, ◌∙◌}
 use Rattle.std.proofs.lemmas.Simd.{zip2_of_maps}
 use Rattle.escape_lanes.specs.Mode.{html}
 use Rattle.escape_lanes.specs.Replacement.{needs_escape}
@@ -8,13 +8,7 @@ use Rattle.escape_lanes.proofs.simd.sse2.html_needs.Goals as goal
 pub returns-clause-lanes : goal.returns-clause-lanes
 returns-clause-lanes c =
     let v = c.args.v.now in
-    let is = λ (byte b : ℕ). nat_eq b byte in
-    let is_quote = λ (b : ℕ). nat_eq b 0x22 || nat_eq b 0x27 in
-    let is_angle = λ (b : ℕ). nat_eq b 0x3c || nat_eq b 0x3e in
-    let is_other = λ (b : ℕ). nat_eq b 0x26 || nat_eq b 0x2f in
-    let quotes = c.or-quotes.ensures.lanes ∙ zip2_of_maps ◌||◌ (is 0x22) (is 0x27) v c.is.ensures.lanes c.is-2.ensures.lanes in
-    let angles = c.or-angles.ensures.lanes ∙ zip2_of_maps ◌||◌ (is 0x3c) (is 0x3e) v c.is-3.ensures.lanes c.is-4.ensures.lanes in
-    let others = c.or-others.ensures.lanes ∙ zip2_of_maps ◌||◌ (is 0x26) (is 0x2f) v c.is-5.ensures.lanes c.is-6.ensures.lanes in
-    let two = c.or.ensures.lanes ∙ zip2_of_maps ◌||◌ is_quote is_angle v quotes angles in
-    let all = c.or-2.ensures.lanes ∙ zip2_of_maps ◌||◌ (λ b. is_quote b || is_angle b) is_other v two others in
-    all ∙ map-bytes (λ b. (is_quote b || is_angle b) || is_other b) (needs_escape html) 16 v c.requires refl
+    let is = λ (kept byte b : ℕ). nat_eq (bit_and b kept) byte in
+    let two = c.join.ensures.lanes ∙ zip2_of_maps ◌||◌ (is 0xfb 0x22) (is 0xf7 0x27) v c.is_without-quote_or_ampersand.ensures.lanes c.is_without-apostrophe_or_slash.ensures.lanes in
+    c.join-2.ensures.lanes ∙ zip2_of_maps ◌||◌ (λ b. is 0xfb 0x22 b || is 0xf7 0x27 b) (is 0xfd 0x3c) v two c.is_without-angle.ensures.lanes
+    ∙ map-bytes (λ b. (is 0xfb 0x22 b || is 0xf7 0x27 b) || is 0xfd 0x3c b) (needs_escape html) 16 v c.requires refl

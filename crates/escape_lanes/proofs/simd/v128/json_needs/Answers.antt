@@ -1,16 +1,14 @@
-use Rattle.std.proofs.Common.{nat_eq, nat_le, ◌||◌, refl, ◌∙◌}
-use Rattle.std.proofs.lemmas.Simd.{zip2_of_maps, zip2_splat}
+use Rattle.std.proofs.Common.{ℕ, ◌+◌, bit_and, bit_xor, refl}
 use Rattle.escape_lanes.specs.Mode.{json}
-use Rattle.escape_lanes.specs.Replacement.{needs_escape}
-use Rattle.escape_lanes.proofs.LaneLemmas.{map-bytes}
+use Rattle.escape_lanes.specs.Words.{lanes_of_word}
+use Rattle.escape_lanes.proofs.WordLemmas.{and-maps, word-flags}
 use Rattle.escape_lanes.proofs.simd.v128.json_needs.Goals as goal
 
-pub returns-clause-lanes : goal.returns-clause-lanes
-returns-clause-lanes c =
-    let v = c.args.v.now in let full = c.requires.full in
-    let control = c.le-control.ensures.lanes ∙ zip2_splat nat_le v 16 0x1f full in
-    let backslash = c.eq-backslash.ensures.lanes ∙ zip2_splat nat_eq v 16 0x5c full in
-    let quote = c.eq-quote.ensures.lanes ∙ zip2_splat nat_eq v 16 0x22 full in
-    let either = c.or.ensures.lanes ∙ zip2_of_maps ◌||◌ (λ b. nat_le b 0x1f) (λ b. nat_eq b 0x5c) v control backslash in
-    c.or-2.ensures.lanes ∙ zip2_of_maps ◌||◌ (λ b. nat_le b 0x1f || nat_eq b 0x5c) (λ b. nat_eq b 0x22) v either quote
-    ∙ map-bytes (λ b. (nat_le b 0x1f || nat_eq b 0x5c) || nat_eq b 0x22) (needs_escape json) 16 v c.requires refl
+pub returns : goal.returns
+returns c =
+    let v = lanes_of_word c.args.lanes in
+    let sum = λ (k c m b : ℕ). bit_xor (bit_and b k) c + m in
+    let above = sum 0x7f 0x02 0x5f in let not_backslash = sum 0x7f 0x5c 0x7f in
+    word-flags (λ b. bit_and (above b) (not_backslash b)) json c.args.lanes _ c.each_lane.result
+    (and-maps above not_backslash v c.sums-above.result c.sums-not_backslash.result c.sums-above.ensures c.sums-not_backslash.ensures)
+    c.each_lane.ensures refl refl

@@ -10,7 +10,7 @@ loop-count-preserved g c =
     let values = c.args.values.now in
     let inside = c.loop-count-test.true in
     record {
-      bytes = written_more html (λ (v : Bor (List ℕ)). v.now) values _ _ c.args.dst.now.items _ _ inside c.loop-count.invariant.bytes c.in_default.ensures.exact;
+      bytes = written_more html (λ (v : Bor (List ℕ)). v.now) values _ _ c.args.dst.now.items _ _ inside tt c.loop-count.invariant.bytes c.in_default.ensures.exact;
       fits = each_more (λ (v : Bor (List ℕ)). bound html (length v.now)) _ values _ _ inside c.loop-count.invariant.fits c.in_default.ensures.fits;
     }
 

@@ -1,24 +1,23 @@
-use Rattle.std.proofs.Common.{length, ◌-◌, ◌+◌, ◌<◌}
+use Rattle.std.proofs.Common.{◌≡◌, ◌≤◌, length, ◌-◌}
 use Rattle.escape_lanes.specs.Written.{stored_of}
 use Rattle.escape_simd.specs.Modes.{mode_numbered}
 use Rattle.escape_simd.specs.Stretch.{Stretch, Paid}
 use Rattle.escape_simd.proofs.simd.body.escape_bytes.Given as goal
 
+abbrev pub invariant-chunks : goal.invariant-chunks
+invariant-chunks g l = record {
+  stretch : Stretch (mode_numbered g.row.MODE) 8 l.source.text.now l.fn.target l.target 0 l.at l.to l.end;
+  paid : Paid g.row.N (mode_numbered g.row.MODE) l.source.text.now 0 l.at (stored_of l.fn.target) (stored_of l.target) l.fn.ticks l.ticks;
+}
+
+abbrev pub decreases-chunks : goal.decreases-chunks
+decreases-chunks g l = length l.src - l.at
+
 abbrev pub invariant-vectors : goal.invariant-vectors
 invariant-vectors g l = record {
-  stretch : Stretch (mode_numbered g.row.MODE) g.row.N l.src l.fn.target l.target 0 l.at l.to l.end;
-  paid : Paid g.row.CHUNK g.row.N (mode_numbered g.row.MODE) l.src 0 l.at (stored_of l.fn.target) (stored_of l.target) l.fn.ticks l.ticks;
+  stretch : Stretch (mode_numbered g.row.MODE) 8 l.source.text.now l.fn.target l.target 0 l.at l.to l.end;
+  paid : Paid g.row.N (mode_numbered g.row.MODE) l.source.text.now 0 l.at (stored_of l.fn.target) (stored_of l.target) l.fn.ticks l.ticks;
 }
 
 abbrev pub decreases-vectors : goal.decreases-vectors
 decreases-vectors g l = length l.src - l.at
-
-abbrev pub invariant-tail : goal.invariant-tail
-invariant-tail g l = record {
-  stretch : Stretch (mode_numbered g.row.MODE) g.row.N l.src l.fn.target l.target 0 l.at l.to l.end;
-  paid : Paid g.row.CHUNK g.row.N (mode_numbered g.row.MODE) l.src 0 l.at (stored_of l.fn.target) (stored_of l.target) l.fn.ticks l.ticks;
-  few : length l.src < l.at + g.row.N;
-}
-
-abbrev pub decreases-tail : goal.decreases-tail
-decreases-tail g l = length l.src - l.at

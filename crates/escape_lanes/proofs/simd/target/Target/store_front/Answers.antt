@@ -3,6 +3,3 @@ use Rattle.escape_lanes.proofs.simd.target.Target.store_front.Goals as goal
 
 pub whole_as_slice-storeu : goal.whole_as_slice-storeu
 whole_as_slice-storeu g c = omega (arith, g.met.S.Simd.few, c.requires.lanes)
-
-pub shared_whole_as_front-copy_from_slice : goal.shared_whole_as_front-copy_from_slice
-shared_whole_as_front-copy_from_slice g c = (c.requires.count, omega (arith, g.met.S.Simd.few, c.requires.lanes))

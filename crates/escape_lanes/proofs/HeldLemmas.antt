@@ -1,0 +1,154 @@
+-- A number as lanes of w bits each, lowest first, that is held: one lane, the first lanes cleared, and how many are set.
+use Rattle.std.proofs.Common.{◌≡◌, ℕ, zero, suc, ◌+◌, ◌*◌, ◌/◌, ◌%◌, ◌^◌, ◌≤◌, ◌<◌, Bool, true, false, not, cond, List, ◌∷◌, replicate, nat_eq, nat_lt, get_or, bit_and, bit_or, refl, sym, ap, ◌∙◌, inl, inr, arith, add-one}
+use Rattle.std.proofs.Math.Nat.{mul-suc, mul-zero, mul_assoc, div-eq_of_lt, mod-eq_of_lt}
+use Rattle.std.proofs.Math.Pow.{pow_mono}
+use Rattle.std.proofs.lemmas.Bool.{cases_lt, eqb-true, agree_below_at}
+use Rattle.std.proofs.lemmas.Bool.Decides.{nat_tests}
+use Rattle.std.proofs.lemmas.List.{get_or_past}
+use Rattle.std.proofs.lemmas.List.Sums.{sum_by-cons}
+use Rattle.std.proofs.lemmas.Nat.{and_block, or_block, and_le_r, or_lt, and_mask, mod_low, ones_cat, pow-add, pow_pos, shr-shr, shr_below, shr_high, shr_split}
+use Rattle.std.specs.Int.Bits.{and_zero_r}
+use Rattle.std.specs.Int.RustNames.{count_ones}
+use Rattle.std.specs.List.{count_by}
+use Rattle.std.specs.Simd.Lanes.{number_l}
+use lib.Count.{ones, ones_in, ones_step}
+use Rattle.escape_lanes.specs.Bits.{bits_of, lanes_of, clear_first, length-bits_of, length-lanes_of}
+use Rattle.escape_lanes.proofs.MaskLemmas.{bits-lanes, lanes-suc}
+
+-- the lanes above the lowest, at the place of the next one
+above : (w i n : ℕ) → n / 2 ^ w / 2 ^ (w * i) ≡ n / 2 ^ (w * suc i)
+above w i n = let more : w + w * i ≡ w * suc i = omega (arith, mul-suc w i) in rw more at (shr-shr n w (w * i))
+
+-- one lane
+pub lane-at : (w k i n : ℕ) → i < k → not (nat_eq (n / 2 ^ (w * i) % 2 ^ w) 0) ≡ get_or (lanes_of w k n) i false
+lane-at w zero i n h = absurd (omega arith)
+lane-at w (suc k) zero n h = let whole : n / 2 ^ (w * 0) ≡ n = rw (mul-zero w) (omega arith) in rw (lanes-suc w k n, whole) refl
+lane-at w (suc k) (suc i) n h = rw (lanes-suc w k n, ← above w i n) (lane-at w k i (n / 2 ^ w) (omega arith))
+
+-- past the last lane
+pub lane-past : (w k i n : ℕ) → k ≤ i → false ≡ get_or (lanes_of w k n) i false
+lane-past w k i n h = sym (get_or_past (lanes_of w k n) i false (omega (arith, length-lanes_of w k n)))
+
+-- a test that a place is before the end
+pub past_end : (i n : ℕ) → n ≤ i → nat_lt i n ≡ false
+past_end i n h = grind (arith, nat_tests)
+
+-- the lowest four bits, by a row of ones
+pub low_lane : (n i : ℕ) → not (nat_eq (bit_and (n / 2 ^ (4 * i)) 15) 0) ≡ not (nat_eq (n / 2 ^ (4 * i) % 2 ^ 4) 0)
+low_lane n i = rw (and_mask (n / 2 ^ (4 * i)) 4) refl
+
+-- the first lanes cleared by a shift down and up
+pub lanes-front_cleared : (w k n x : ℕ) → n ≤ k → lanes_of w k (x / 2 ^ (w * n) * 2 ^ (w * n)) ≡ clear_first n (lanes_of w k x)
+lanes-front_cleared w k zero x h = let whole : x / 2 ^ (w * 0) * 2 ^ (w * 0) ≡ x = rw (mul-zero w) (omega arith) in rw whole refl
+lanes-front_cleared w zero (suc n) x h = absurd (omega arith)
+lanes-front_cleared w (suc k) (suc n) x h =
+    let y : ℕ = x / 2 ^ w in
+    let z : ℕ = y / 2 ^ (w * n) * 2 ^ (w * n) in
+    let parts : x / 2 ^ (w * suc n) * 2 ^ (w * suc n) ≡ z * 2 ^ w + 0 =
+    rw (← above w n x, mul-suc w n, pow-add 2 (w * n) w) (omega (arith, mul_assoc (y / 2 ^ (w * n)) (2 ^ (w * n)) (2 ^ w))) in
+    rw (parts, lanes-suc w k (z * 2 ^ w + 0), lanes-suc w k x, mod_low z w 0 (pow_pos w), shr_high z w 0 (pow_pos w), lanes-front_cleared w k n y (omega arith)) refl
+
+-- the shift up drops no bit
+pub front_cleared-lt : (b n x : ℕ) → x < b → x / 2 ^ n * 2 ^ n % b ≡ x / 2 ^ n * 2 ^ n
+front_cleared-lt b n x h = let y : ℕ = x / 2 ^ n * 2 ^ n in let small : y < b = omega (arith, shr_split x n) in mod-eq_of_lt small
+
+-- the same of bits, which are lanes of one bit
+module _ (k x : ℕ) where
+  -- one bit
+  pub bit-at : (i : ℕ) → i < k → nat_eq (bit_and (x / 2 ^ i) 1) 1 ≡ get_or (bits_of k x) i false
+  bit-at i h =
+      let y : ℕ = x / 2 ^ i in
+      let place : 1 * i ≡ i = omega arith in
+      let low : bit_and y 1 ≡ y % 2 = and_mask y 1 in
+      let one_bit : nat_eq (y % 2) 1 ≡ not (nat_eq (y % 2) 0) = grind (arith, nat_tests) in
+      rw (bits-lanes k x, low, one_bit) (rw place at (lane-at 1 k i x h))
+
+  -- past the last bit
+  pub bit-past : (i : ℕ) → k ≤ i → false ≡ get_or (bits_of k x) i false
+  bit-past i h = sym (get_or_past (bits_of k x) i false (omega (arith, length-bits_of k x)))
+
+  -- past the last bit there is none
+  lt_past : (i : ℕ) → k ≤ i → x < 2 ^ k → x < 2 ^ i
+  lt_past i past h = omega (arith, pow_mono {i = k} {j = i} past)
+
+  -- one bit, also past the last one
+  pub bit-anywhere : (i : ℕ) → x < 2 ^ k → nat_eq (bit_and (x / 2 ^ i) 1) 1 ≡ get_or (bits_of k x) i false
+  bit-anywhere i h =
+      elim (cases_lt i k) [
+        | inl within ↦ bit-at i within
+        | inr past ↦
+            let none : x / 2 ^ i ≡ 0 = div-eq_of_lt (lt_past i past h) in
+            rw none (bit-past i past)
+      ]
+
+  -- the first bits cleared by a shift down and up
+  pub bits-front_cleared : (n : ℕ) → n ≤ k → bits_of k (x / 2 ^ n * 2 ^ n) ≡ clear_first n (bits_of k x)
+  bits-front_cleared n h =
+      let cut : 1 * n ≡ n = omega arith in
+      rw (bits-lanes k (x / 2 ^ n * 2 ^ n), bits-lanes k x) (rw cut at (lanes-front_cleared 1 k n x h))
+
+-- the count goes on after a lane
+counted-cons : (b : Bool) (bs : List Bool) → count_by (λ b. b) (b ∷ bs) ≡ cond b 1 0 + count_by (λ b. b) bs
+counted-cons b bs = sum_by-cons (λ c. cond c 1 0) b bs
+
+-- no bit of 0 is set
+ones-zero : count_ones 0 ≡ 0
+unfolding ones ones_in
+ones-zero = refl
+
+-- a bit as a truth value
+bit-value : (n : ℕ) → cond (nat_eq (n % 2) 1) 1 0 ≡ n % 2
+bit-value n = grind (arith, nat_tests)
+
+-- how many bits are set
+pub ones-bits : (k x : ℕ) → x < 2 ^ k → count_ones x ≡ count_by (λ b. b) (bits_of k x)
+unfolding bits_of
+ones-bits zero x h = let none : x ≡ 0 = omega arith in rw none ones-zero
+ones-bits (suc k) x h =
+    let rest = ones-bits k (x / 2) (shr_below x k 1 (rw add-one h)) in
+    let last = counted-cons (nat_eq (x % 2) 1) (bits_of k (x / 2)) in
+    ones_step x ∙ omega (arith, bit-value x, rest, last)
+
+-- a bit in each lane of four bits
+abbrev pub in_each : ℕ → ℕ → ℕ
+in_each k bits = number_l 16 (replicate k bits)
+
+-- the top bit of each lane of four bits that is set
+abbrev pub tops : ℕ → ℕ → ℕ
+tops k x = bit_and (bit_or (bit_and x (in_each k 7) + in_each k 7) x) (in_each k 8)
+
+-- of one lane
+abbrev top : ℕ → ℕ
+top p = bit_and (bit_or (bit_and p 7 + 7) p) 8
+
+-- it is within the lane
+top-lt : (p : ℕ) → p < 16 → top p < 16
+top-lt p h = omega (arith, and_le_r (bit_or (bit_and p 7 + 7) p) 8)
+
+-- it is one bit where the lane is set, by computation for each lane
+top-one : (p : ℕ) → p < 16 → count_ones (top p) ≡ cond (not (nat_eq p 0)) 1 0
+unfolding ones ones_in
+top-one p h = eqb-true _ _ (agree_below_at (λ q. nat_eq (count_ones (top q)) (cond (not (nat_eq q 0)) 1 0)) (λ q. true) 16 p refl h)
+
+-- the lowest lane is apart from those above it
+tops-suc : (k n p : ℕ) → p < 16 → tops (suc k) (n * 16 + p) ≡ tops k n * 16 + top p
+tops-suc k n p h =
+    let m : ℕ = in_each k 7 in
+    let sevens : in_each (suc k) 7 ≡ m * 16 + 7 = omega arith in
+    let eights : in_each (suc k) 8 ≡ in_each k 8 * 16 + 8 = omega arith in
+    let low : bit_and p 7 ≤ 7 = and_le_r p 7 in
+    let sum : bit_and n m * 16 + bit_and p 7 + (m * 16 + 7) ≡ (bit_and n m + m) * 16 + (bit_and p 7 + 7) = omega arith in
+    rw (sevens, eights, and_block 4 n m p 7 h (omega arith), sum, or_block 4 (bit_and n m + m) n (bit_and p 7 + 7) p (omega arith) h)
+    (and_block 4 (bit_or (bit_and n m + m) n) (in_each k 8) (bit_or (bit_and p 7 + 7) p) 8 (or_lt 4 (bit_and p 7 + 7) p (omega arith) h) (omega arith))
+
+-- how many lanes of four bits are set
+pub ones-tops : (k x : ℕ) → count_ones (tops k x) ≡ count_by (λ b. b) (lanes_of 4 k x)
+unfolding lanes_of
+ones-tops zero x = let none : tops 0 x ≡ 0 = and_zero_r (bit_or (bit_and x 0 + 0) x) in rw none ones-zero
+ones-tops (suc k) x =
+    let n : ℕ = x / 16 in let p : ℕ = x % 16 in
+    let small : p < 16 = omega arith in
+    let parts : n * 16 + p ≡ x = omega arith in
+    let last = counted-cons (not (nat_eq p 0)) (lanes_of 4 k n) in
+    let split = ap count_ones (rw parts at (tops-suc k n p small)) ∙ ones_cat 4 (tops k n) (top p) (top-lt p small) in
+    omega (arith, split, ones-tops k n, top-one p small, last)

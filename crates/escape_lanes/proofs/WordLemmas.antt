@@ -1,0 +1,323 @@
+-- Words as eight lanes: what arithmetic on a word does to its lanes, and its flags.
+use Rattle.std.proofs.Common.{◌≡◌, ℕ, zero, suc, ◌+◌, ◌*◌, ◌/◌, ◌%◌, ◌^◌, ◌≤◌, ◌<◌, Bool, true, false, cond, ◌||◌, List, [], ◌∷◌, ◌++◌, length, take, drop, map, replicate, nat_eq, nat_le, nat_lt, bit_and, bit_or, bit_xor, get_or, refl, sym, ap, ap₂, ◌∙◌, arith, length-append, length-drop}
+use native.Mathlib.Nat.{pow-suc, mul_assoc, mul_left_comm}
+use Rattle.std.proofs.Math.Seq.{take-append_seam, drop-append_seam}
+use Rattle.std.proofs.lemmas.Bool.{agree_below, agree_below_at, eqb-true}
+use Rattle.std.proofs.lemmas.Bool.Decides.{nat_tests}
+use Rattle.std.proofs.lemmas.List.{length-map, map-append, map-id, take-append-drop, drop-drop}
+use Rattle.std.proofs.lemmas.Nat.{and_block, and_le_r, le_bytes_8, and_mod, and_shr, or_mod, or_shr, xor_lt, xor_mod, xor_shr}
+use Rattle.std.proofs.lemmas.Simd.{Each1-replicate, mask_l-lt, splat_is_map, zip2_of_maps, zip2_splat}
+use Rattle.std.proofs.lemmas.Slice.{take-put_mid, drop-put_mid}
+use Rattle.std.specs.Int.{w64, from_le_bytes}
+use Rattle.std.specs.Int.Bits.{and_zero_r, or_shifted_r}
+use Rattle.std.specs.Simd.Lanes.{Each1, digits_l, number_l, zip2, mask_l}
+use borrow.Rule.Slice.PartMut.{put_mid}
+use Rattle.escape_lanes.specs.Bits.{bits_of, none_set}
+use Rattle.escape_lanes.specs.Lanes.{flagged_lanes, mask_lanes}
+use Rattle.escape_lanes.specs.Mode.{Mode}
+use Rattle.escape_lanes.specs.Replacement.{needs_escape}
+use Rattle.escape_lanes.specs.Words.{lanes_of_word, lanes_of_words, word-bytes}
+use Rattle.escape_lanes.proofs.FlagLemmas.{flags-by, flags-joined}
+use Rattle.escape_lanes.proofs.LaneLemmas.{bits-mask}
+
+-- ---- a word and its bytes
+
+-- the bytes of a number below 256 ^ k are that number
+number-digits : (k x : ℕ) → x < 256 ^ k → number_l 256 (digits_l 256 k x) ≡ x
+number-digits zero x h = omega arith
+number-digits (suc k) x h = omega (arith, number-digits k (x / 256) (omega arith))
+
+-- the lanes of a word, as its bytes are written
+pub word-to_bytes : (x : ℕ)
+    → x % 256 ∷ x / 256 % 256 ∷ x / 65536 % 256 ∷ x / 16777216 % 256 ∷ x / 4294967296 % 256 ∷ x / 1099511627776 % 256 ∷ x / 281474976710656 % 256 ∷ x / 72057594037927936 % 256 ∷ []
+    ≡ lanes_of_word x
+unfolding lanes_of_word
+word-to_bytes x =
+    let two : x / 256 / 256 ≡ x / 65536 = omega arith in
+    let three : x / 65536 / 256 ≡ x / 16777216 = omega arith in
+    let four : x / 16777216 / 256 ≡ x / 4294967296 = omega arith in
+    let five : x / 4294967296 / 256 ≡ x / 1099511627776 = omega arith in
+    let six : x / 1099511627776 / 256 ≡ x / 281474976710656 = omega arith in
+    let seven : x / 281474976710656 / 256 ≡ x / 72057594037927936 = omega arith in
+    rw (two, three, four, five, six, seven) refl
+
+-- the lanes of a word that was read from eight bytes
+pub word-from_bytes : (bs : List ℕ) (x : ℕ) → length bs ≡ 8 → ((i : ℕ) → get_or bs i 0 < 256) → x ≡ from_le_bytes w64 bs → lanes_of_word x ≡ bs
+word-from_bytes bs x full small is = sym (word-to_bytes x) ∙ le_bytes_8 bs x full small is
+
+-- ---- arithmetic on lanes
+
+-- an operation on bits acts lane by lane
+module _ (op : ℕ → ℕ → ℕ) (low : (a b : ℕ) → op a b % 256 ≡ op (a % 256) (b % 256)) (high : (a b : ℕ) → op a b / 256 ≡ op (a / 256) (b / 256)) where
+  digits-op : (k x y : ℕ) → digits_l 256 k (op x y) ≡ zip2 op (digits_l 256 k x) (digits_l 256 k y)
+  digits-op zero x y = refl
+  digits-op (suc k) x y = rw (low x y, high x y, digits-op k (x / 256) (y / 256)) refl
+
+-- the and of two words
+and-words : (x y : ℕ) → lanes_of_word (bit_and x y) ≡ zip2 bit_and (lanes_of_word x) (lanes_of_word y)
+unfolding lanes_of_word
+and-words x y = digits-op bit_and (λ a b. and_mod a b 8) (λ a b. and_shr a b 8) 8 x y
+
+-- the or of two words
+or-words : (x y : ℕ) → lanes_of_word (bit_or x y) ≡ zip2 bit_or (lanes_of_word x) (lanes_of_word y)
+unfolding lanes_of_word
+or-words x y = digits-op bit_or (λ a b. or_mod a b 8) (λ a b. or_shr a b 8) 8 x y
+
+-- the exclusive or of two words
+xor-words : (x y : ℕ) → lanes_of_word (bit_xor x y) ≡ zip2 bit_xor (lanes_of_word x) (lanes_of_word y)
+unfolding lanes_of_word
+xor-words x y = digits-op bit_xor (λ a b. xor_mod a b 8) (λ a b. xor_shr a b 8) 8 x y
+
+-- a sum acts lane by lane where no lane runs over
+digits-sum : (k x y : ℕ) → Each1 (λ a. a < 128) (digits_l 256 k x) → Each1 (λ b. b < 128) (digits_l 256 k y) → digits_l 256 k (x + y) ≡ zip2 (λ a b. a + b) (digits_l 256 k x) (digits_l 256 k y)
+digits-sum zero x y l r = refl
+digits-sum (suc k) x y l r =
+    let a : x % 256 < 128 = l.0 in let b : y % 256 < 128 = r.0 in
+    let low : (x + y) % 256 ≡ x % 256 + y % 256 = omega arith in
+    let high : (x + y) / 256 ≡ x / 256 + y / 256 = omega arith in
+    rw (low, high, digits-sum k (x / 256) (y / 256) l.1 r.1) refl
+
+-- the same of two words
+sum-words : (x y : ℕ) → Each1 (λ a. a < 128) (lanes_of_word x) → Each1 (λ b. b < 128) (lanes_of_word y) → lanes_of_word (x + y) ≡ zip2 (λ a b. a + b) (lanes_of_word x) (lanes_of_word y)
+unfolding lanes_of_word
+sum-words x y l r = digits-sum 8 x y l r
+
+-- a word with one byte in each of its lanes
+splat-below : (x b : ℕ) → x < 2 ^ 64 → lanes_of_word x ≡ replicate 8 b → b < 128 → x < 2 ^ 63
+unfolding lanes_of_word
+splat-below x b h each small =
+    let number : number_l 256 (replicate 8 b) ≡ x = ap (number_l 256) (sym each) ∙ number-digits 8 x (omega arith) in
+    omega (arith, number)
+
+-- the lanes that f gives are all below 128
+each-below : (f : ℕ → ℕ) → ((b : ℕ) → f b < 128) → (v : List ℕ) → Each1 (λ a. a < 128) (map f v)
+each-below f small [] = tt
+each-below f small (b ∷ v) = (small b, each-below f small v)
+
+-- the sums of a word, of which each word that is written out has one byte in each of its lanes
+module _ (x : ℕ) (k c m : ℕ) (kept flipped more : ℕ)
+    (is_kept : lanes_of_word kept ≡ replicate 8 k) (is_flipped : lanes_of_word flipped ≡ replicate 8 c) (is_more : lanes_of_word more ≡ replicate 8 m)
+    (hk : k < 128) (hc : c < 128) (hm : m < 128) where
+  -- no lane runs over, nor the word
+  pub sums-fit : kept < 2 ^ 64 → flipped < 2 ^ 64 → more < 2 ^ 64 → bit_xor (bit_and x kept) flipped + more < 2 ^ 64
+  sums-fit fk fc fm =
+      let a : kept < 2 ^ 63 = splat-below kept k fk is_kept hk in
+      let b : flipped < 2 ^ 63 = splat-below flipped c fc is_flipped hc in
+      let d : more < 2 ^ 63 = splat-below more m fm is_more hm in
+      let e = xor_lt 63 (bit_and x kept) flipped (omega (arith, and_le_r x kept)) b in
+      omega (arith, d, e)
+
+  -- each lane before the last sum
+  abbrev turned : ℕ → ℕ
+  turned b = bit_xor (bit_and b k) c
+
+  -- it is below 128
+  turned-lt : (b : ℕ) → turned b < 128
+  turned-lt b = xor_lt 7 (bit_and b k) c (omega (arith, and_le_r b k)) hc
+
+  -- the lanes before the last sum
+  turned-lanes : lanes_of_word (bit_xor (bit_and x kept) flipped) ≡ map turned (lanes_of_word x)
+  turned-lanes =
+      let v = lanes_of_word x in let full = (word-bytes x).full in
+      let bits : lanes_of_word (bit_and x kept) ≡ map (λ b. bit_and b k) v = and-words x kept ∙ ap (λ ys. zip2 bit_and v ys) is_kept ∙ zip2_splat bit_and v 8 k full in
+      xor-words (bit_and x kept) flipped ∙ zip2_of_maps bit_xor (λ b. bit_and b k) (λ b. c) v bits (is_flipped ∙ splat_is_map v 8 c full)
+
+  -- the lanes of the sums
+  pub sums-lanes : lanes_of_word (bit_xor (bit_and x kept) flipped + more) ≡ map (λ b. bit_xor (bit_and b k) c + m) (lanes_of_word x)
+  sums-lanes =
+      let v = lanes_of_word x in let full = (word-bytes x).full in
+      sum-words (bit_xor (bit_and x kept) flipped) more (rw turned-lanes (each-below turned turned-lt v)) (rw is_more (Each1-replicate (λ b. b < 128) 8 m hm))
+      ∙ zip2_of_maps (λ a b. a + b) turned (λ b. m) v turned-lanes (is_more ∙ splat_is_map v 8 m full)
+
+-- ---- flags
+
+-- flags computed from a word: an or of two words, joined with the word itself, with the top bits flipped
+pub word-flags : (f : ℕ → ℕ) (mode : Mode) (x y top : ℕ) → lanes_of_word y ≡ map f (lanes_of_word x) → lanes_of_word top ≡ replicate 8 128
+    → agree_below (λ b. nat_lt (bit_xor (bit_or (f b) b) 128) 256) (λ b. true) 256 ≡ true → agree_below (λ b. nat_le 0x80 (bit_xor (bit_or (f b) b) 128)) (needs_escape mode) 256 ≡ true
+    → flagged_lanes (lanes_of_word (bit_xor (bit_or y x) top)) ≡ map (needs_escape mode) (lanes_of_word x)
+word-flags f mode x y top is is_top small same =
+    let v = lanes_of_word x in let bytes = word-bytes x in
+    let joined : lanes_of_word (bit_or y x) ≡ map (λ b. bit_or (f b) b) v = or-words y x ∙ zip2_of_maps bit_or f (λ b. b) v is (sym (map-id v)) in
+    let whole = xor-words (bit_or y x) top ∙ zip2_of_maps bit_xor (λ b. bit_or (f b) b) (λ b. 128) v joined (is_top ∙ splat_is_map v 8 128 bytes.full) in
+    (flags-by (λ b. bit_xor (bit_or (f b) b) 128) (needs_escape mode) 8 v (lanes_of_word (bit_xor (bit_or y x) top)) bytes whole small same).lanes
+
+-- the and of two words that were computed lane by lane
+pub and-maps : (f g : ℕ → ℕ) (v : List ℕ) (x y : ℕ) → lanes_of_word x ≡ map f v → lanes_of_word y ≡ map g v → lanes_of_word (bit_and x y) ≡ map (λ b. bit_and (f b) (g b)) v
+and-maps f g v x y is also = and-words x y ∙ zip2_of_maps bit_and f g v is also
+
+-- the or
+pub or-maps : (f g : ℕ → ℕ) (v : List ℕ) (x y : ℕ) → lanes_of_word x ≡ map f v → lanes_of_word y ≡ map g v → lanes_of_word (bit_or x y) ≡ map (λ b. bit_or (f b) (g b)) v
+or-maps f g v x y is also = or-words x y ∙ zip2_of_maps bit_or f g v is also
+
+-- the exclusive or
+pub xor-maps : (f g : ℕ → ℕ) (v : List ℕ) (x y : ℕ) → lanes_of_word x ≡ map f v → lanes_of_word y ≡ map g v → lanes_of_word (bit_xor x y) ≡ map (λ b. bit_xor (f b) (g b)) v
+xor-maps f g v x y is also = xor-words x y ∙ zip2_of_maps bit_xor f g v is also
+
+-- the top bit of a byte, by computation for each
+top-bit : (b : ℕ) → b < 256 → bit_and b 128 ≡ cond (nat_le 0x80 b) 128 0
+top-bit b h = eqb-true _ _ (agree_below_at (λ p. nat_eq (bit_and p 128) (cond (nat_le 0x80 p) 128 0)) (λ p. true) 256 b refl h)
+
+-- the top bits of all bytes of a number
+digits-tops : (k x : ℕ) → bit_and x (number_l 256 (replicate k 128)) ≡ number_l 256 (mask_lanes 128 (flagged_lanes (digits_l 256 k x)))
+digits-tops zero x = and_zero_r x
+digits-tops (suc k) x =
+    let n : ℕ = x / 256 in let p : ℕ = x % 256 in
+    let parts : n * 256 + p ≡ x = omega arith in
+    let tops : ℕ = number_l 256 (replicate k 128) in
+    let mask : 128 + 256 * tops ≡ tops * 256 + 128 = omega arith in
+    let split : bit_and x (128 + 256 * tops) ≡ bit_and n tops * 256 + bit_and p 128 = rw mask (rw parts at (and_block 8 n tops p 128 (omega arith) (omega arith))) in
+    omega (arith, split, digits-tops k n, top-bit p (omega arith))
+
+-- the same of a word
+word-tops : (x : ℕ) → bit_and x 9259542123273814144 ≡ number_l 256 (mask_lanes 128 (flagged_lanes (lanes_of_word x)))
+unfolding lanes_of_word
+word-tops x = digits-tops 8 x
+
+-- such a number is 0 where no lane is set
+mask-zero : (bs : List Bool) → nat_eq (number_l 256 (mask_lanes 128 bs)) 0 ≡ none_set bs
+unfolding none_set
+mask-zero [] = refl
+mask-zero (true ∷ bs) = grind (arith, nat_tests)
+mask-zero (false ∷ bs) =
+    let n : ℕ = number_l 256 (mask_lanes 128 bs) in
+    let above : nat_eq (0 + 256 * n) 0 ≡ nat_eq n 0 = grind (arith, nat_tests) in
+    rw above (mask-zero bs)
+
+-- whether no lane of a word is flagged
+pub word-none : (x : ℕ) → nat_eq (bit_and x 9259542123273814144) 0 ≡ none_set (flagged_lanes (lanes_of_word x))
+word-none x = rw (word-tops x) (mask-zero (flagged_lanes (lanes_of_word x)))
+
+-- the top byte of the product that brings the top bits together
+abbrev gathered : ℕ → ℕ
+gathered tops = tops * 567382630219905 % 18446744073709551616 / 72057594037927936
+
+-- it is the number of these bits, by computation for each
+gathered-is : (n : ℕ) → n < 256 → gathered (number_l 256 (mask_lanes 128 (bits_of 8 n))) ≡ n
+unfolding bits_of
+gathered-is n h = eqb-true _ _ (agree_below_at (λ m. nat_eq (gathered (number_l 256 (mask_lanes 128 (bits_of 8 m)))) m) (λ m. true) 256 n refl h)
+
+-- one bit for each lane of a word that is flagged
+pub word-bits : (x : ℕ) → bits_of 8 (bit_and x 9259542123273814144 * 567382630219905 % 18446744073709551616 / 72057594037927936) ≡ flagged_lanes (lanes_of_word x)
+word-bits x =
+    let bs = flagged_lanes (lanes_of_word x) in
+    let full : length bs ≡ 8 = length-map (lanes_of_word x) (λ b. nat_le 0x80 b) ∙ (word-bytes x).full in
+    let small : mask_l bs < 256 = rw full at (mask_l-lt bs) in
+    let number : gathered (number_l 256 (mask_lanes 128 bs)) ≡ mask_l bs = rw (bits-mask bs 8 full) at (gathered-is (mask_l bs) small) in
+    ap (λ tops. bits_of 8 (gathered tops)) (word-tops x) ∙ ap (bits_of 8) number ∙ bits-mask bs 8 full
+
+-- ---- two words
+
+-- the bits of two numbers, one after the other
+bits-append : (j k low high : ℕ) → low < 2 ^ j → bits_of (j + k) (high * 2 ^ j + low) ≡ bits_of j low ++ bits_of k high
+unfolding bits_of
+bits-append zero k low high h =
+    let count : 0 + k ≡ k = omega arith in
+    let whole : high * 2 ^ 0 + low ≡ high = omega (arith, h) in
+    rw (count, whole) refl
+bits-append (suc j) k low high h =
+    let count : suc j + k ≡ suc (j + k) = omega arith in
+    let power : 2 ^ suc j ≡ 2 * 2 ^ j = omega (arith, pow-suc 2 j) in
+    let double : high * 2 ^ suc j ≡ 2 * (high * 2 ^ j) = rw power (omega (arith, mul_left_comm high 2 (2 ^ j))) in
+    let below : low / 2 < 2 ^ j = omega (arith, h, power) in
+    let last : (high * 2 ^ suc j + low) % 2 ≡ low % 2 = omega (arith, double) in
+    let rest : (high * 2 ^ suc j + low) / 2 ≡ high * 2 ^ j + low / 2 = omega (arith, double) in
+    rw (count, last, rest, bits-append j k (low / 2) high below) refl
+
+-- the bits of both, in one number of 16 bits
+pub bits-both : (low high : ℕ) (bs cs : List Bool) → low < 256 → high < 256 → bits_of 8 low ≡ bs → bits_of 8 high ≡ cs → bits_of 16 (bit_or low (high * 256 % 65536)) ≡ bs ++ cs
+bits-both low high bs cs l h is_low is_high =
+    let fits : high * 256 % 65536 ≡ high * 256 = omega arith in
+    rw (fits, or_shifted_r high 8 low l, ← is_low, ← is_high) (bits-append 8 8 low high l)
+
+-- the bytes of two numbers, one after the other
+digits-append : (j k low high : ℕ) → low < 256 ^ j → digits_l 256 (j + k) (low + 256 ^ j * high) ≡ digits_l 256 j low ++ digits_l 256 k high
+digits-append zero k low high h =
+    let count : 0 + k ≡ k = omega arith in
+    let whole : low + 256 ^ 0 * high ≡ high = omega (arith, h) in
+    rw (count, whole) refl
+digits-append (suc j) k low high h =
+    let count : suc j + k ≡ suc (j + k) = omega arith in
+    let power : 256 ^ suc j ≡ 256 * 256 ^ j = omega (arith, pow-suc 256 j) in
+    let above : 256 ^ suc j * high ≡ 256 * (256 ^ j * high) = rw power (mul_assoc 256 (256 ^ j) high) in
+    let below : low / 256 < 256 ^ j = omega (arith, h, power) in
+    let first : (low + 256 ^ suc j * high) % 256 ≡ low % 256 = omega (arith, above) in
+    let rest : (low + 256 ^ suc j * high) / 256 ≡ low / 256 + 256 ^ j * high = omega (arith, above) in
+    rw (count, first, rest, digits-append j k (low / 256) high below) refl
+
+-- the lanes of two words, as the bytes of the number that they are digits of
+pub words-number : (words : List ℕ) → length words ≡ 2 → get_or words 0 0 < 2 ^ 64 → lanes_of_words (get_or words 0 0) (get_or words 1 0) ≡ digits_l 256 16 (number_l (2 ^ 64) words)
+unfolding lanes_of_word
+words-number [] two h = absurd (omega arith)
+words-number (low ∷ []) two h = absurd (omega arith)
+words-number (low ∷ high ∷ []) two h =
+    let number : low + 2 ^ 64 * (high + 2 ^ 64 * 0) ≡ low + 256 ^ 8 * high = omega arith in
+    rw number (sym (digits-append 8 8 low high h))
+words-number (low ∷ high ∷ more ∷ words) two h = absurd (omega arith)
+
+-- a lane between others that is set
+none-set_between : (bs cs : List Bool) → none_set (bs ++ true ∷ cs) ≡ false
+unfolding none_set
+none-set_between [] cs = refl
+none-set_between (true ∷ bs) cs = refl
+none-set_between (false ∷ bs) cs = none-set_between bs cs
+
+-- and one that is clear
+none-clear_between : (bs cs : List Bool) → none_set (bs ++ false ∷ cs) ≡ none_set (bs ++ cs)
+unfolding none_set
+none-clear_between [] cs = refl
+none-clear_between (true ∷ bs) cs = refl
+none-clear_between (false ∷ bs) cs = none-clear_between bs cs
+
+-- whether no lane is set of two lists joined one by one, or one after the other
+none-joined : (bs cs : List Bool) → length bs ≡ length cs → none_set (zip2 ◌||◌ bs cs) ≡ none_set (bs ++ cs)
+unfolding none_set
+none-joined [] [] h = refl
+none-joined [] (c ∷ cs) h = absurd (omega arith)
+none-joined (b ∷ bs) [] h = absurd (omega arith)
+none-joined (true ∷ bs) (c ∷ cs) h = refl
+none-joined (false ∷ bs) (true ∷ cs) h = sym (none-set_between bs cs)
+none-joined (false ∷ bs) (false ∷ cs) h = none-joined bs cs (omega arith) ∙ sym (none-clear_between bs cs)
+
+-- lists, joined one by one in two parts
+zip2-append : {X Y : Type 0} (f : X → X → Y) (ps qs rs ss : List X) → length ps ≡ length rs → zip2 f (ps ++ qs) (rs ++ ss) ≡ zip2 f ps rs ++ zip2 f qs ss
+zip2-append f [] qs [] ss h = refl
+zip2-append f [] qs (r ∷ rs) ss h = absurd (omega arith)
+zip2-append f (p ∷ ps) qs [] ss h = absurd (omega arith)
+zip2-append f (p ∷ ps) qs (r ∷ rs) ss h = ap (λ ys. f p r ∷ ys) (zip2-append f ps qs rs ss (omega arith))
+
+-- as many flags as lanes
+length-flagged : (x : ℕ) → length (flagged_lanes (lanes_of_word x)) ≡ 8
+length-flagged x = length-map (lanes_of_word x) (λ b. nat_le 0x80 b) ∙ (word-bytes x).full
+
+-- the flags of two words
+pub flagged-words : (low high : ℕ) → flagged_lanes (lanes_of_words low high) ≡ flagged_lanes (lanes_of_word low) ++ flagged_lanes (lanes_of_word high)
+flagged-words low high = map-append (λ b. nat_le 0x80 b) (lanes_of_word low) (lanes_of_word high)
+
+-- the flags of an or of two words
+flagged-or : (x y : ℕ) → flagged_lanes (lanes_of_word (bit_or x y)) ≡ zip2 ◌||◌ (flagged_lanes (lanes_of_word x)) (flagged_lanes (lanes_of_word y))
+flagged-or x y = ap flagged_lanes (or-words x y) ∙ (flags-joined 8 (lanes_of_word x) (lanes_of_word y) (word-bytes x) (word-bytes y)).lanes
+
+-- the flags of two words, and of two others, joined
+pub words-joined : (a b c d : ℕ) → flagged_lanes (lanes_of_words (bit_or a c) (bit_or b d)) ≡ zip2 ◌||◌ (flagged_lanes (lanes_of_words a b)) (flagged_lanes (lanes_of_words c d))
+words-joined a b c d =
+    rw (flagged-words (bit_or a c) (bit_or b d), flagged-words a b, flagged-words c d, flagged-or a c, flagged-or b d)
+    (sym (zip2-append ◌||◌ (flagged_lanes (lanes_of_word a)) (flagged_lanes (lanes_of_word b)) (flagged_lanes (lanes_of_word c)) (flagged_lanes (lanes_of_word d)) (length-flagged a ∙ sym (length-flagged c))))
+
+-- whether no lane of two words is flagged
+pub words-none : (low high : ℕ) → none_set (flagged_lanes (lanes_of_word (bit_or low high))) ≡ none_set (flagged_lanes (lanes_of_words low high))
+words-none low high =
+    ap none_set (flagged-or low high) ∙ none-joined (flagged_lanes (lanes_of_word low)) (flagged_lanes (lanes_of_word high)) (length-flagged low ∙ sym (length-flagged high))
+    ∙ ap none_set (sym (flagged-words low high))
+
+-- two words, stored one after the other at the front of a slice
+pub words-stored : (low high d : List ℕ) → length low ≡ 8 → length high ≡ 8 → 16 ≤ length d → put_mid 8 8 (low ++ drop 8 d) high ≡ (low ++ high) ++ drop 16 d
+words-stored low high d l h room =
+    let xs = low ++ drop 8 d in
+    let long : length xs ≡ length d = omega (arith, length-append low (drop 8 d), length-drop 8 d) in
+    let front : take 8 xs ≡ low = rw l at (take-append_seam low (drop 8 d)) in
+    let back : drop 16 xs ≡ drop 16 d =
+    sym (drop-drop 8 8 xs) ∙ ap (drop 8) (rw l at (drop-append_seam low (drop 8 d))) ∙ drop-drop 8 8 d in
+    sym (take-append-drop 16 (put_mid 8 8 xs high))
+    ∙ ap₂ (λ ys zs. ys ++ zs)
+    (take-put_mid 8 8 xs high 16 (omega (arith, h)) (omega (arith, long)) ∙ ap (λ ys. ys ++ high) front)
+    (drop-put_mid 8 8 xs high 16 (omega arith) (omega (arith, long)) h ∙ back)

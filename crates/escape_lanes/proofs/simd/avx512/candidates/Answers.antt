@@ -1,9 +1,0 @@
-use Rattle.std.proofs.Common.{refl}
-use Rattle.escape_lanes.proofs.NibbleLemmas.{low_ok, candidates-looked_up}
-use Rattle.escape_lanes.proofs.simd.avx512.candidates.Goals as goal
-
-pub swizzle : goal.swizzle
-swizzle c = low_ok 64 c.args.v.now c.requires refl
-
-pub returns : goal.returns
-returns c = candidates-looked_up 64 c.args.v.now c.requires refl c.repeated.result c.repeated.ensures.lanes

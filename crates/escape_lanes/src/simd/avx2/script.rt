@@ -1,0 +1,48 @@
+//! Which of 32 bytes a script literal has to look at, by nibble tables.
+ghost use Rattle.std.specs.Prelude.{◌≡◌, ◌+◌, map};
+ghost use Rattle.escape_lanes.specs.Lanes.{AreBytes, flagged_lanes};
+ghost use Rattle.escape_lanes.specs.Mode.{script};
+ghost use Rattle.escape_lanes.specs.Replacement.{needs_escape};
+
+use crate::simd::avx2::{Flags256, Simd256u, by_high_half, by_low_half};
+use crate::simd::flags::Flags;
+use crate::simd::lanes;
+use crate::simd::target::Ticks;
+use crate::simd::traits::{BitMask, Simd};
+use crate::tables::{SCRIPT_HI_NIBBLE_TAB, SCRIPT_LO_NIBBLE_TAB};
+use std::simd::prelude::*;
+
+/// Flags where a script literal has to look at the byte.
+#[inline(always)]
+fn script_needs(v: &u8x32) -> u8x32
+    requires { AreBytes 32 v.now }
+    ensures bytes { AreBytes 32 result }
+    ensures lanes { flagged_lanes result ≡ map (needs_escape script) v.now }
+{
+    let low = by_low_half(v, &SCRIPT_LO_NIBBLE_TAB);
+    let high = by_high_half(v, &SCRIPT_HI_NIBBLE_TAB);
+    lanes::script_needs(v, &low, &high)
+}
+
+/// Returns which lanes of `v` have bytes that a script literal has to look at. It ticks once.
+///
+/// Where `v` begins with the bytes of `a<b`, lane 1 is flagged.
+#[inline(always)]
+pub fn script_flags(v: &Simd256u, ticks: &mut Ticks) -> Flags256
+    ensures lanes { ⟦<Flags256 as Flags>⟧.truths result ≡ map (needs_escape script) (⟦<Simd256u as Simd>⟧.lanes v.now) }
+    ensures tick { ticks.new ≡ ticks.old + 1 }
+{
+    ticks.tick();
+    Flags256 {
+        lanes: script_needs(&v.lanes),
+    }
+}
+
+/// The bit mask of [`script_flags`], which is called once, so it ticks once.
+#[inline(always)]
+pub fn script_mask(v: &Simd256u, ticks: &mut Ticks) -> u32
+    ensures lanes { ⟦<u32 as BitMask>⟧.bits result ≡ map (needs_escape script) (⟦<Simd256u as Simd>⟧.lanes v.now) }
+    ensures tick { ticks.new ≡ ticks.old + 1 }
+{
+    script_flags(v, ticks).bitmask()
+}

@@ -1,0 +1,60 @@
+//! The copy of a vector's first lanes, by pieces of a few fixed sizes: a copy of a number of bytes
+//! that is known only at run time is a call.
+ghost use Rattle.std.specs.Prelude.{◌≡◌, ◌*◌, ◌<◌, ◌≤◌, length};
+
+/// Copies all lanes as two pieces of `P`, one from each end. They may overlap.
+#[inline(always)]
+fn copy_ends<const P: usize>(dst: &mut [u8], lanes: &[u8])
+    requires same { length lanes.now ≡ length dst.old }
+    requires several { P ≤ length lanes.now }
+    requires few { length lanes.now ≤ 2 * P }
+    ensures { dst.new ≡ lanes.now }
+{
+    let last = lanes.len() - P;
+    dst[..P].copy_from_slice(&lanes[..P]);
+    dst[last..].copy_from_slice(&lanes[last..]);
+}
+
+/// Copies all lanes, three at most, as the first, the middle and the last one.
+#[inline(always)]
+fn copy_up_to_three(dst: &mut [u8], lanes: &[u8])
+    requires same { length lanes.now ≡ length dst.old }
+    requires few { length lanes.now < 4 }
+    ensures { dst.new ≡ lanes.now }
+{
+    if lanes.len() == 0 {
+        return;
+    }
+    let middle = lanes.len() / 2;
+    let last = lanes.len() - 1;
+    dst[0] = lanes[0];
+    dst[middle] = lanes[middle];
+    dst[last] = lanes[last];
+}
+
+/// Copies all lanes, the first ones of a vector of `N`.
+///
+/// Pieces of `N` or more are never needed, so the compiler leaves them out.
+#[inline(always)]
+pub(crate) fn copy_front<const N: usize>(dst: &mut [u8], lanes: &[u8])
+    requires same { length lanes.now ≡ length dst.old }
+    requires few { length lanes.now ≤ N }
+    requires widest { N ≤ 64 }
+    ensures { dst.new ≡ lanes.now }
+{
+    let count = lanes.len();
+    if 32 < N && 32 <= count {
+        copy_ends::<32>(dst, lanes);
+    } else if 16 < N && 16 <= count {
+        copy_ends::<16>(dst, lanes);
+    } else if 8 <= count {
+        copy_ends::<8>(dst, lanes);
+    } else if 4 <= count {
+        copy_ends::<4>(dst, lanes);
+    } else {
+        copy_up_to_three(dst, lanes);
+    }
+}
+
+#[cfg(test)]
+mod tests;

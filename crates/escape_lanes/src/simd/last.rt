@@ -1,0 +1,210 @@
+//! A text's last bytes in a vector, with zeros after them.
+//!
+//! They never pass through memory: a copy of a number of bytes that is known only at run time is a
+//! call, and a vector that is loaded from words just written has to wait for all of them.
+ghost use Rattle.std.specs.Prelude.{◌≡◌, ◌+◌, ◌*◌, ◌-◌, ◌<◌, ◌≤◌, ◌^◌, ◌++◌, ℕ, length, take, drop, replicate};
+ghost use Rattle.std.specs.Simd.Lanes.{number_l};
+ghost use Rattle.escape_lanes.specs.Lanes.{AreBytes};
+
+use crate::simd::lanes;
+use crate::simd::traits::Simd;
+use std::simd::prelude::*;
+
+/// A vector that can be loaded with the last bytes of a text.
+pub trait LoadLast: Simd {
+    /// The last `count` bytes of `src` in the first lanes, and zeros in the others.
+    ///
+    /// `src` has `count` bytes or more, and a vector more than `count` lanes. Of `abcd` and 2 it
+    /// makes `c`, `d` and zeros.
+    fn load_last(src: &[u8], count: usize) -> Self
+        requires few { count < Self.LANES }
+        requires inside { count ≤ length src.now }
+        ensures { Self.lanes result ≡ drop (length src.now - count) src.now ++ replicate (Self.LANES - count) 0 };
+}
+
+// The places of 16 lanes, and then places that read as 0.
+const PLACES: [u8; 32] = [
+    0, 1, 2, 3, 4, 5, 6, 7, 8, 9, 10, 11, 12, 13, 14, 15, 128, 128, 128, 128, 128, 128, 128, 128,
+    128, 128, 128, 128, 128, 128, 128, 128,
+];
+
+// All lanes of two vectors of 16.
+const BOTH_16: [usize; 32] = [
+    0, 1, 2, 3, 4, 5, 6, 7, 8, 9, 10, 11, 12, 13, 14, 15, 16, 17, 18, 19, 20, 21, 22, 23, 24, 25,
+    26, 27, 28, 29, 30, 31,
+];
+
+// All lanes of two vectors of 32.
+const BOTH_32: [usize; 64] = [
+    0, 1, 2, 3, 4, 5, 6, 7, 8, 9, 10, 11, 12, 13, 14, 15, 16, 17, 18, 19, 20, 21, 22, 23, 24, 25,
+    26, 27, 28, 29, 30, 31, 32, 33, 34, 35, 36, 37, 38, 39, 40, 41, 42, 43, 44, 45, 46, 47, 48, 49,
+    50, 51, 52, 53, 54, 55, 56, 57, 58, 59, 60, 61, 62, 63,
+];
+
+/// The eight bytes from `at` on, as a number.
+#[inline(always)]
+fn eight(src: &[u8], at: usize) -> u64
+    requires { at + 8 ≤ length src.now }
+    ensures { result ≡ number_l 256 (take 8 (drop at src.now)) }
+{
+    u64x1::from_le_bytes(lanes::load(&src[at..])).to_array()[0]
+}
+
+/// The four bytes from `at` on, as a number.
+#[inline(always)]
+fn four(src: &[u8], at: usize) -> u64
+    requires { at + 4 ≤ length src.now }
+    ensures { result ≡ number_l 256 (take 4 (drop at src.now)) }
+{
+    u32x1::from_le_bytes(lanes::load(&src[at..])).to_array()[0] as u64
+}
+
+/// The last `count` bytes, three at most, as a number.
+///
+/// The first, the middle and the last one are all of them, and may be the same one.
+#[inline(always)]
+fn up_to_three(src: &[u8], count: usize) -> u64
+    requires few { count < 4 }
+    requires inside { count ≤ length src.now }
+    ensures { result ≡ number_l 256 (drop (length src.now - count) src.now) }
+{
+    if count == 0 {
+        return 0;
+    }
+    let at = src.len() - count;
+    let middle = (src[at + count / 2] as u64) << (8 * (count / 2));
+    let last = (src[at + count - 1] as u64) << (8 * (count - 1));
+    src[at] as u64 | (middle | last)
+}
+
+/// The last `count` bytes, four to seven, as a number.
+///
+/// Two words of four have them all. The bytes that are in both stand at one place.
+#[inline(always)]
+fn four_to_seven(src: &[u8], count: usize) -> u64
+    requires several { 4 ≤ count }
+    requires few { count < 8 }
+    requires inside { count ≤ length src.now }
+    ensures { result ≡ number_l 256 (drop (length src.now - count) src.now) }
+{
+    four(src, src.len() - count) | (four(src, src.len() - 4) << (8 * (count - 4)))
+}
+
+/// The last `count` bytes past the first eight of them, as a number.
+///
+/// They are the later ones of the text's last eight.
+#[inline(always)]
+fn past_eight(src: &[u8], count: usize) -> u64
+    requires several { 8 ≤ count }
+    requires few { count < 16 }
+    requires inside { count ≤ length src.now }
+    ensures { result ≡ number_l 256 (drop (length src.now - (count - 8)) src.now) }
+{
+    // In two steps, since a shift by all 64 bits is none.
+    (eight(src, src.len() - 8) >> (8 * (15 - count))) >> 8
+}
+
+/// The last `count` bytes as two numbers of eight.
+#[inline(always)]
+pub(crate) fn words(src: &[u8], count: usize) -> [u64; 2]
+    requires few { count < 16 }
+    requires inside { count ≤ length src.now }
+    ensures { number_l (2 ^ 64) result ≡ number_l 256 (drop (length src.now - count) src.now) }
+{
+    if 8 <= count {
+        [eight(src, src.len() - count), past_eight(src, count)]
+    } else if 4 <= count {
+        [four_to_seven(src, count), 0]
+    } else {
+        [up_to_three(src, count), 0]
+    }
+}
+
+/// The last `count` bytes of a text that may be short, made of words.
+#[inline(always)]
+fn joined(src: &[u8], count: usize) -> u8x16
+    requires few { count < 16 }
+    requires inside { count ≤ length src.now }
+    ensures { result ≡ drop (length src.now - count) src.now ++ replicate (16 - count) 0 }
+{
+    u64x2::from_array(words(src, count)).to_le_bytes()
+}
+
+/// The last `count` bytes of a text of 16 bytes or more: its last 16, moved down by a look-up.
+#[inline(always)]
+fn moved_down(src: &[u8], count: usize) -> u8x16
+    requires few { count < 16 }
+    requires long { 16 ≤ length src.now }
+    ensures { result ≡ drop (length src.now - count) src.now ++ replicate (16 - count) 0 }
+{
+    let last: u8x16 = lanes::load(&src[src.len() - 16..]);
+    last.swizzle_dyn(lanes::load(&PLACES[16 - count..]))
+}
+
+/// The last `count` bytes, with zeros after them, in 16 lanes.
+#[inline(always)]
+pub(crate) fn last_16(src: &[u8], count: usize) -> u8x16
+    requires few { count < 16 }
+    requires inside { count ≤ length src.now }
+    ensures bytes { AreBytes 16 result }
+    ensures lanes { result ≡ drop (length src.now - count) src.now ++ replicate (16 - count) 0 }
+{
+    if 16 <= src.len() {
+        moved_down(src, count)
+    } else {
+        joined(src, count)
+    }
+}
+
+/// Two vectors of 16 lanes as one.
+#[inline(always)]
+fn both_16(low: u8x16, high: u8x16) -> u8x32
+    requires low { length low ≡ 16 }
+    requires high { length high ≡ 16 }
+    ensures { result ≡ low ++ high }
+{
+    low.shuffle(high, BOTH_16)
+}
+
+/// Two vectors of 32 lanes as one.
+#[inline(always)]
+fn both_32(low: u8x32, high: u8x32) -> u8x64
+    requires low { length low ≡ 32 }
+    requires high { length high ≡ 32 }
+    ensures { result ≡ low ++ high }
+{
+    low.shuffle(high, BOTH_32)
+}
+
+/// The last `count` bytes, with zeros after them, in 32 lanes.
+#[inline(always)]
+pub(crate) fn last_32(src: &[u8], count: usize) -> u8x32
+    requires few { count < 32 }
+    requires inside { count ≤ length src.now }
+    ensures bytes { AreBytes 32 result }
+    ensures lanes { result ≡ drop (length src.now - count) src.now ++ replicate (32 - count) 0 }
+{
+    if count < 16 {
+        return both_16(last_16(src, count), lanes::splat(0));
+    }
+    let first = lanes::load(&src[src.len() - count..]);
+    both_16(first, moved_down(src, count - 16))
+}
+
+/// The last `count` bytes, with zeros after them, in 64 lanes.
+#[inline(always)]
+pub(crate) fn last_64(src: &[u8], count: usize) -> u8x64
+    requires few { count < 64 }
+    requires inside { count ≤ length src.now }
+    ensures bytes { AreBytes 64 result }
+    ensures lanes { result ≡ drop (length src.now - count) src.now ++ replicate (64 - count) 0 }
+{
+    if count < 32 {
+        return both_32(last_32(src, count), lanes::splat(0));
+    }
+    let first = lanes::load(&src[src.len() - count..]);
+    both_32(first, last_32(src, count - 32))
+}
+
+#[cfg(test)]
+mod tests;

@@ -1,0 +1,51 @@
+//! Which of 16 bytes a script literal has to look at, on all lanes of a word at once.
+ghost use Rattle.std.specs.Prelude.{◌≡◌, ◌+◌, map};
+ghost use Rattle.escape_lanes.specs.Lanes.{flagged_lanes};
+ghost use Rattle.escape_lanes.specs.Mode.{script};
+ghost use Rattle.escape_lanes.specs.Replacement.{needs_escape};
+ghost use Rattle.escape_lanes.specs.Words.{lanes_of_word};
+
+use crate::simd::flags::Flags;
+use crate::simd::target::Ticks;
+use crate::simd::traits::{BitMask, Simd};
+use crate::simd::v128::{Flags128, Simd128u, sums};
+
+/// Flags where a script literal has to look at the byte, in one word.
+///
+/// Each sum takes the low seven bits: those of the wanted bytes are flipped to the greatest numbers
+/// below 80. Of the bytes that are not ASCII, e2 alone is wanted.
+#[inline(always)]
+fn script_needs(lanes: u64) -> u64
+    ensures { flagged_lanes (lanes_of_word result) ≡ map (needs_escape script) (lanes_of_word lanes) }
+{
+    let control_quote_or_ampersand = sums(lanes, 0x7b, 0x7d, 0x21);
+    let angle = sums(lanes, 0x7d, 0x43, 0x01);
+    let backslash = sums(lanes, 0x7f, 0x23, 0x01);
+    let separator = sums(lanes, 0x7f, 0x1d, 0x01);
+    let ascii = control_quote_or_ampersand | angle | backslash;
+    ascii ^ ((ascii ^ separator) & lanes)
+}
+
+/// Returns which lanes of `v` have bytes that a script literal has to look at. It ticks once.
+///
+/// Where `v` begins with the bytes of `a<b`, lane 1 is flagged.
+#[inline(always)]
+pub fn script_flags(v: &Simd128u, ticks: &mut Ticks) -> Flags128
+    ensures lanes { ⟦<Flags128 as Flags>⟧.truths result ≡ map (needs_escape script) (⟦<Simd128u as Simd>⟧.lanes v.now) }
+    ensures tick { ticks.new ≡ ticks.old + 1 }
+{
+    ticks.tick();
+    Flags128 {
+        low: script_needs(v.low),
+        high: script_needs(v.high),
+    }
+}
+
+/// The bit mask of [`script_flags`], which is called once, so it ticks once.
+#[inline(always)]
+pub fn script_mask(v: &Simd128u, ticks: &mut Ticks) -> u16
+    ensures lanes { ⟦<u16 as BitMask>⟧.bits result ≡ map (needs_escape script) (⟦<Simd128u as Simd>⟧.lanes v.now) }
+    ensures tick { ticks.new ≡ ticks.old + 1 }
+{
+    script_flags(v, ticks).bitmask()
+}

@@ -1,0 +1,72 @@
+use Rattle.std.proofs.Common.{◌≡◌, ℕ, ◌+◌, ◌-◌, ◌<◌, ◌≤◌, Bool, true, false, ◌==◌, List, ◌++◌, length, take, drop, get_or, codes, replicate, if◌then◌else◌, refl, sym, ap, subst, ◌∙◌, arith, inl, inr}
+use Rattle.std.proofs.lemmas.Bool.{cases_Bool}
+use Rattle.escape_lanes.specs.Mode.{Mode, script}
+use Rattle.escape_lanes.specs.Replacement.{needs_escape}
+use Rattle.escape_lanes.specs.Entry.{padded, entry_count, entry_bytes}
+use Rattle.escape_lanes.specs.Written.{bytes_of}
+use Rattle.escape_lanes.proofs.EntryLemmas.{fewest≤entry_count, entry_count≤six, take-entry_bytes, length-entry_bytes}
+use Rattle.escape_simd.specs.Modes.{mode_numbered}
+use Rattle.escape_simd.specs.Output.{begins_separator, passed, first_replacement}
+use Rattle.escape_simd.specs.Stretch.{Stretch, run_reach}
+use Rattle.escape_simd.proofs.Stretches.{escaped_unit, rest-paste, ended}
+use Rattle.escape_simd.proofs.Escapes.{passed-alone, first-alone, reach-fewest, reach-six, is_script, not_script, third-at}
+use Rattle.escape_simd.proofs.simd.util.escape.Goals.{else-this-ge-SCRIPT_MODE-via-then-this-ge-SCRIPT_MODE+else-is_separator, else-this-ge-SCRIPT_MODE-via-else-this-ge-SCRIPT_MODE}
+use Rattle.escape_simd.proofs.simd.util.escape.Goals as goal
+
+-- the entry of a separator begins with what stands for it
+separator-front : (src : List ℕ) (at third : ℕ) (entry : List ℕ) → begins_separator (drop at src) ≡ true → third ≡ get_or src (at + 2) 0
+    → entry ≡ padded (if third == 0xa8 then codes "\\u2028" else codes "\\u2029")
+    → (length entry ≡ 8) × (take 6 entry ≡ first_replacement script (drop at src))
+separator-front src at third entry begins is e =
+    let same : get_or (drop at src) 2 0 ≡ third = third-at src at ∙ sym is in
+    elim (cases_Bool (third == 0xa8)) [
+      | inl line ↦ let f = rw line at e in (ap length f, ap (take 6) f ∙ sym (rw (begins, same, line) refl))
+      | inr paragraph ↦ let f = rw paragraph at e in (ap length f, ap (take 6) f ∙ sym (rw (begins, same, paragraph) refl))
+    ]
+
+pub returns-then-is_separator-clause-stretch : goal.returns-then-is_separator-clause-stretch
+returns-then-is_separator-clause-stretch g c slack eight =
+    let mode = mode_numbered g.row.MODE in let src : List ℕ = c.args.source.now.text.now in let at : ℕ = c.args.at in let e = c.escape.ensures in
+    let third = is_script g.row.MODE c.if-this-ge-SCRIPT_MODE.true in
+    let begins : begins_separator (drop at src) ≡ true = sym c.is_separator.ensures ∙ c.if-is_separator.true in
+    let f = separator-front src at c.byte.result c.separator_entry.result.now begins c.byte.ensures c.separator_entry.ensures in
+    let three : passed mode (drop at src) ≡ 3 = ap (λ m. passed m (drop at src)) third ∙ rw begins refl in
+    let step : at + passed mode (drop at src) ≡ at + 3 = ap (λ k. at + k) three in
+    ended (escaped_unit mode src c.args.target.now c.escape.new.self at c.args.to c.separator_entry.result.now c.requires.inside c.requires.needed 6 slack eight e.same_slice e.bytes c.requires.room f.0 (omega arith)
+    (f.1 ∙ sym (ap (λ m. first_replacement m (drop at src)) third)) e.escaped e.quotes) step refl
+
+pub returns-then-is_separator-clause-kept : goal.returns-then-is_separator-clause-kept
+returns-then-is_separator-clause-kept g c =
+    let six = reach-six (mode_numbered g.row.MODE) in let e = c.escape.ensures in
+    let begins : begins_separator (drop c.args.at c.args.source.now.text.now) ≡ true = sym c.is_separator.ensures ∙ c.if-is_separator.true in
+    let f = separator-front c.args.source.now.text.now c.args.at c.byte.result c.separator_entry.result.now begins c.byte.ensures c.separator_entry.ensures in
+    ap (drop (c.args.to + 6 + run_reach (mode_numbered g.row.MODE))) e.bytes
+    ∙ rest-paste (bytes_of c.args.target.now) c.separator_entry.result.now c.args.to 8 (c.args.to + 6 + run_reach (mode_numbered g.row.MODE)) c.requires.room (omega (arith, f)) (omega (arith, six))
+
+pub returns-clause-stretch : goal.returns-clause-stretch
+returns-clause-stretch g c slack eight =
+    let mode = mode_numbered g.row.MODE in let src : List ℕ = c.args.source.now.text.now in let at : ℕ = c.args.at in let e = c.escape-2.ensures in
+    let b : ℕ = get_or src at 0 in
+    let entry = c.entry-entry in
+    let six = entry_count≤six mode b c.requires.needed in
+    let none : mode ≡ script → begins_separator (drop at src) ≡ false =
+    elim c.else-this-ge-SCRIPT_MODE.branch [
+      | else-this-ge-SCRIPT_MODE-via-then-this-ge-SCRIPT_MODE+else-is_separator w ↦ λ e. sym w.is_separator.ensures ∙ w.if-is_separator.false
+      | else-this-ge-SCRIPT_MODE-via-else-this-ge-SCRIPT_MODE w ↦ λ e. absurd (not_script g.row.MODE w.if-this-ge-SCRIPT_MODE.false e)
+    ] in
+    let one = passed-alone mode src at none in
+    let count : entry.result.now.0 ≡ entry_count mode b = c.entry-entry.ensures.count ∙ ap (entry_count mode) c.byte-2.ensures in
+    let bytes : entry.result.now.1 ≡ entry_bytes mode b = c.entry-entry.ensures.bytes ∙ ap (entry_bytes mode) c.byte-2.ensures in
+    let step : at + passed mode (drop at src) ≡ at + 1 = ap (λ k. at + k) one in
+    ended (escaped_unit mode src c.args.target.now c.escape-2.new.self at c.args.to entry.result.now.1 c.requires.inside c.requires.needed entry.result.now.0 slack eight e.same_slice e.bytes c.requires.room (ap length bytes ∙ length-entry_bytes mode b) (omega (arith, count, six))
+    (ap (λ k. take k entry.result.now.1) count ∙ ap (take (entry_count mode b)) bytes ∙ take-entry_bytes mode b c.requires.needed ∙ sym (first-alone mode src at none)) e.escaped e.quotes) step refl
+
+pub returns-clause-kept : goal.returns-clause-kept
+returns-clause-kept g c =
+    let mode = mode_numbered g.row.MODE in let b : ℕ = get_or c.args.source.now.text.now c.args.at 0 in let e = c.escape-2.ensures in
+    let some = fewest≤entry_count mode b c.requires.needed in let reach = reach-fewest mode in
+    let count : c.entry-entry.result.now.0 ≡ entry_count mode b = c.entry-entry.ensures.count ∙ ap (entry_count mode) c.byte-2.ensures in
+    let bytes : c.entry-entry.result.now.1 ≡ entry_bytes mode b = c.entry-entry.ensures.bytes ∙ ap (entry_bytes mode) c.byte-2.ensures in
+    let long = ap length bytes ∙ length-entry_bytes mode b in
+    ap (drop (c.args.to + c.entry-entry.result.now.0 + run_reach mode)) e.bytes
+    ∙ rest-paste (bytes_of c.args.target.now) c.entry-entry.result.now.1 c.args.to 8 (c.args.to + c.entry-entry.result.now.0 + run_reach mode) c.requires.room (omega (arith, long)) (omega (arith, some, reach, count))

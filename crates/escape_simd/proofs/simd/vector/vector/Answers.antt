@@ -1,0 +1,42 @@
+use Rattle.std.proofs.Common.{◌≡◌, ℕ, ◌+◌, ◌-◌, ◌<◌, ◌≤◌, Bool, false, not, nat_eq, List, length, sym, ap, ◌∙◌, arith}
+use denote.Param.{number, value_of}
+use Rattle.escape_simd.specs.Modes.{mode_numbered}
+use Rattle.escape_simd.specs.Stretch.{rest_length}
+use Rattle.escape_simd.proofs.Stretches.{onward, stored_ahead, rest-bounds}
+use Rattle.escape_simd.proofs.Lanes.{stored-low}
+use Rattle.escape_simd.proofs.simd.vector.vector.Goals as goal
+
+pub store-requires : goal.store-requires
+store-requires g c =
+    let exact = not (nat_eq (value_of (number g.row.EXACT)) 0) in
+    let src : List ℕ = c.args.source.now.text.now in let p = c.requires.place in
+    let r = rest-bounds (mode_numbered g.row.MODE) src c.args.from in
+    let low = stored-low exact g.row.N (c.args.at + c.args.taken - c.args.from) (rest_length (mode_numbered g.row.MODE) src c.args.from) (length src - (c.args.at + c.args.taken)) 32 (omega (arith, p.few, p.after)) (omega (arith, r, p.inside, p.before)) c.requires.narrow in (
+      omega arith,
+      (
+        record {
+          few = omega (arith, p.few, p.after);
+          inside = omega (arith, p.inside, p.before);
+          room = omega (arith, low, p.room);
+        },
+        c.requires.loaded,
+      ),
+    )
+
+pub returns-then-at-taken-clause-stretch : goal.returns-then-at-taken-clause-stretch
+returns-then-at-taken-clause-stretch g c slack eight narrow =
+    let exact = not (nat_eq (value_of (number g.row.EXACT)) 0) in
+    let mode = mode_numbered g.row.MODE in let src : List ℕ = c.args.source.now.text.now in let p = c.requires.place in
+    let r = rest-bounds mode src c.args.from in
+    let low = stored-low exact g.row.N (c.args.at + c.args.taken - c.args.from) (rest_length mode src c.args.from) (length src - (c.args.at + c.args.taken)) slack (omega (arith, p.few, p.after)) (omega (arith, r, p.inside, p.before)) narrow in
+    onward (stored_ahead mode slack exact src c.args.target.now c.store.new.target c.args.from (c.args.at + c.args.taken - c.args.from) c.args.to c.store.ensures (omega (arith, p.inside, p.before)) low)
+    (c.pass_to_run-next.ensures.stretch slack eight)
+
+pub returns-clause-stretch : goal.returns-clause-stretch
+returns-clause-stretch g c slack eight narrow =
+    let exact = not (nat_eq (value_of (number g.row.EXACT)) 0) in
+    let mode = mode_numbered g.row.MODE in let src : List ℕ = c.args.source.now.text.now in let p = c.requires.place in
+    let r = rest-bounds mode src c.args.from in
+    let low = stored-low exact g.row.N (c.args.at + c.args.taken - c.args.from) (rest_length mode src c.args.from) (length src - (c.args.at + c.args.taken)) slack (omega (arith, p.few, p.after)) (omega (arith, r, p.inside, p.before)) narrow in
+    onward (onward (stored_ahead mode slack exact src c.args.target.now c.store.new.target c.args.from (c.args.at + c.args.taken - c.args.from) c.args.to c.store.ensures (omega (arith, p.inside, p.before)) low)
+    (c.pass_to_run-next.ensures.stretch slack eight)) (c.turns.ensures.stretch slack eight narrow)

@@ -5,57 +5,40 @@ ghost use Rattle.escape_lanes.specs.Replacement.{needs_escape};
 ghost use Rattle.escape_lanes.specs.Written.{bytes_of, stored_of};
 ghost use Rattle.escape_simd.specs.Modes.{mode_numbered};
 ghost use Rattle.escape_simd.specs.Runs.{run_count};
-ghost use Rattle.escape_simd.specs.Stretch.{Stretch, Paid, Passed, room_from};
+ghost use Rattle.escape_simd.specs.Stretch.{Stretch, HoldsFlags, Paid, Passed, room_from};
 
-use crate::simd::classify::{SCRIPT_MODE, Vector, store};
+use crate::simd::classify::{Vector, store};
 use crate::simd::source::Source;
 use crate::simd::vector::vector;
 use escape_lanes::simd::target::{Target, Ticks};
-use escape_lanes::simd::{BitMask, Flags};
+use escape_lanes::simd::Flags;
 
-/// The vector of the text at `at`, with its flags, from `from` on: what came before may have passed
-/// some of its bytes. Answers the places reached.
+/// The vector of the text at `at`, which has the flags of the mask, from `from` on: what came before may
+/// have passed some of its bytes. Answers the places reached.
 #[inline(always)]
 fn flagged_vector<V: Vector<N>, const MODE: u8, const N: usize>(
-    source: &Source<'_>,
+    src: &[u8],
     at: usize,
     from: usize,
     target: &mut Target<'_, N>,
     to: usize,
-    v: &V,
-    flags: &V::Flags,
+    mask: &<V::Flags as Flags>::BitMask,
     ticks: &mut Ticks,
 ) -> (usize, usize)
-    requires whole { source.now.base ≡ 0 }
-    requires all { length source.now.bytes.now ≡ length source.now.text.now }
-    requires inside { at + N + N ≤ length source.now.text.now }
-    requires passed { Passed (mode_numbered MODE) source.now.text.now at from }
-    requires loaded { take N (V.lanes v.now) ≡ take N (drop at source.now.text.now) }
-    requires flagged { V.Flags.truths flags.now
-        ≡ map (needs_escape (mode_numbered MODE)) (V.lanes v.now) }
-    requires room { to + room_from (mode_numbered MODE) source.now.text.now from ≤ length (bytes_of target.old) }
-    ensures stretch { Stretch (mode_numbered MODE) 8 source.now.text.now
+    requires inside { at + N + N ≤ length src.now }
+    requires passed { Passed (mode_numbered MODE) src.now at from }
+    requires flagged { HoldsFlags (mode_numbered MODE) src.now at N at (V.Flags.BitMask.bits mask.now) }
+    requires room { to + room_from (mode_numbered MODE) src.now from ≤ length (bytes_of target.old) }
+    ensures stretch { Stretch (mode_numbered MODE) 8 src.now
         target.old target.new from result.0 to result.1 }
-    ensures passed { Passed (mode_numbered MODE) source.now.text.now (at + N) result.0 }
-    ensures stored { stored_of target.new + run_count (mode_numbered MODE) (drop result.0 source.now.text.now)
-        ≤ stored_of target.old + run_count (mode_numbered MODE) (drop from source.now.text.now) + 1 }
+    ensures passed { Passed (mode_numbered MODE) src.now (at + N) result.0 }
+    ensures stored { stored_of target.new + run_count (mode_numbered MODE) (drop result.0 src.now)
+        ≤ stored_of target.old + run_count (mode_numbered MODE) (drop from src.now) + 1 }
     ensures classified { ticks.new + stored_of target.old + 1 ≡ ticks.old + stored_of target.new }
 {
-    if MODE < SCRIPT_MODE {
-        return vector::<V, MODE, N, false>(
-            source,
-            at,
-            N,
-            at,
-            target,
-            to,
-            v,
-            &flags.bitmask(),
-            ticks,
-        );
-    }
-    let w = V::load(source, from);
-    vector::<V, MODE, N, false>(source, at, N, from, target, to, &w, &flags.bitmask(), ticks)
+    let source = Source::whole(src);
+    let v = V::load(&source, from);
+    vector::<V, MODE, N, false>(&source, at, N, from, target, to, &v, mask, ticks)
 }
 
 /// Stores a vector of clean bytes.
@@ -80,6 +63,66 @@ pub(crate) fn pass<V: Vector<N>, const MODE: u8, const N: usize>(
     store::<V, N>(v, src, at, N, false, target, to);
 }
 
+/// The vector of the text at `at`, which has the flags of the mask. Answers the places reached.
+///
+/// A function of its own, as the next one is, so that clean bytes are passed with no stack frame.
+#[inline(never)]
+fn vector_with_runs<V: Vector<N>, const MODE: u8, const N: usize>(
+    src: &[u8],
+    at: usize,
+    target: &mut Target<'_, N>,
+    to: usize,
+    mask: &<V::Flags as Flags>::BitMask,
+    ticks: &mut Ticks,
+) -> (usize, usize)
+    requires inside { at + N + N ≤ length src.now }
+    requires flagged { HoldsFlags (mode_numbered MODE) src.now at N at (V.Flags.BitMask.bits mask.now) }
+    requires room { to + room_from (mode_numbered MODE) src.now at ≤ length (bytes_of target.old) }
+    ensures stretch { Stretch (mode_numbered MODE) 8 src.now target.old target.new at result.0 to result.1 }
+    ensures passed { Passed (mode_numbered MODE) src.now (at + N) result.0 }
+    ensures stored { stored_of target.new + run_count (mode_numbered MODE) (drop result.0 src.now)
+        ≤ stored_of target.old + run_count (mode_numbered MODE) (drop at src.now) + 1 }
+    ensures classified { ticks.new + stored_of target.old + 1 ≡ ticks.old + stored_of target.new }
+{
+    flagged_vector::<V, MODE, N>(src, at, at, target, to, mask, ticks)
+}
+
+/// The four vectors of the text from `at` on, which have the flags of the masks. Answers the places
+/// reached.
+#[inline(never)]
+fn four_with_runs<V: Vector<N>, const MODE: u8, const N: usize>(
+    src: &[u8],
+    at: usize,
+    target: &mut Target<'_, N>,
+    to: usize,
+    mask1: &<V::Flags as Flags>::BitMask,
+    mask2: &<V::Flags as Flags>::BitMask,
+    mask3: &<V::Flags as Flags>::BitMask,
+    mask4: &<V::Flags as Flags>::BitMask,
+    ticks: &mut Ticks,
+) -> (usize, usize)
+    requires inside { at + 5 * N ≤ length src.now }
+    requires flagged1 { HoldsFlags (mode_numbered MODE) src.now at N at (V.Flags.BitMask.bits mask1.now) }
+    requires flagged2 { HoldsFlags (mode_numbered MODE) src.now (at + N) N (at + N)
+        (V.Flags.BitMask.bits mask2.now) }
+    requires flagged3 { HoldsFlags (mode_numbered MODE) src.now (at + 2 * N) N (at + 2 * N)
+        (V.Flags.BitMask.bits mask3.now) }
+    requires flagged4 { HoldsFlags (mode_numbered MODE) src.now (at + 3 * N) N (at + 3 * N)
+        (V.Flags.BitMask.bits mask4.now) }
+    requires room { to + room_from (mode_numbered MODE) src.now at ≤ length (bytes_of target.old) }
+    ensures stretch { Stretch (mode_numbered MODE) 8 src.now target.old target.new at result.0 to result.1 }
+    ensures passed { Passed (mode_numbered MODE) src.now (at + 4 * N) result.0 }
+    ensures stored { stored_of target.new + run_count (mode_numbered MODE) (drop result.0 src.now)
+        ≤ stored_of target.old + run_count (mode_numbered MODE) (drop at src.now) + 4 }
+    ensures classified { ticks.new + stored_of target.old + 4 ≡ ticks.old + stored_of target.new }
+{
+    let (second, third, fourth) = (at + N, at + 2 * N, at + 3 * N);
+    let (from, end) = flagged_vector::<V, MODE, N>(src, at, at, target, to, mask1, ticks);
+    let (from, end) = flagged_vector::<V, MODE, N>(src, second, from, target, end, mask2, ticks);
+    let (from, end) = flagged_vector::<V, MODE, N>(src, third, from, target, end, mask3, ticks);
+    flagged_vector::<V, MODE, N>(src, fourth, from, target, end, mask4, ticks)
+}
+
 /// One vector of the text. Answers the places reached.
 #[inline(always)]
 pub(crate) fn whole_vector<V: Vector<N>, const MODE: u8, const N: usize>(
@@ -101,7 +144,12 @@ pub(crate) fn whole_vector<V: Vector<N>, const MODE: u8, const N: usize>(
 {
     let v = V::load(source, at);
     let flags = v.flags(MODE, ticks);
-    flagged_vector::<V, MODE, N>(source, at, at, target, to, &v, &flags, ticks)
+    if !flags.none() {
+        let mask = flags.bitmask();
+        return vector_with_runs::<V, MODE, N>(source.text, at, target, to, &mask, ticks);
+    }
+    pass::<V, MODE, N>(source.text, at, target, to, &v);
+    (at + N, to + N)
 }
 
 /// Four vectors of the text, classified at once, since most are clean. Answers the places reached.
@@ -132,19 +180,22 @@ pub(crate) fn chunk<V: Vector<N>, const MODE: u8, const N: usize>(
     let flags2 = v2.flags(MODE, ticks);
     let flags3 = v3.flags(MODE, ticks);
     let flags4 = v4.flags(MODE, ticks);
-    if flags1.join(&flags2).join(&flags3.join(&flags4)).none() {
-        pass::<V, MODE, N>(source.text, at, target, to, &v1);
-        pass::<V, MODE, N>(source.text, second, target, to + N, &v2);
-        pass::<V, MODE, N>(source.text, third, target, to + 2 * N, &v3);
-        pass::<V, MODE, N>(source.text, fourth, target, to + 3 * N, &v4);
-        return (at + 4 * N, to + 4 * N);
+    if !flags1.join(&flags2).join(&flags3.join(&flags4)).none() {
+        return four_with_runs::<V, MODE, N>(
+            source.text,
+            at,
+            target,
+            to,
+            &flags1.bitmask(),
+            &flags2.bitmask(),
+            &flags3.bitmask(),
+            &flags4.bitmask(),
+            ticks,
+        );
     }
-    let (from, end) = flagged_vector::<V, MODE, N>(source, at, at, target, to, &v1, &flags1, ticks);
-    let (from, end) = flagged_vector::<V, MODE, N>(
-        source, second, from, target, end, &v2, &flags2, ticks,
-    );
-    let (from, end) = flagged_vector::<V, MODE, N>(
-        source, third, from, target, end, &v3, &flags3, ticks,
-    );
-    flagged_vector::<V, MODE, N>(source, fourth, from, target, end, &v4, &flags4, ticks)
+    pass::<V, MODE, N>(source.text, at, target, to, &v1);
+    pass::<V, MODE, N>(source.text, second, target, to + N, &v2);
+    pass::<V, MODE, N>(source.text, third, target, to + 2 * N, &v3);
+    pass::<V, MODE, N>(source.text, fourth, target, to + 3 * N, &v4);
+    (at + 4 * N, to + 4 * N)
 }

@@ -5,12 +5,12 @@ ghost use Rattle.escape_lanes.specs.Replacement.{needs_escape};
 ghost use Rattle.escape_lanes.specs.Written.{bytes_of, stored_of};
 ghost use Rattle.escape_simd.specs.Modes.{mode_numbered};
 ghost use Rattle.escape_simd.specs.Runs.{run_count};
-ghost use Rattle.escape_simd.specs.Stretch.{Stretch, Passed, room_from, rest_slack};
+ghost use Rattle.escape_simd.specs.Stretch.{Stretch, HoldsFlags, Passed, room_from, rest_slack};
 
 use crate::simd::chunk::pass;
-use crate::simd::classify::{SCRIPT_MODE, Vector, store};
+use crate::simd::classify::{Vector, store};
 use crate::simd::source::Source;
-use crate::simd::vector::vector;
+use crate::simd::vector::{vector, vector_with_runs};
 use escape_lanes::simd::target::{Target, Ticks};
 use escape_lanes::simd::{BitMask, Flags};
 
@@ -37,14 +37,17 @@ fn last_vector<V: Vector<N>, const MODE: u8, const N: usize, const EXACT: bool>(
     let left = src.len() - at;
     let v = V::load_last(src, left);
     let mask = v.flags(MODE, ticks).bitmask().clear_high_bits(N - left);
-    if mask.all_zero() {
-        store::<V, N>(&v, src, at, left, EXACT, target, to);
-        return to + left;
+    if !mask.all_zero() {
+        let mut held = [[0u8; N]; 3];
+        v.put(&mut held[0]);
+        let source = Source::padded(src, at, held.as_flattened());
+        return vector_with_runs::<V, MODE, N, EXACT>(
+            &source, at, left, at, target, to, &mask, ticks,
+        )
+        .1;
     }
-    let mut held = [[0u8; N]; 3];
-    v.put(&mut held[0]);
-    let source = Source::padded(src, at, held.as_flattened());
-    vector::<V, MODE, N, EXACT>(&source, at, left, at, target, to, &v, &mask, ticks).1
+    store::<V, N>(&v, src, at, left, EXACT, target, to);
+    to + left
 }
 
 /// The last of two vectors, which holds the text's `left` last bytes, from `from` on: what came before
@@ -76,31 +79,25 @@ fn second_vector<V: Vector<N>, const MODE: u8, const N: usize, const EXACT: bool
     ensures classified { ticks.new + stored_of target.old ≡ ticks.old + stored_of target.new }
 {
     let mask = v.flags(MODE, ticks).bitmask().clear_high_bits(N - left);
-    if MODE < SCRIPT_MODE {
-        return vector::<V, MODE, N, EXACT>(source, at, left, at, target, to, v, &mask, ticks).1;
-    }
     let w = V::load(source, from);
     vector::<V, MODE, N, EXACT>(source, at, left, from, target, to, &w, &mask, ticks).1
 }
 
-/// The text's last bytes, as many as a vector has or more, of which the vector `v` holds the first:
-/// it has flags. They are put into memory with zeros after them.
-#[inline(always)]
+/// The text's last bytes, as many as a vector has or more, of which the mask has the flags of the
+/// first vector. They are put into memory with zeros after them.
+#[inline(never)]
 fn last_two<V: Vector<N>, const MODE: u8, const N: usize, const EXACT: bool>(
     src: &[u8],
     at: usize,
     target: &mut Target<'_, N>,
     to: usize,
-    v: &V,
-    flags: &V::Flags,
+    mask: &<V::Flags as Flags>::BitMask,
     ticks: &mut Ticks,
 ) -> usize
     requires some { at + N ≤ length src.now }
     requires few { length src.now < at + 2 * N }
     requires narrow { EXACT ≡ false → N ≤ 32 }
-    requires loaded { take N (V.lanes v.now) ≡ take N (drop at src.now) }
-    requires flagged { V.Flags.truths flags.now
-        ≡ map (needs_escape (mode_numbered MODE)) (V.lanes v.now) }
+    requires flagged { HoldsFlags (mode_numbered MODE) src.now at N at (V.Flags.BitMask.bits mask.now) }
     requires room { to + room_from (mode_numbered MODE) src.now at ≤ length (bytes_of target.old) }
     ensures stretch { Stretch (mode_numbered MODE) (rest_slack EXACT N) src.now
         target.old target.new at (length src.now) to result }
@@ -111,13 +108,13 @@ fn last_two<V: Vector<N>, const MODE: u8, const N: usize, const EXACT: bool>(
 {
     let second = at + N;
     let left = src.len() - second;
+    let v = V::load(&Source::whole(src), at);
     let w = V::load_last(src, left);
     let mut held = [[0u8; N]; 3];
     v.put(&mut held[0]);
     w.put(&mut held[1]);
     let source = Source::padded(src, at, held.as_flattened());
-    let mask = flags.bitmask();
-    let (from, end) = vector::<V, MODE, N, EXACT>(&source, at, N, at, target, to, v, &mask, ticks);
+    let (from, end) = vector::<V, MODE, N, EXACT>(&source, at, N, at, target, to, &v, mask, ticks);
     if src.len() <= from {
         return end;
     }
@@ -154,7 +151,7 @@ pub(crate) fn rest<V: Vector<N>, const MODE: u8, const N: usize, const EXACT: bo
     let v = V::load(&Source::whole(src), at);
     let flags = v.flags(MODE, ticks);
     if !flags.none() {
-        return last_two::<V, MODE, N, EXACT>(src, at, target, to, &v, &flags, ticks);
+        return last_two::<V, MODE, N, EXACT>(src, at, target, to, &flags.bitmask(), ticks);
     }
     pass::<V, MODE, N>(src, at, target, to, &v);
     if left == N {

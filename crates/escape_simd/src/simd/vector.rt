@@ -172,3 +172,36 @@ pub(crate) fn vector<V: Vector<N>, const MODE: u8, const N: usize, const EXACT: 
     }
     turns::<V, _, MODE, N, EXACT>(source, at, taken, next, target, end, mask, ticks)
 }
+
+/// As [`vector`], in a function of its own: what calls it passes clean bytes with no stack frame.
+#[inline(never)]
+pub(crate) fn vector_with_runs<V: Vector<N>, const MODE: u8, const N: usize, const EXACT: bool>(
+    source: &Source<'_>,
+    at: usize,
+    taken: usize,
+    from: usize,
+    target: &mut Target<'_, N>,
+    to: usize,
+    mask: &<V::Flags as Flags>::BitMask,
+    ticks: &mut Ticks,
+) -> (usize, usize)
+    requires place { IsVectorAt (mode_numbered MODE) N source.now.text.now source.now.base
+        (source.now.base + length source.now.bytes.now)
+        at taken from to (length (bytes_of target.old)) (V.Flags.BitMask.bits mask.now) }
+    requires narrow { EXACT ≡ false → N ≤ length source.now.text.now - (at + taken) + 32 }
+    requires cleared { (k : ℕ)
+        → slice_index_or (V.Flags.BitMask.bits mask.now) k false ≡ true
+        → from ≤ at + k }
+    ensures stretch { (slack : ℕ)
+        → 8 ≤ slack
+        → (EXACT ≡ false → N ≤ length source.now.text.now - (at + taken) + slack)
+        → Stretch (mode_numbered MODE) slack source.now.text.now
+        target.old target.new from result.0 to result.1 }
+    ensures passed { Passed (mode_numbered MODE) source.now.text.now (at + taken) result.0 }
+    ensures stored { stored_of target.new + run_count (mode_numbered MODE) (drop result.0 source.now.text.now)
+        ≤ stored_of target.old + run_count (mode_numbered MODE) (drop from source.now.text.now) + 1 }
+    ensures classified { ticks.new + stored_of target.old + 1 ≡ ticks.old + stored_of target.new }
+{
+    let v = V::load(source, from);
+    vector::<V, MODE, N, EXACT>(source, at, taken, from, target, to, &v, mask, ticks)
+}

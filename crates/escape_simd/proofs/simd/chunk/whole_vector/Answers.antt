@@ -1,14 +1,56 @@
-use Rattle.std.proofs.Common.{◌≡◌, ℕ, ◌+◌, ◌-◌, ◌*◌, ◌/◌, ◌<◌, ◌≤◌, length, arith, refl}
+use Rattle.std.proofs.Common.{◌≡◌, ℕ, ◌+◌, ◌-◌, ◌*◌, ◌/◌, ◌<◌, ◌≤◌, List, length, take, drop, map, sym, ap, ◌∙◌, arith, refl}
+use Rattle.escape_lanes.specs.Bits.{none_set}
+use Rattle.escape_lanes.specs.Replacement.{needs_escape}
 use Rattle.escape_simd.specs.Modes.{mode_numbered}
 use Rattle.escape_simd.proofs.Costs.{vectors-least}
+use Rattle.escape_simd.proofs.Stretches.{rest-bounds}
+use Rattle.escape_simd.proofs.Lanes.{held-cut, clear_none}
 use Rattle.escape_simd.proofs.simd.chunk.whole_vector.Goals as goal
+
+pub vector_with_runs-requires : goal.vector_with_runs-requires
+vector_with_runs-requires g c =
+    let mode = mode_numbered g.row.MODE in let src : List ℕ = c.args.source.now.text.now in let n : ℕ = g.row.N in let r = c.requires in
+    let lanes : List ℕ = g.V.Vector.lanes c.load-v.result in let bits = g.V.Flags.BitMask.BitMask.bits c.bitmask-mask.result in (
+      omega arith,
+      (
+        omega (arith, r.inside),
+        (
+          held-cut mode src lanes c.args.at n n c.args.at (g.met.V.Vector.width c.load-v.result) (omega arith) (omega (arith, r.inside)) (c.load-v.ensures n (omega arith) (omega (arith, r.inside))) bits
+          (c.bitmask-mask.ensures ∙ c.flags-flags.ensures.lanes ∙ clear_none (map (needs_escape mode) lanes) n),
+          r.room,
+        ),
+      ),
+    )
+
+pub pass-requires : goal.pass-requires
+pass-requires g c =
+    let r = rest-bounds (mode_numbered g.row.MODE) c.args.source.now.text.now c.args.at in (
+      omega arith,
+      (
+        omega (arith, c.requires.inside),
+        (
+          c.load-v.ensures g.row.N (omega arith) (omega (arith, c.requires.inside)),
+          (ap none_set (sym c.flags-flags.ensures.lanes) ∙ sym c.none.ensures ∙ c.if-not-none.false, omega (arith, r, c.requires.room, c.requires.inside)),
+        ),
+      ),
+    )
+
+pub returns-then-not-none-clause-paid : goal.returns-then-not-none-clause-paid
+returns-then-not-none-clause-paid g c =
+    let several = g.met.V.Vector.several in
+    let e = c.vector_with_runs.ensures in
+    let v = vectors-least g.row.N (omega (arith, several)) 1 (c.vector_with_runs.result.0 - c.args.at) (omega (arith, e.passed.whole)) in
+    record {
+      stored = omega (arith, e.stored, v);
+      classified = omega (arith, e.classified, c.flags-flags.ensures.tick);
+    }
 
 pub returns-clause-paid : goal.returns-clause-paid
 returns-clause-paid g c =
     let several = g.met.V.Vector.several in
-    let e = c.flagged_vector.ensures in
-    let v = vectors-least g.row.N (omega (arith, several)) 1 (c.flagged_vector.result.0 - c.args.at) (omega (arith, e.passed.whole)) in
+    let e = c.pass.ensures in
+    let v = vectors-least g.row.N (omega (arith, several)) 1 (c.args.at + g.row.N - c.args.at) (omega arith) in
     record {
-      stored = omega (arith, e.stored, v);
-      classified = omega (arith, e.classified, c.flags-flags.ensures.tick);
+      stored = omega (arith, e.stored, e.no_run, v);
+      classified = omega (arith, e.stored, c.flags-flags.ensures.tick);
     }

@@ -1,13 +1,11 @@
 use Rattle.std.proofs.Common.{◌≡◌, ℕ, ◌+◌, ◌-◌, ◌*◌, ◌/◌, ◌<◌, ◌≤◌, [], ◌++◌, Bool, true, false, not, nat_eq, List, length, take, drop, map, get_or, replicate, refl, sym, ap, ap₂, subst, ◌∙◌, arith}
 use Rattle.std.proofs.lemmas.List.{append-nil, drop_all, length-replicate, get_or-take, get_or-drop}
 use denote.Param.{number, value_of}
-use Rattle.escape_lanes.specs.Replacement.{needs_escape}
 use Rattle.escape_lanes.specs.Written.{bytes_of, stored_of}
 use Rattle.escape_simd.specs.Modes.{mode_numbered}
 use Rattle.escape_simd.specs.Runs.{run_count}
 use Rattle.escape_simd.specs.Stretch.{Stretch, IsVectorAt, Passed, rest_length, rest_slack}
 use Rattle.escape_simd.proofs.Stretches.{onward, ended}
-use Rattle.escape_simd.proofs.Lanes.{held-cut, clear_none}
 use Rattle.escape_simd.proofs.Costs.{vectors-least}
 use Rattle.escape_simd.proofs.RestLemmas.{zeros, last-loaded, last-lane, held-then, held-zeros, zeros-once, rest-narrow, rest-slack-some}
 use Rattle.escape_simd.proofs.simd.rest.last_two.Goals as goal
@@ -27,21 +25,28 @@ as_flattened-requires g c = let few = g.met.V.Vector.few in (omega (arith, few),
 pub padded-source-requires : goal.padded-source-requires
 padded-source-requires g c =
     let src : List ℕ = c.args.src.now in let at : ℕ = c.args.at in let n : ℕ = g.row.N in let r = c.requires in
-    let lanes : List ℕ = g.V.Vector.lanes c.args.v.now in let last : List ℕ = g.V.Vector.lanes c.load_last-w.result in
+    let lanes : List ℕ = g.V.Vector.lanes c.load-v.result in let last : List ℕ = g.V.Vector.lanes c.load_last-w.result in
+    let loaded = c.load-v.ensures n (omega arith) (omega (arith, ap length c.whole.ensures.text, r.some)) ∙ ap (λ xs. take n (drop at xs)) c.whole.ensures.text in
     let blank = length-replicate {A = ℕ} n 0 in
     let first : c.put.new.bytes ≡ lanes = c.put.ensures ∙ ap (λ xs. lanes ++ xs) (drop_all n (zeros n) (omega (arith, blank))) ∙ append-nil lanes in
     let second : c.put-2.new.bytes ≡ last = c.put-2.ensures ∙ ap (λ xs. last ++ xs) (drop_all n (zeros n) (omega (arith, blank))) ∙ append-nil last in
-    let whole : (i : ℕ) → i < n → get_or lanes i 0 ≡ get_or src (at + i) 0 = λ i b. sym (get_or-take n lanes i 0 b) ∙ ap (λ xs. get_or xs i 0) r.loaded ∙ get_or-take n (drop at src) i 0 b ∙ get_or-drop at src i 0 in
+    let whole : (i : ℕ) → i < n → get_or lanes i 0 ≡ get_or src (at + i) 0 = λ i b. sym (get_or-take n lanes i 0 b) ∙ ap (λ xs. get_or xs i 0) loaded ∙ get_or-take n (drop at src) i 0 b ∙ get_or-drop at src i 0 in
     λ k h.
     ap (λ xs. get_or xs k 0) (c.as_flattened.ensures.value ∙ ap₂ (λ xs ys. xs ++ (ys ++ (zeros n ++ []))) first second)
-    ∙ held-then src lanes (last ++ (zeros n ++ [])) at n (g.met.V.Vector.width c.args.v.now) whole
+    ∙ held-then src lanes (last ++ (zeros n ++ [])) at n (g.met.V.Vector.width c.load-v.result) whole
     (held-then src last (zeros n ++ []) (at + n) n (g.met.V.Vector.width c.load_last-w.result) (λ i b. last-lane src last n (at + n) r.some (omega (arith, r.few)) c.load_last-w.ensures i)
     (held-zeros src (zeros n ++ []) (at + n + n) (omega (arith, r.few)) (zeros-once n))) k
+
+pub load-v-requires : goal.load-v-requires
+load-v-requires g c =
+    let w = c.whole.ensures in let b = ap length w.bytes in
+    record { after = omega (arith, w.base); held = omega (arith, w.base, b, c.requires.some) }
 
 pub vector-from-requires : goal.vector-from-requires
 vector-from-requires g c =
     let mode = mode_numbered g.row.MODE in let src : List ℕ = c.args.src.now in let at : ℕ = c.args.at in let n : ℕ = g.row.N in let r = c.requires in
-    let lanes : List ℕ = g.V.Vector.lanes c.args.v.now in let bits = g.V.Flags.BitMask.BitMask.bits c.bitmask-mask.result in
+    let lanes : List ℕ = g.V.Vector.lanes c.load-v.result in let loaded = c.load-v.ensures n (omega arith) (omega (arith, ap length c.whole.ensures.text, r.some)) ∙ ap (λ xs. take n (drop at xs)) c.whole.ensures.text in
+    let bits = g.V.Flags.BitMask.BitMask.bits c.args.mask.now in
     let w = c.padded-source.ensures in let b = ap length w.bytes in let t = ap length w.text in
     let l = c.as_flattened.ensures.len in
     let several = g.met.V.Vector.several in
@@ -49,8 +54,8 @@ vector-from-requires g c =
       omega arith,
       (
         subst (λ xs. IsVectorAt mode n xs c.padded-source.result.base (c.padded-source.result.base + length c.padded-source.result.bytes.now) at n at c.args.to (length (bytes_of c.args.target.now)) bits) (sym w.text) (record {
-          count = g.met.V.Flags.BitMask.BitMask.count c.bitmask-mask.result ∙ g.met.V.Vector.flag_width;
-          flags = held-cut mode src lanes at n n at (g.met.V.Vector.width c.args.v.now) (omega arith) r.some r.loaded bits (c.bitmask-mask.ensures ∙ r.flagged ∙ clear_none (map (needs_escape mode) lanes) n);
+          count = g.met.V.Flags.BitMask.BitMask.count c.args.mask.now ∙ g.met.V.Vector.flag_width;
+          flags = r.flagged;
           few = omega arith;
           inside = r.some;
           after = omega arith;
@@ -59,7 +64,7 @@ vector-from-requires g c =
           held = omega (arith, w.base, b, l);
           room = r.room;
         }),
-        (λ e. omega (arith, r.narrow e), (λ k s. omega arith, subst (λ k. take k lanes ≡ take k (drop at c.padded-source.result.text.now)) (sym all) (r.loaded ∙ ap (λ xs. take n (drop at xs)) (sym w.text)))),
+        (λ e. omega (arith, r.narrow e), (λ k s. omega arith, subst (λ k. take k lanes ≡ take k (drop at c.padded-source.result.text.now)) (sym all) (loaded ∙ ap (λ xs. take n (drop at xs)) (sym w.text)))),
       ),
     )
 

@@ -49,8 +49,8 @@ shared_whole_as_slice-as_flattened g c = let few = g.met.V.Vector.few in omega (
 pub as_flattened-requires : goal.as_flattened-requires
 as_flattened-requires g c = let few = g.met.V.Vector.few in (omega (arith, few), λ e. absurd (omega (arith, e)))
 
-pub vector-requires : goal.vector-requires
-vector-requires g c =
+pub vector_with_runs-requires : goal.vector_with_runs-requires
+vector_with_runs-requires g c =
     let exact = not (nat_eq (value_of (number g.row.EXACT)) 0) in
     let mode = mode_numbered g.row.MODE in let src : List ℕ = c.args.src.now in let at : ℕ = c.args.at in let n : ℕ = g.row.N in let r = c.requires in
     let lanes : List ℕ = g.V.Vector.lanes c.load_last-v.result in let bits = g.V.Flags.BitMask.BitMask.bits c.clear_high_bits-mask.result in
@@ -74,12 +74,23 @@ vector-requires g c =
           held = omega (arith, w.base, b, l);
           room = r.room;
         }),
-        (λ e. omega (arith, r.narrow e), (λ k s. omega arith, subst (λ k. take k lanes ≡ take k (drop at c.padded-source.result.text.now)) (sym all) (loaded ∙ ap (λ xs. take (length src - at) (drop at xs)) (sym w.text)))),
+        (λ e. omega (arith, r.narrow e), λ k s. omega arith),
       ),
     )
 
-pub returns-then-all_zero-clause-stretch : goal.returns-then-all_zero-clause-stretch
-returns-then-all_zero-clause-stretch g c =
+pub returns-then-not-all_zero-clause-stretch : goal.returns-then-not-all_zero-clause-stretch
+returns-then-not-all_zero-clause-stretch g c =
+    let exact = not (nat_eq (value_of (number g.row.EXACT)) 0) in
+    let mode = mode_numbered g.row.MODE in let src : List ℕ = c.args.src.now in let n : ℕ = g.row.N in
+    let w = c.padded-source.ensures in
+    let s = subst (λ xs. Stretch {N = n} mode (rest_slack exact n) xs c.args.target.now c.vector_with_runs.new.target c.args.at c.vector_with_runs.result.0 c.args.to c.vector_with_runs.result.1) w.text
+    (c.vector_with_runs.ensures.stretch (rest_slack exact n) (rest-slack-some exact n g.met.V.Vector.several) (λ e. rest-narrow exact n _ e)) in
+    let p = c.vector_with_runs.ensures.passed.whole in
+    let end : c.vector_with_runs.result.0 ≡ length src = omega (arith, p, s.inside, c.requires.some) in
+    ended s end refl
+
+pub returns-clause-stretch : goal.returns-clause-stretch
+returns-clause-stretch g c =
     let exact = not (nat_eq (value_of (number g.row.EXACT)) 0) in
     let mode = mode_numbered g.row.MODE in let src : List ℕ = c.args.src.now in let at : ℕ = c.args.at in let n : ℕ = g.row.N in let r = c.requires in
     let lanes : List ℕ = g.V.Vector.lanes c.load_last-v.result in let bits = g.V.Flags.BitMask.BitMask.bits c.clear_high_bits-mask.result in
@@ -87,20 +98,9 @@ returns-then-all_zero-clause-stretch g c =
     let is : bits ≡ clear_last (n - (length src - at)) (map (needs_escape mode) lanes) = c.clear_high_bits-mask.ensures ∙ ap (clear_last (n - (length src - at))) (c.bitmask.ensures ∙ c.flags.ensures.lanes) in
     let flags = held-cut mode src lanes at n (length src - at) at (g.met.V.Vector.width c.load_last-v.result) (omega (arith, r.few)) (omega (arith, r.some)) loaded bits is in
     let all : at + (length src - at) - at ≡ length src - at = omega arith in
-    let clean = subst (λ k. IsClean mode (take k (drop at src))) all (held-none mode src at (length src - at) at bits flags (omega arith) (omega (arith, r.some)) (sym c.all_zero.ensures ∙ c.if-all_zero.true)) in
+    let clean = subst (λ k. IsClean mode (take k (drop at src))) all (held-none mode src at (length src - at) at bits flags (omega arith) (omega (arith, r.some)) (sym c.all_zero.ensures ∙ c.if-not-all_zero.false)) in
     let long = rest-bounds mode src at in
     let low = stored-low exact n (length src - at) (rest_length mode src at) 0 (rest_slack exact n) (omega (arith, r.few)) (omega (arith, long)) (rest-narrow exact n 0) in
     let whole : at + (length src - at) ≡ length src = omega (arith, r.some) in
     ended (onward (stored_ahead mode (rest_slack exact n) exact src c.args.target.now c.store.new.target at (length src - at) c.args.to c.store.ensures (omega (arith, r.some)) low)
     (clean_ahead mode (rest_slack exact n) src c.store.new.target at c.args.to (length src - at) (length src - at) c.store.ensures.ahead (omega arith) (omega (arith, r.some)) clean)) whole refl
-
-pub returns-clause-stretch : goal.returns-clause-stretch
-returns-clause-stretch g c =
-    let exact = not (nat_eq (value_of (number g.row.EXACT)) 0) in
-    let mode = mode_numbered g.row.MODE in let src : List ℕ = c.args.src.now in let n : ℕ = g.row.N in
-    let w = c.padded-source.ensures in
-    let s = subst (λ xs. Stretch {N = n} mode (rest_slack exact n) xs c.args.target.now c.vector.new.target c.args.at c.vector.result.0 c.args.to c.vector.result.1) w.text
-    (c.vector.ensures.stretch (rest_slack exact n) (rest-slack-some exact n g.met.V.Vector.several) (λ e. rest-narrow exact n _ e)) in
-    let p = c.vector.ensures.passed.whole in
-    let end : c.vector.result.0 ≡ length src = omega (arith, p, s.inside, c.requires.some) in
-    ended s end refl

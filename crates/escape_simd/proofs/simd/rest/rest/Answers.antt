@@ -1,11 +1,13 @@
-use Rattle.std.proofs.Common.{◌≡◌, ℕ, ◌+◌, ◌-◌, ◌*◌, ◌/◌, ◌<◌, ◌≤◌, Bool, true, false, not, nat_eq, List, length, take, drop, refl, sym, ap, subst, ◌∙◌, arith}
+use Rattle.std.proofs.Common.{◌≡◌, ℕ, ◌+◌, ◌-◌, ◌*◌, ◌/◌, ◌<◌, ◌≤◌, Bool, true, false, not, nat_eq, List, length, take, drop, map, refl, sym, ap, subst, ◌∙◌, arith}
 use denote.Param.{number, value_of}
 use Rattle.escape_lanes.specs.Bits.{none_set}
+use Rattle.escape_lanes.specs.Replacement.{needs_escape}
 use Rattle.escape_simd.specs.Modes.{mode_numbered}
 use Rattle.escape_simd.specs.Runs.{run_count}
 use Rattle.escape_simd.specs.Stretch.{Stretch, rest_slack}
 use Rattle.escape_simd.proofs.Stretches.{standing, onward, ended, widened, rest-bounds}
 use Rattle.escape_simd.proofs.Costs.{vectors-least}
+use Rattle.escape_simd.proofs.Lanes.{held-cut, clear_none}
 use Rattle.escape_simd.proofs.RestLemmas.{rest-slack-some}
 use Rattle.escape_simd.proofs.simd.rest.rest.Goals as goal
 
@@ -22,6 +24,8 @@ load-v-requires g c =
 
 pub last_two-requires : goal.last_two-requires
 last_two-requires g c =
+    let mode = mode_numbered g.row.MODE in let src : List ℕ = c.args.src.now in let n : ℕ = g.row.N in
+    let lanes : List ℕ = g.V.Vector.lanes c.load-v.result in
     let w = c.whole.ensures in let t = ap length w.text in (
       omega arith,
       (
@@ -30,7 +34,12 @@ last_two-requires g c =
           c.requires.few,
           (
             c.requires.narrow,
-            (c.load-v.ensures g.row.N (omega arith) (omega (arith, t, c.if-left.false, c.requires.inside)) ∙ ap (λ xs. take g.row.N (drop c.args.at xs)) w.text, (c.flags-flags.ensures.lanes, c.requires.room)),
+            (
+              held-cut mode src lanes c.args.at n n c.args.at (g.met.V.Vector.width c.load-v.result) (omega arith) (omega (arith, c.if-left.false, c.requires.inside))
+              (c.load-v.ensures n (omega arith) (omega (arith, t, c.if-left.false, c.requires.inside)) ∙ ap (λ xs. take n (drop c.args.at xs)) w.text) (g.V.Flags.BitMask.BitMask.bits c.bitmask.result)
+              (c.bitmask.ensures ∙ c.flags-flags.ensures.lanes ∙ clear_none (map (needs_escape mode) lanes) n),
+              c.requires.room,
+            ),
           ),
         ),
       ),

@@ -12,46 +12,6 @@ use Rattle.escape_simd.proofs.simd.rest.second_vector.Goals as goal
 
 pub vector-requires : goal.vector-requires
 vector-requires g c =
-    let mode = mode_numbered g.row.MODE in let src : List ℕ = c.args.source.now.text.now in let at : ℕ = c.args.at in let left : ℕ = c.args.left in let n : ℕ = g.row.N in let r = c.requires in
-    let lanes : List ℕ = g.V.Vector.lanes c.args.v.now in let bits = g.V.Flags.BitMask.BitMask.bits c.clear_high_bits-mask.result in
-    let is : bits ≡ clear_last (n - left) (map (needs_escape mode) lanes) = c.clear_high_bits-mask.ensures ∙ ap (clear_last (n - left)) (c.bitmask.ensures ∙ c.flags.ensures.lanes) in
-    let same = r.passed.exact (bytewise-below g.row.MODE c.if-this-lt-SCRIPT_MODE.true) in
-    let rest = ap (rest_length mode src) same in
-    let all : at + left - at ≡ left = omega arith in (
-      omega arith,
-      (
-        record {
-          count = g.met.V.Flags.BitMask.BitMask.count c.clear_high_bits-mask.result ∙ g.met.V.Vector.flag_width;
-          flags = held-cut mode src lanes at n left at (g.met.V.Vector.width c.args.v.now) (omega (arith, r.few)) (omega (arith, r.all)) r.loaded bits is;
-          few = omega (arith, r.few);
-          inside = omega (arith, r.all);
-          after = omega arith;
-          before = omega (arith, r.some, same);
-          base = r.base;
-          held = r.held;
-          room = omega (arith, r.room, rest);
-        },
-        (λ e. omega (arith, r.narrow e), (λ k s. omega arith, subst (λ k. take k lanes ≡ take k (drop at src)) (sym all) r.loaded)),
-      ),
-    )
-
-pub returns-then-this-lt-SCRIPT_MODE-clause-stretch : goal.returns-then-this-lt-SCRIPT_MODE-clause-stretch
-returns-then-this-lt-SCRIPT_MODE-clause-stretch g c =
-    let exact = not (nat_eq (value_of (number g.row.EXACT)) 0) in
-    let mode = mode_numbered g.row.MODE in let src : List ℕ = c.args.source.now.text.now in let n : ℕ = g.row.N in
-    let same = c.requires.passed.exact (bytewise-below g.row.MODE c.if-this-lt-SCRIPT_MODE.true) in
-    let s = c.vector.ensures.stretch (rest_slack exact n) (rest-slack-some exact n g.met.V.Vector.several) (λ e. rest-narrow exact n _ e) in
-    let p = c.vector.ensures.passed.whole in
-    let end : c.vector.result.0 ≡ length src = omega (arith, p, s.inside, c.requires.all) in
-    subst (λ k. Stretch {N = n} mode (rest_slack exact n) src c.args.target.now c.vector.new.target k (length src) c.args.to c.vector.result.1) (sym same) (ended s end refl)
-
-pub returns-then-this-lt-SCRIPT_MODE-clause-stored : goal.returns-then-this-lt-SCRIPT_MODE-clause-stored
-returns-then-this-lt-SCRIPT_MODE-clause-stored g c =
-    let same = c.requires.passed.exact (bytewise-below g.row.MODE c.if-this-lt-SCRIPT_MODE.true) in
-    rw same (let s = c.vector.ensures.stored in omega (arith, s))
-
-pub vector-requires-2 : goal.vector-requires-2
-vector-requires-2 g c =
     let mode = mode_numbered g.row.MODE in let src : List ℕ = c.args.source.now.text.now in let at : ℕ = c.args.at in let left : ℕ = c.args.left in let from : ℕ = c.args.from in let n : ℕ = g.row.N in let r = c.requires in
     let lanes : List ℕ = g.V.Vector.lanes c.args.v.now in let bits = g.V.Flags.BitMask.BitMask.bits c.clear_high_bits-mask.result in
     let is : bits ≡ clear_last (n - left) (map (needs_escape mode) lanes) = c.clear_high_bits-mask.ensures ∙ ap (clear_last (n - left)) (c.bitmask.ensures ∙ c.flags.ensures.lanes) in
@@ -77,7 +37,7 @@ pub returns-clause-stretch : goal.returns-clause-stretch
 returns-clause-stretch g c =
     let exact = not (nat_eq (value_of (number g.row.EXACT)) 0) in
     let n : ℕ = g.row.N in
-    let s = c.vector-2.ensures.stretch (rest_slack exact n) (rest-slack-some exact n g.met.V.Vector.several) (λ e. rest-narrow exact n _ e) in
-    let p = c.vector-2.ensures.passed.whole in
-    let end : c.vector-2.result.0 ≡ length c.args.source.now.text.now = omega (arith, p, s.inside, c.requires.all) in
+    let s = c.vector.ensures.stretch (rest_slack exact n) (rest-slack-some exact n g.met.V.Vector.several) (λ e. rest-narrow exact n _ e) in
+    let p = c.vector.ensures.passed.whole in
+    let end : c.vector.result.0 ≡ length c.args.source.now.text.now = omega (arith, p, s.inside, c.requires.all) in
     ended s end refl

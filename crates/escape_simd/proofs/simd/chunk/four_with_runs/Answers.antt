@@ -1,0 +1,7 @@
+use Rattle.std.proofs.Common.{◌≡◌, ℕ, ◌+◌, ◌-◌, ◌*◌, ◌≤◌, length, arith}
+use Rattle.escape_simd.proofs.simd.chunk.four_with_runs.Goals as goal
+
+pub returns-clause-stored : goal.returns-clause-stored
+returns-clause-stored g c =
+    let a = c.flagged_vector-from.ensures in let b = c.flagged_vector-from-2.ensures in let d = c.flagged_vector-from-3.ensures in let e = c.flagged_vector.ensures in
+    omega (arith, a.stored, b.stored, d.stored, e.stored)

@@ -17,11 +17,11 @@ use crate::simd::rest::rest;
 use crate::simd::source::Source;
 use escape_lanes::simd::target::{Target, Ticks};
 
-/// Escapes the bytes to the target from `to` on, and answers the place reached.
+/// As [`escape_bytes`], for as many bytes as two vectors have or more.
 ///
 /// `CHUNK` is 4 where four vectors are classified at once, and 1 where none are.
-#[inline(always)]
-pub(crate) fn escape_bytes<
+#[inline(never)]
+fn escape_many<
     V: Vector<N>,
     const MODE: u8,
     const N: usize,
@@ -50,6 +50,32 @@ pub(crate) fn escape_bytes<
         end = reached;
     }
     rest::<V, MODE, N, EXACT>(src, at, target, end, ticks)
+}
+
+/// Escapes the bytes to the target from `to` on, and answers the place reached.
+///
+/// `CHUNK` is 4 where four vectors are classified at once, and 1 where none are. A short text waits
+/// for no loop's stack frame.
+#[inline(always)]
+pub(crate) fn escape_bytes<
+    V: Vector<N>,
+    const MODE: u8,
+    const N: usize,
+    const CHUNK: usize,
+    const EXACT: bool,
+>(src: &[u8], target: &mut Target<'_, N>, to: usize, ticks: &mut Ticks) -> usize
+    requires narrow { EXACT ≡ false → N ≤ 32 }
+    requires room { to + room_from (mode_numbered MODE) src.now 0 ≤ length (bytes_of target.old) }
+    ensures stretch { Stretch (mode_numbered MODE) (rest_slack EXACT N) src.now
+        target.old target.new 0 (length src.now) to result }
+    ensures stored { stored_of target.new
+        ≤ stored_of target.old + run_count (mode_numbered MODE) src.now + length src.now / N + 1 }
+    ensures classified { ticks.new + stored_of target.old ≡ ticks.old + stored_of target.new }
+{
+    if src.len() < 2 * N {
+        return rest::<V, MODE, N, EXACT>(src, 0, target, to, ticks);
+    }
+    escape_many::<V, MODE, N, CHUNK, EXACT>(src, target, to, ticks)
 }
 
 /// Escapes the bytes to `dst` from `to` on, with no quotation marks, and answers the place reached.

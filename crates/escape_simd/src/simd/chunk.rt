@@ -22,12 +22,12 @@ fn flagged_vector<V: Vector<N>, const MODE: u8, const N: usize>(
     from: usize,
     target: &mut Target<'_, N>,
     to: usize,
-    mask: &<V::Flags as Flags>::BitMask,
+    mask: <V::Flags as Flags>::BitMask,
     ticks: &mut Ticks,
 ) -> (usize, usize)
     requires inside { at + N + N ≤ length src.now }
     requires passed { Passed (mode_numbered MODE) src.now at from }
-    requires flagged { HoldsFlags (mode_numbered MODE) src.now at N at (V.Flags.BitMask.bits mask.now) }
+    requires flagged { HoldsFlags (mode_numbered MODE) src.now at N at (V.Flags.BitMask.bits mask) }
     requires room { to + room_from (mode_numbered MODE) src.now from ≤ length (bytes_of target.old) }
     ensures stretch { Stretch (mode_numbered MODE) 8 src.now
         target.old target.new from result.0 to result.1 }
@@ -38,7 +38,7 @@ fn flagged_vector<V: Vector<N>, const MODE: u8, const N: usize>(
 {
     let source = Source::whole(src);
     let v = V::load(&source, from);
-    vector::<V, MODE, N, false>(&source, at, N, from, target, to, &v, mask, ticks)
+    vector::<V, MODE, N, false>(&source, at, N, from, target, to, &v, &mask, ticks)
 }
 
 /// Stores a vector of clean bytes.
@@ -66,17 +66,17 @@ pub(crate) fn pass<V: Vector<N>, const MODE: u8, const N: usize>(
 /// The vector of the text at `at`, which has the flags of the mask. Answers the places reached.
 ///
 /// A function of its own, as the next one is, so that clean bytes are passed with no stack frame.
-#[inline(never)]
+#[inline(always)]
 fn vector_with_runs<V: Vector<N>, const MODE: u8, const N: usize>(
     src: &[u8],
     at: usize,
     target: &mut Target<'_, N>,
     to: usize,
-    mask: &<V::Flags as Flags>::BitMask,
+    mask: <V::Flags as Flags>::BitMask,
     ticks: &mut Ticks,
 ) -> (usize, usize)
     requires inside { at + N + N ≤ length src.now }
-    requires flagged { HoldsFlags (mode_numbered MODE) src.now at N at (V.Flags.BitMask.bits mask.now) }
+    requires flagged { HoldsFlags (mode_numbered MODE) src.now at N at (V.Flags.BitMask.bits mask) }
     requires room { to + room_from (mode_numbered MODE) src.now at ≤ length (bytes_of target.old) }
     ensures stretch { Stretch (mode_numbered MODE) 8 src.now target.old target.new at result.0 to result.1 }
     ensures passed { Passed (mode_numbered MODE) src.now (at + N) result.0 }
@@ -89,26 +89,26 @@ fn vector_with_runs<V: Vector<N>, const MODE: u8, const N: usize>(
 
 /// The four vectors of the text from `at` on, which have the flags of the masks. Answers the places
 /// reached.
-#[inline(never)]
+#[inline(always)]
 fn four_with_runs<V: Vector<N>, const MODE: u8, const N: usize>(
     src: &[u8],
     at: usize,
     target: &mut Target<'_, N>,
     to: usize,
-    mask1: &<V::Flags as Flags>::BitMask,
-    mask2: &<V::Flags as Flags>::BitMask,
-    mask3: &<V::Flags as Flags>::BitMask,
-    mask4: &<V::Flags as Flags>::BitMask,
+    mask1: <V::Flags as Flags>::BitMask,
+    mask2: <V::Flags as Flags>::BitMask,
+    mask3: <V::Flags as Flags>::BitMask,
+    mask4: <V::Flags as Flags>::BitMask,
     ticks: &mut Ticks,
 ) -> (usize, usize)
     requires inside { at + 5 * N ≤ length src.now }
-    requires flagged1 { HoldsFlags (mode_numbered MODE) src.now at N at (V.Flags.BitMask.bits mask1.now) }
+    requires flagged1 { HoldsFlags (mode_numbered MODE) src.now at N at (V.Flags.BitMask.bits mask1) }
     requires flagged2 { HoldsFlags (mode_numbered MODE) src.now (at + N) N (at + N)
-        (V.Flags.BitMask.bits mask2.now) }
+        (V.Flags.BitMask.bits mask2) }
     requires flagged3 { HoldsFlags (mode_numbered MODE) src.now (at + 2 * N) N (at + 2 * N)
-        (V.Flags.BitMask.bits mask3.now) }
+        (V.Flags.BitMask.bits mask3) }
     requires flagged4 { HoldsFlags (mode_numbered MODE) src.now (at + 3 * N) N (at + 3 * N)
-        (V.Flags.BitMask.bits mask4.now) }
+        (V.Flags.BitMask.bits mask4) }
     requires room { to + room_from (mode_numbered MODE) src.now at ≤ length (bytes_of target.old) }
     ensures stretch { Stretch (mode_numbered MODE) 8 src.now target.old target.new at result.0 to result.1 }
     ensures passed { Passed (mode_numbered MODE) src.now (at + 4 * N) result.0 }
@@ -146,7 +146,7 @@ pub(crate) fn whole_vector<V: Vector<N>, const MODE: u8, const N: usize>(
     let flags = v.flags(MODE, ticks);
     if !flags.none() {
         let mask = flags.bitmask();
-        return vector_with_runs::<V, MODE, N>(source.text, at, target, to, &mask, ticks);
+        return vector_with_runs::<V, MODE, N>(source.text, at, target, to, mask, ticks);
     }
     pass::<V, MODE, N>(source.text, at, target, to, &v);
     (at + N, to + N)
@@ -186,10 +186,10 @@ pub(crate) fn chunk<V: Vector<N>, const MODE: u8, const N: usize>(
             at,
             target,
             to,
-            &flags1.bitmask(),
-            &flags2.bitmask(),
-            &flags3.bitmask(),
-            &flags4.bitmask(),
+            flags1.bitmask(),
+            flags2.bitmask(),
+            flags3.bitmask(),
+            flags4.bitmask(),
             ticks,
         );
     }

@@ -42,7 +42,7 @@ fn last_vector<V: Vector<N>, const MODE: u8, const N: usize, const EXACT: bool>(
         v.put(&mut held[0]);
         let source = Source::padded(src, at, held.as_flattened());
         return vector_with_runs::<V, MODE, N, EXACT>(
-            &source, at, left, at, target, to, &mask, ticks,
+            &source, at, left, at, target, to, mask, ticks,
         )
         .1;
     }
@@ -91,13 +91,13 @@ fn last_two<V: Vector<N>, const MODE: u8, const N: usize, const EXACT: bool>(
     at: usize,
     target: &mut Target<'_, N>,
     to: usize,
-    mask: &<V::Flags as Flags>::BitMask,
+    mask: <V::Flags as Flags>::BitMask,
     ticks: &mut Ticks,
 ) -> usize
     requires some { at + N ≤ length src.now }
     requires few { length src.now < at + 2 * N }
     requires narrow { EXACT ≡ false → N ≤ 32 }
-    requires flagged { HoldsFlags (mode_numbered MODE) src.now at N at (V.Flags.BitMask.bits mask.now) }
+    requires flagged { HoldsFlags (mode_numbered MODE) src.now at N at (V.Flags.BitMask.bits mask) }
     requires room { to + room_from (mode_numbered MODE) src.now at ≤ length (bytes_of target.old) }
     ensures stretch { Stretch (mode_numbered MODE) (rest_slack EXACT N) src.now
         target.old target.new at (length src.now) to result }
@@ -114,7 +114,7 @@ fn last_two<V: Vector<N>, const MODE: u8, const N: usize, const EXACT: bool>(
     v.put(&mut held[0]);
     w.put(&mut held[1]);
     let source = Source::padded(src, at, held.as_flattened());
-    let (from, end) = vector::<V, MODE, N, EXACT>(&source, at, N, at, target, to, &v, mask, ticks);
+    let (from, end) = vector::<V, MODE, N, EXACT>(&source, at, N, at, target, to, &v, &mask, ticks);
     if src.len() <= from {
         return end;
     }
@@ -141,21 +141,20 @@ pub(crate) fn rest<V: Vector<N>, const MODE: u8, const N: usize, const EXACT: bo
         + (length src.now - at) / N + 1 }
     ensures classified { ticks.new + stored_of target.old ≡ ticks.old + stored_of target.new }
 {
-    let left = src.len() - at;
-    if left == 0 {
-        return to;
+    let mut at = at;
+    let mut end = to;
+    if N <= src.len() - at {
+        let v = V::load(&Source::whole(src), at);
+        let flags = v.flags(MODE, ticks);
+        if !flags.none() {
+            return last_two::<V, MODE, N, EXACT>(src, at, target, to, flags.bitmask(), ticks);
+        }
+        pass::<V, MODE, N>(src, at, target, to, &v);
+        at += N;
+        end += N;
     }
-    if left < N {
-        return last_vector::<V, MODE, N, EXACT>(src, at, target, to, ticks);
+    if at == src.len() {
+        return end;
     }
-    let v = V::load(&Source::whole(src), at);
-    let flags = v.flags(MODE, ticks);
-    if !flags.none() {
-        return last_two::<V, MODE, N, EXACT>(src, at, target, to, &flags.bitmask(), ticks);
-    }
-    pass::<V, MODE, N>(src, at, target, to, &v);
-    if left == N {
-        return to + N;
-    }
-    last_vector::<V, MODE, N, EXACT>(src, at + N, target, to + N, ticks)
+    last_vector::<V, MODE, N, EXACT>(src, at, target, end, ticks)
 }

@@ -62,6 +62,7 @@ impl Vector<16> for Simd128u {
 ///
 /// A text of n bytes needs a target of at least 6n + 35 bytes in JSON, and 6n + 32 in HTML. No byte
 /// from that place on changes, and none that is 16 or more past the last one written.
+#[inline(never)]
 pub fn format_target<const HTML: bool>(
     value: &str,
     target: &mut Target<'_, 16>,
@@ -81,6 +82,7 @@ pub fn format_target<const HTML: bool>(
 /// sse2::format_string::<true>("<", &mut dst) == 4
 /// dst.starts_with(b"&lt;")
 /// ```
+#[inline(never)]
 pub fn format_string<const HTML: bool>(value: &str, dst: &mut [u8]) -> usize
     requires { bound (mode_of HTML) (length value.now) ≤ length dst.old }
     ensures written { IsWritten 16 (mode_of HTML) value.now dst.old dst.new result }
@@ -95,6 +97,7 @@ pub fn format_string<const HTML: bool>(value: &str, dst: &mut [u8]) -> usize
 ///
 /// A text of n bytes needs a target of at least 6n + 35 bytes. No byte from that place on changes, and
 /// none that is 16 or more past the last one written.
+#[inline(never)]
 pub fn format_script_target(value: &str, target: &mut Target<'_, 16>, ticks: &mut Ticks) -> usize
     requires { bound script (length value.now) ≤ length (bytes_of target.old) }
     ensures { IsFormatted script value.now
@@ -110,6 +113,7 @@ pub fn format_script_target(value: &str, target: &mut Target<'_, 16>, ticks: &mu
 /// sse2::format_script_string("<", &mut dst) == 8
 /// dst.starts_with(b"\"\\u003c\"")
 /// ```
+#[inline(never)]
 pub fn format_script_string(value: &str, dst: &mut [u8]) -> usize
     requires { bound script (length value.now) ≤ length dst.old }
     ensures written { IsWritten 16 script value.now dst.old dst.new result }

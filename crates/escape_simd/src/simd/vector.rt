@@ -182,15 +182,15 @@ pub(crate) fn vector_with_runs<V: Vector<N>, const MODE: u8, const N: usize, con
     from: usize,
     target: &mut Target<'_, N>,
     to: usize,
-    mask: &<V::Flags as Flags>::BitMask,
+    mask: <V::Flags as Flags>::BitMask,
     ticks: &mut Ticks,
 ) -> (usize, usize)
     requires place { IsVectorAt (mode_numbered MODE) N source.now.text.now source.now.base
         (source.now.base + length source.now.bytes.now)
-        at taken from to (length (bytes_of target.old)) (V.Flags.BitMask.bits mask.now) }
+        at taken from to (length (bytes_of target.old)) (V.Flags.BitMask.bits mask) }
     requires narrow { EXACT ≡ false → N ≤ length source.now.text.now - (at + taken) + 32 }
     requires cleared { (k : ℕ)
-        → slice_index_or (V.Flags.BitMask.bits mask.now) k false ≡ true
+        → slice_index_or (V.Flags.BitMask.bits mask) k false ≡ true
         → from ≤ at + k }
     ensures stretch { (slack : ℕ)
         → 8 ≤ slack
@@ -203,5 +203,5 @@ pub(crate) fn vector_with_runs<V: Vector<N>, const MODE: u8, const N: usize, con
     ensures classified { ticks.new + stored_of target.old + 1 ≡ ticks.old + stored_of target.new }
 {
     let v = V::load(source, from);
-    vector::<V, MODE, N, EXACT>(source, at, taken, from, target, to, &v, mask, ticks)
+    vector::<V, MODE, N, EXACT>(source, at, taken, from, target, to, &v, &mask, ticks)
 }

@@ -17,13 +17,13 @@ load-v-requires g c =
 pub vector-requires : goal.vector-requires
 vector-requires g c =
     let mode = mode_numbered g.row.MODE in let src : List ℕ = c.args.src.now in let at : ℕ = c.args.at in let from : ℕ = c.args.from in let n : ℕ = g.row.N in let r = c.requires in
-    let bits = g.V.Flags.BitMask.BitMask.bits c.args.mask.now in
+    let bits = g.V.Flags.BitMask.BitMask.bits c.args.mask in
     let w = c.whole-source.ensures in let b = ap length w.bytes in let t = ap length w.text in
     let several = g.met.V.Vector.several in (
       omega arith,
       (
         subst (λ xs. IsVectorAt mode n xs c.whole-source.result.base (c.whole-source.result.base + length c.whole-source.result.bytes.now) at n from c.args.to (length (bytes_of c.args.target.now)) bits) (sym w.text) (record {
-          count = g.met.V.Flags.BitMask.BitMask.count c.args.mask.now ∙ g.met.V.Vector.flag_width;
+          count = g.met.V.Flags.BitMask.BitMask.count c.args.mask ∙ g.met.V.Vector.flag_width;
           flags = held-further mode src at n at from bits r.flagged r.passed.whole;
           few = omega arith;
           inside = omega (arith, r.inside);

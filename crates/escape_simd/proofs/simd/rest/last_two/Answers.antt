@@ -46,7 +46,7 @@ pub vector-from-requires : goal.vector-from-requires
 vector-from-requires g c =
     let mode = mode_numbered g.row.MODE in let src : List ℕ = c.args.src.now in let at : ℕ = c.args.at in let n : ℕ = g.row.N in let r = c.requires in
     let lanes : List ℕ = g.V.Vector.lanes c.load-v.result in let loaded = c.load-v.ensures n (omega arith) (omega (arith, ap length c.whole.ensures.text, r.some)) ∙ ap (λ xs. take n (drop at xs)) c.whole.ensures.text in
-    let bits = g.V.Flags.BitMask.BitMask.bits c.args.mask.now in
+    let bits = g.V.Flags.BitMask.BitMask.bits c.args.mask in
     let w = c.padded-source.ensures in let b = ap length w.bytes in let t = ap length w.text in
     let l = c.as_flattened.ensures.len in
     let several = g.met.V.Vector.several in
@@ -54,7 +54,7 @@ vector-from-requires g c =
       omega arith,
       (
         subst (λ xs. IsVectorAt mode n xs c.padded-source.result.base (c.padded-source.result.base + length c.padded-source.result.bytes.now) at n at c.args.to (length (bytes_of c.args.target.now)) bits) (sym w.text) (record {
-          count = g.met.V.Flags.BitMask.BitMask.count c.args.mask.now ∙ g.met.V.Vector.flag_width;
+          count = g.met.V.Flags.BitMask.BitMask.count c.args.mask ∙ g.met.V.Vector.flag_width;
           flags = r.flagged;
           few = omega arith;
           inside = r.some;

@@ -5,6 +5,8 @@ pub mod avx512;
 mod body;
 mod chunk;
 mod classify;
+mod few;
+mod flagged;
 pub mod neon;
 mod rest;
 mod source;

@@ -13,11 +13,12 @@ ghost use Rattle.escape_simd.specs.Stretch.{Stretch, room_from, rest_slack};
 
 use crate::simd::chunk::{chunk, whole_vector};
 use crate::simd::classify::{HTML_MODE, JSON_MODE, Vector};
+use crate::simd::few::escape_few;
 use crate::simd::rest::rest;
 use crate::simd::source::Source;
 use escape_lanes::simd::target::{Target, Ticks};
 
-/// As [`escape_bytes`], for as many bytes as two vectors have or more.
+/// As [`escape_bytes`], for many bytes.
 ///
 /// `CHUNK` is 4 where four vectors are classified at once, and 1 where none are.
 #[inline(never)]
@@ -45,7 +46,7 @@ fn escape_many<
         end = reached;
     }
     'vectors: while 2 * N <= src.len() - at {
-        let (next, reached) = whole_vector::<V, MODE, N>(&source, at, target, end, ticks);
+        let (next, reached) = whole_vector::<V, MODE, N, false>(&source, at, target, end, ticks);
         at = next;
         end = reached;
     }
@@ -72,8 +73,8 @@ pub(crate) fn escape_bytes<
         ≤ stored_of target.old + run_count (mode_numbered MODE) src.now + length src.now / N + 1 }
     ensures classified { ticks.new + stored_of target.old ≡ ticks.old + stored_of target.new }
 {
-    if src.len() < 2 * N {
-        return rest::<V, MODE, N, EXACT>(src, 0, target, to, ticks);
+    if src.len() < 3 * N {
+        return escape_few::<V, MODE, N, EXACT>(src, target, to, ticks);
     }
     escape_many::<V, MODE, N, CHUNK, EXACT>(src, target, to, ticks)
 }

@@ -10,14 +10,14 @@ ghost use Rattle.escape_simd.specs.Stretch.{Stretch, HoldsFlags, Passed, room_fr
 use crate::simd::chunk::pass;
 use crate::simd::classify::{Vector, store};
 use crate::simd::source::Source;
-use crate::simd::vector::{vector, vector_with_runs};
+use crate::simd::vector::{vector, vector_apart};
 use escape_lanes::simd::target::{Target, Ticks};
 use escape_lanes::simd::{BitMask, Flags};
 
 /// The text's last bytes, fewer than a vector has: where one needs an escape they are put into
 /// memory with zeros after them, so that vectors can be loaded from any of them on.
 #[inline(always)]
-fn last_vector<V: Vector<N>, const MODE: u8, const N: usize, const EXACT: bool>(
+pub(crate) fn last_vector<V: Vector<N>, const MODE: u8, const N: usize, const EXACT: bool>(
     src: &[u8],
     at: usize,
     target: &mut Target<'_, N>,
@@ -41,7 +41,7 @@ fn last_vector<V: Vector<N>, const MODE: u8, const N: usize, const EXACT: bool>(
         let mut held = [[0u8; N]; 3];
         v.put(&mut held[0]);
         let source = Source::padded(src, at, held.as_flattened());
-        return vector_with_runs::<V, MODE, N, EXACT>(
+        return vector_apart::<V, MODE, N, EXACT>(
             &source, at, left, at, target, to, mask, ticks,
         )
         .1;
@@ -85,6 +85,7 @@ fn second_vector<V: Vector<N>, const MODE: u8, const N: usize, const EXACT: bool
 
 /// The text's last bytes, as many as a vector has or more, of which the mask has the flags of the
 /// first vector. They are put into memory with zeros after them.
+#[cold]
 #[inline(never)]
 fn last_two<V: Vector<N>, const MODE: u8, const N: usize, const EXACT: bool>(
     src: &[u8],

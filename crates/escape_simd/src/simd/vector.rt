@@ -174,8 +174,9 @@ pub(crate) fn vector<V: Vector<N>, const MODE: u8, const N: usize, const EXACT: 
 }
 
 /// As [`vector`], in a function of its own: what calls it passes clean bytes with no stack frame.
+#[cold]
 #[inline(never)]
-pub(crate) fn vector_with_runs<V: Vector<N>, const MODE: u8, const N: usize, const EXACT: bool>(
+pub(crate) fn vector_apart<V: Vector<N>, const MODE: u8, const N: usize, const EXACT: bool>(
     source: &Source<'_>,
     at: usize,
     taken: usize,

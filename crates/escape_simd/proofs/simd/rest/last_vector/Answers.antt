@@ -49,8 +49,8 @@ shared_whole_as_slice-as_flattened g c = let few = g.met.V.Vector.few in omega (
 pub as_flattened-requires : goal.as_flattened-requires
 as_flattened-requires g c = let few = g.met.V.Vector.few in (omega (arith, few), λ e. absurd (omega (arith, e)))
 
-pub vector_with_runs-requires : goal.vector_with_runs-requires
-vector_with_runs-requires g c =
+pub vector_apart-requires : goal.vector_apart-requires
+vector_apart-requires g c =
     let exact = not (nat_eq (value_of (number g.row.EXACT)) 0) in
     let mode = mode_numbered g.row.MODE in let src : List ℕ = c.args.src.now in let at : ℕ = c.args.at in let n : ℕ = g.row.N in let r = c.requires in
     let lanes : List ℕ = g.V.Vector.lanes c.load_last-v.result in let bits = g.V.Flags.BitMask.BitMask.bits c.clear_high_bits-mask.result in
@@ -83,10 +83,10 @@ returns-then-not-all_zero-clause-stretch g c =
     let exact = not (nat_eq (value_of (number g.row.EXACT)) 0) in
     let mode = mode_numbered g.row.MODE in let src : List ℕ = c.args.src.now in let n : ℕ = g.row.N in
     let w = c.padded-source.ensures in
-    let s = subst (λ xs. Stretch {N = n} mode (rest_slack exact n) xs c.args.target.now c.vector_with_runs.new.target c.args.at c.vector_with_runs.result.0 c.args.to c.vector_with_runs.result.1) w.text
-    (c.vector_with_runs.ensures.stretch (rest_slack exact n) (rest-slack-some exact n g.met.V.Vector.several) (λ e. rest-narrow exact n _ e)) in
-    let p = c.vector_with_runs.ensures.passed.whole in
-    let end : c.vector_with_runs.result.0 ≡ length src = omega (arith, p, s.inside, c.requires.some) in
+    let s = subst (λ xs. Stretch {N = n} mode (rest_slack exact n) xs c.args.target.now c.vector_apart.new.target c.args.at c.vector_apart.result.0 c.args.to c.vector_apart.result.1) w.text
+    (c.vector_apart.ensures.stretch (rest_slack exact n) (rest-slack-some exact n g.met.V.Vector.several) (λ e. rest-narrow exact n _ e)) in
+    let p = c.vector_apart.ensures.passed.whole in
+    let end : c.vector_apart.result.0 ≡ length src = omega (arith, p, s.inside, c.requires.some) in
     ended s end refl
 
 pub returns-clause-stretch : goal.returns-clause-stretch

@@ -1,5 +1,5 @@
 use Rattle.std.proofs.Common.{◌≡◌, ℕ, ◌+◌, ◌-◌, ◌≤◌, length, take, drop, arith}
-use Rattle.escape_simd.proofs.simd.vector.vector_with_runs.Goals as goal
+use Rattle.escape_simd.proofs.simd.vector.vector_apart.Goals as goal
 
 pub load-v-requires : goal.load-v-requires
 load-v-requires g c = let p = c.requires.place in record { after = omega (arith, p.base, p.after); held = omega (arith, p.held, p.before, p.few) }

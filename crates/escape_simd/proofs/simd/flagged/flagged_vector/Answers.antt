@@ -4,7 +4,7 @@ use Rattle.escape_simd.specs.Modes.{mode_numbered}
 use Rattle.escape_simd.specs.Runs.{run_count}
 use Rattle.escape_simd.specs.Stretch.{Stretch, IsVectorAt, Passed}
 use Rattle.escape_simd.proofs.Lanes.{held-further, none-before}
-use Rattle.escape_simd.proofs.simd.chunk.flagged_vector.Goals as goal
+use Rattle.escape_simd.proofs.simd.flagged.flagged_vector.Goals as goal
 
 pub load-v-requires : goal.load-v-requires
 load-v-requires g c =

@@ -1,5 +1,5 @@
 use Rattle.std.proofs.Common.{◌≡◌, ℕ, ◌+◌, ◌-◌, ◌*◌, ◌≤◌, length, arith}
-use Rattle.escape_simd.proofs.simd.chunk.four_with_runs.Goals as goal
+use Rattle.escape_simd.proofs.simd.flagged.four_with_runs.Goals as goal
 
 pub returns-clause-stored : goal.returns-clause-stored
 returns-clause-stored g c =

@@ -7,6 +7,7 @@ mod chunk;
 mod classify;
 mod few;
 mod flagged;
+mod many;
 pub mod neon;
 mod rest;
 mod source;

@@ -1,6 +1,5 @@
-//! The body of all kernels: a text's bytes by chunks, by vectors and its last ones, between quotation
-//! marks.
-ghost use Rattle.std.specs.Prelude.{◌≡◌, ◌+◌, ◌-◌, ◌*◌, ◌/◌, ◌<◌, ◌≤◌, ◌++◌, false, length, take, drop, chars};
+//! The body of all kernels: a text's bytes between quotation marks.
+ghost use Rattle.std.specs.Prelude.{◌≡◌, ◌+◌, ◌-◌, ◌*◌, ◌/◌, ◌<◌, ◌≤◌, ◌++◌, false, true, length, take, drop, chars};
 ghost use Rattle.escape_lanes.specs.Mode.{mode_of};
 ghost use Rattle.escape_lanes.specs.Written.{bytes_of, stored_of, escaped_of, quotes_of, IsSameSlice};
 ghost use Rattle.escape_simd.specs.Modes.{mode_numbered};
@@ -11,60 +10,25 @@ ghost use Rattle.escape_simd.specs.Laws.{IsOfOneText};
 ghost use Rattle.escape_simd.specs.Runs.{run_count};
 ghost use Rattle.escape_simd.specs.Stretch.{Stretch, room_from, rest_slack};
 
-use crate::simd::chunk::{chunk, whole_vector};
 use crate::simd::classify::{HTML_MODE, JSON_MODE, Vector};
 use crate::simd::few::escape_few;
-use crate::simd::rest::rest;
-use crate::simd::source::Source;
+use crate::simd::many::escape_many;
 use escape_lanes::simd::target::{Target, Ticks};
-
-/// As [`escape_bytes`], for many bytes.
-///
-/// `CHUNK` is 4 where four vectors are classified at once, and 1 where none are.
-#[inline(never)]
-fn escape_many<
-    V: Vector<N>,
-    const MODE: u8,
-    const N: usize,
-    const CHUNK: usize,
-    const EXACT: bool,
->(src: &[u8], target: &mut Target<'_, N>, to: usize, ticks: &mut Ticks) -> usize
-    requires narrow { EXACT ≡ false → N ≤ 32 }
-    requires room { to + room_from (mode_numbered MODE) src.now 0 ≤ length (bytes_of target.old) }
-    ensures stretch { Stretch (mode_numbered MODE) (rest_slack EXACT N) src.now
-        target.old target.new 0 (length src.now) to result }
-    ensures stored { stored_of target.new
-        ≤ stored_of target.old + run_count (mode_numbered MODE) src.now + length src.now / N + 1 }
-    ensures classified { ticks.new + stored_of target.old ≡ ticks.old + stored_of target.new }
-{
-    let source = Source::whole(src);
-    let mut at = 0;
-    let mut end = to;
-    'chunks: while CHUNK == 4 && 5 * N <= src.len() - at {
-        let (next, reached) = chunk::<V, MODE, N>(&source, at, target, end, ticks);
-        at = next;
-        end = reached;
-    }
-    'vectors: while 2 * N <= src.len() - at {
-        let (next, reached) = whole_vector::<V, MODE, N, false>(&source, at, target, end, ticks);
-        at = next;
-        end = reached;
-    }
-    rest::<V, MODE, N, EXACT>(src, at, target, end, ticks)
-}
 
 /// Escapes the bytes to the target from `to` on, and answers the place reached.
 ///
-/// `CHUNK` is 4 where four vectors are classified at once, and 1 where none are. A short text waits
-/// for no loop's stack frame.
+/// `CHUNK` is 4 where four vectors are classified at once, and 1 where none are. `FEW` says that the
+/// text is short: fewer bytes than three vectors have.
 #[inline(always)]
-pub(crate) fn escape_bytes<
+fn escape_bytes<
     V: Vector<N>,
     const MODE: u8,
     const N: usize,
     const CHUNK: usize,
     const EXACT: bool,
+    const FEW: bool,
 >(src: &[u8], target: &mut Target<'_, N>, to: usize, ticks: &mut Ticks) -> usize
+    requires few { FEW ≡ true → length src.now < 3 * N }
     requires narrow { EXACT ≡ false → N ≤ 32 }
     requires room { to + room_from (mode_numbered MODE) src.now 0 ≤ length (bytes_of target.old) }
     ensures stretch { Stretch (mode_numbered MODE) (rest_slack EXACT N) src.now
@@ -73,7 +37,7 @@ pub(crate) fn escape_bytes<
         ≤ stored_of target.old + run_count (mode_numbered MODE) src.now + length src.now / N + 1 }
     ensures classified { ticks.new + stored_of target.old ≡ ticks.old + stored_of target.new }
 {
-    if src.len() < 3 * N {
+    if FEW {
         return escape_few::<V, MODE, N, EXACT>(src, target, to, ticks);
     }
     escape_many::<V, MODE, N, CHUNK, EXACT>(src, target, to, ticks)
@@ -95,7 +59,7 @@ pub(crate) fn escape_at<
 {
     let mut target = Target::<N>::new(dst);
     let mut ticks = Ticks::new();
-    escape_bytes::<V, MODE, N, CHUNK, EXACT>(src, &mut target, to, &mut ticks)
+    escape_many::<V, MODE, N, CHUNK, EXACT>(src, &mut target, to, &mut ticks)
 }
 
 /// A quotation mark in JSON, also in script mode, nothing in HTML. Answers the place after it.
@@ -119,6 +83,30 @@ fn quote<const MODE: u8, const N: usize>(target: &mut Target<'_, N>, to: usize) 
     to
 }
 
+/// Escapes the text, of few bytes or of any number, to the front of the target, and answers how many
+/// bytes it became.
+#[inline(always)]
+fn quoted<
+    V: Vector<N>,
+    const MODE: u8,
+    const N: usize,
+    const CHUNK: usize,
+    const EXACT: bool,
+    const FEW: bool,
+>(value: &str, target: &mut Target<'_, N>, ticks: &mut Ticks) -> usize
+    requires few { FEW ≡ true → length value.now < 3 * N }
+    requires narrow { EXACT ≡ false → N ≤ 32 }
+    requires room { bound (mode_numbered MODE) (length value.now) ≤ length (bytes_of target.old) }
+    ensures { IsFormatted (mode_numbered MODE) value.now
+        target.old target.new result ticks.old
+        ticks.new }
+{
+    let open = quote::<MODE, N>(target, 0);
+    let bytes = value.as_bytes();
+    let close = escape_bytes::<V, MODE, N, CHUNK, EXACT, FEW>(bytes, target, open, ticks);
+    quote::<MODE, N>(target, close)
+}
+
 /// Escapes the text to the front of the target, and answers how many bytes it became.
 #[inline(always)]
 pub(crate) fn body<
@@ -134,9 +122,10 @@ pub(crate) fn body<
         target.old target.new result ticks.old
         ticks.new }
 {
-    let open = quote::<MODE, N>(target, 0);
-    let close = escape_bytes::<V, MODE, N, CHUNK, EXACT>(value.as_bytes(), target, open, ticks);
-    quote::<MODE, N>(target, close)
+    if value.len() < 3 * N {
+        return quoted::<V, MODE, N, CHUNK, EXACT, true>(value, target, ticks);
+    }
+    quoted::<V, MODE, N, CHUNK, EXACT, false>(value, target, ticks)
 }
 
 /// The body in one of the two modes of the public calls.
@@ -159,6 +148,46 @@ pub(crate) fn format_target<
     body::<V, { JSON_MODE }, N, CHUNK, EXACT>(value, target, ticks)
 }
 
+/// As [`quoted`], with the target made over `dst`.
+#[inline(always)]
+fn quoted_string<
+    V: Vector<N>,
+    const MODE: u8,
+    const N: usize,
+    const CHUNK: usize,
+    const EXACT: bool,
+    const FEW: bool,
+>(value: &str, dst: &mut [u8]) -> usize
+    requires few { FEW ≡ true → length value.now < 3 * N }
+    requires narrow { EXACT ≡ false → N ≤ 32 }
+    requires room { bound (mode_numbered MODE) (length value.now) ≤ length dst.old }
+    ensures written { IsWritten N (mode_numbered MODE) value.now dst.old dst.new result }
+    ensures headline { IsOnlyOutput (mode_numbered MODE) (take result dst.new) (chars value.now) }
+    ensures equal_texts { IsOfOneText (mode_numbered MODE) value.now (take result dst.new) }
+{
+    let mut target = Target::<N>::new(dst);
+    let mut ticks = Ticks::new();
+    quoted::<V, MODE, N, CHUNK, EXACT, FEW>(value, &mut target, &mut ticks)
+}
+
+/// As [`format_in_mode`], in a function of its own, so that a short text waits for no loop's frame.
+#[inline(never)]
+fn format_many<
+    V: Vector<N>,
+    const MODE: u8,
+    const N: usize,
+    const CHUNK: usize,
+    const EXACT: bool,
+>(value: &str, dst: &mut [u8]) -> usize
+    requires narrow { EXACT ≡ false → N ≤ 32 }
+    requires room { bound (mode_numbered MODE) (length value.now) ≤ length dst.old }
+    ensures written { IsWritten N (mode_numbered MODE) value.now dst.old dst.new result }
+    ensures headline { IsOnlyOutput (mode_numbered MODE) (take result dst.new) (chars value.now) }
+    ensures equal_texts { IsOfOneText (mode_numbered MODE) value.now (take result dst.new) }
+{
+    quoted_string::<V, MODE, N, CHUNK, EXACT, false>(value, dst)
+}
+
 /// As [`body`], with the target made over `dst`.
 #[inline(always)]
 pub(crate) fn format_in_mode<
@@ -174,9 +203,10 @@ pub(crate) fn format_in_mode<
     ensures headline { IsOnlyOutput (mode_numbered MODE) (take result dst.new) (chars value.now) }
     ensures equal_texts { IsOfOneText (mode_numbered MODE) value.now (take result dst.new) }
 {
-    let mut target = Target::<N>::new(dst);
-    let mut ticks = Ticks::new();
-    body::<V, MODE, N, CHUNK, EXACT>(value, &mut target, &mut ticks)
+    if value.len() < 3 * N {
+        return quoted_string::<V, MODE, N, CHUNK, EXACT, true>(value, dst);
+    }
+    format_many::<V, MODE, N, CHUNK, EXACT>(value, dst)
 }
 
 /// The same in one of the two modes of the public calls.

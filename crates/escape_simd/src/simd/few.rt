@@ -7,7 +7,7 @@ ghost use Rattle.escape_simd.specs.Stretch.{Stretch, room_from, rest_slack};
 
 use crate::simd::chunk::whole_vector;
 use crate::simd::classify::Vector;
-use crate::simd::rest::{last_vector, rest};
+use crate::simd::rest::rest;
 use crate::simd::source::Source;
 use escape_lanes::simd::target::{Target, Ticks};
 
@@ -23,16 +23,13 @@ pub(crate) fn escape_few<V: Vector<N>, const MODE: u8, const N: usize, const EXA
         ≤ stored_of target.old + run_count (mode_numbered MODE) src.now + length src.now / N + 1 }
     ensures classified { ticks.new + stored_of target.old ≡ ticks.old + stored_of target.new }
 {
-    if src.is_empty() {
-        return to;
+    let mut at = 0;
+    let mut end = to;
+    if 2 * N <= src.len() {
+        let source = Source::whole(src);
+        let (next, reached) = whole_vector::<V, MODE, N, true>(&source, 0, target, to, ticks);
+        at = next;
+        end = reached;
     }
-    if src.len() < N {
-        return last_vector::<V, MODE, N, EXACT>(src, 0, target, to, ticks);
-    }
-    if src.len() < 2 * N {
-        return rest::<V, MODE, N, EXACT>(src, 0, target, to, ticks);
-    }
-    let source = Source::whole(src);
-    let (at, end) = whole_vector::<V, MODE, N, true>(&source, 0, target, to, ticks);
     rest::<V, MODE, N, EXACT>(src, at, target, end, ticks)
 }

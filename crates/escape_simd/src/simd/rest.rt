@@ -17,7 +17,7 @@ use escape_lanes::simd::{BitMask, Flags};
 /// The text's last bytes, fewer than a vector has: where one needs an escape they are put into
 /// memory with zeros after them, so that vectors can be loaded from any of them on.
 #[inline(always)]
-pub(crate) fn last_vector<V: Vector<N>, const MODE: u8, const N: usize, const EXACT: bool>(
+fn last_vector<V: Vector<N>, const MODE: u8, const N: usize, const EXACT: bool>(
     src: &[u8],
     at: usize,
     target: &mut Target<'_, N>,

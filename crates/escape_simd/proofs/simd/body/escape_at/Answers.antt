@@ -3,7 +3,7 @@ use Rattle.escape_simd.proofs.Whole.{all-end, all-written}
 use Rattle.escape_simd.proofs.simd.body.escape_at.Goals as goal
 
 pub returns-clause-end : goal.returns-clause-end
-returns-clause-end g c = all-end c.escape_bytes.ensures.stretch
+returns-clause-end g c = all-end c.escape_many.ensures.stretch
 
 pub returns-clause-written : goal.returns-clause-written
-returns-clause-written g c = let w = all-written c.escape_bytes.ensures.stretch in search (rules, w)
+returns-clause-written g c = let w = all-written c.escape_many.ensures.stretch in search (rules, w)

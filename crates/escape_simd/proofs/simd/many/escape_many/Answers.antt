@@ -6,7 +6,7 @@ use Rattle.escape_simd.specs.Stretch.{Stretch, Paid, rest_length, rest_slack}
 use Rattle.escape_simd.proofs.Stretches.{standing, onward, widened}
 use Rattle.escape_simd.proofs.Costs.{paid-onward, paid-nothing, whole-vectors}
 use Rattle.escape_simd.proofs.RestLemmas.{rest-slack-some}
-use Rattle.escape_simd.proofs.simd.body.escape_many.Goals as goal
+use Rattle.escape_simd.proofs.simd.many.escape_many.Goals as goal
 
 pub chunks-init : goal.chunks-init
 chunks-init g c =

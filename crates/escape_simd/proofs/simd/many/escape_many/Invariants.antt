@@ -2,7 +2,7 @@ use Rattle.std.proofs.Common.{◌≡◌, ◌≤◌, length, ◌-◌}
 use Rattle.escape_lanes.specs.Written.{stored_of}
 use Rattle.escape_simd.specs.Modes.{mode_numbered}
 use Rattle.escape_simd.specs.Stretch.{Stretch, Paid}
-use Rattle.escape_simd.proofs.simd.body.escape_many.Given as goal
+use Rattle.escape_simd.proofs.simd.many.escape_many.Given as goal
 
 abbrev pub invariant-chunks : goal.invariant-chunks
 invariant-chunks g l = record {

@@ -20,7 +20,7 @@ escape_bytes-close-requires g c =
     let l = ap length c.as_bytes-bytes.ensures.value in
     let r = rest-bounds mode src 0 in
     let o = c.quote-open.ensures in
-    (omega arith, (c.requires.narrow, omega (arith, b, q, l, r, o.end, o.same_slice.len, c.requires.room)))
+    (omega arith, ((λ f. omega (arith, l, c.requires.few f)), (c.requires.narrow, omega (arith, b, q, l, r, o.end, o.same_slice.len, c.requires.room))))
 
 pub quote-requires : goal.quote-requires
 quote-requires g c =

@@ -13,5 +13,6 @@ pub mod JsonLemmas
 pub mod ScriptLemmas
 pub mod OutputLemmas
 pub mod Examples
+pub mod AheadLemmas
 pub mod Pieces
 pub mod JoinedLemmas

@@ -14,5 +14,6 @@ pub mod ScriptLemmas
 pub mod OutputLemmas
 pub mod Examples
 pub mod AheadLemmas
+pub mod InnerLemmas
 pub mod Pieces
 pub mod JoinedLemmas

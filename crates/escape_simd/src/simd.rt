@@ -6,6 +6,7 @@ pub mod avx512;
 mod body;
 mod chunk;
 mod classify;
+mod inner;
 pub mod neon;
 mod rest;
 mod source;

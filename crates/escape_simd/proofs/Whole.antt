@@ -13,7 +13,7 @@ use Rattle.escape_simd.proofs.ReplacementLemmas.{inner-nil}
 use Rattle.escape_simd.proofs.Texts.{escaped-empty, length-inner}
 
 -- quotes around the escaped bytes
-plain-parts : (mode : Mode) (text : List ℕ) → plain mode text ≡ (quote_of mode ++ inner mode text) ++ quote_of mode
+pub plain-parts : (mode : Mode) (text : List ℕ) → plain mode text ≡ (quote_of mode ++ inner mode text) ++ quote_of mode
 plain-parts json text = refl
 plain-parts html text = sym (append-nil (inner html text))
 plain-parts script text = refl

@@ -30,3 +30,4 @@ pub use format::{
     format_script_string,
 };
 pub use kernel::Kernel;
+pub use output::PIECE;

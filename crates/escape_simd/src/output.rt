@@ -10,6 +10,7 @@ mod bytes;
 
 use crate::simd::HTML_MODE;
 use crate::simd::avx2::Simd256u;
+pub use bytes::PIECE;
 use bytes::append_bytes;
 use std::alloc::{AllocError, Allocator};
 

@@ -10,9 +10,10 @@ ghost use Rattle.escape_simd.specs.Output.{inner};
 use crate::simd::{Vector, clean_front, count_flagged, escape_at};
 use std::alloc::Allocator;
 
-/// How many bytes of a text are escaped at a time. What makes room for them, and what they become, stays
-/// in the first caches.
-const PIECE: usize = 4096;
+/// How many bytes of a text the calls that append escape at a time, at most.
+///
+/// What makes room for so many, and what they become, stays in the first caches.
+pub const PIECE: usize = 4096;
 
 /// So few zeros are stores and no call.
 const FEW: usize = 128;

@@ -2,6 +2,7 @@
 mod borders;
 mod memory;
 mod numbers;
+mod pieces;
 mod rationed;
 mod rows;
 mod texts;

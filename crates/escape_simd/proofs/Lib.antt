@@ -13,5 +13,7 @@ pub mod JsonLemmas
 pub mod ScriptLemmas
 pub mod OutputLemmas
 pub mod Examples
+pub mod AheadLemmas
+pub mod InnerLemmas
 pub mod Pieces
 pub mod JoinedLemmas

@@ -15,3 +15,4 @@ pub mod Script
 pub mod Headline
 pub mod Laws
 pub mod Messages
+pub mod Ahead

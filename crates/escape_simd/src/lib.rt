@@ -7,7 +7,8 @@
 //! the caller's own. [`json::escape_into`], [`json::escape_script_into`],
 //! [`html::escape_html_into`] and [`html::escape_html_each`] append to a vector of bytes instead, of
 //! any allocator. [`format_json_string`], [`format_script_string`] and [`format_html_string`] write
-//! to a slice by the kernel that they are told, and take no memory.
+//! to a slice by the kernel that they are told, and take no memory; [`format_json_inner`] and
+//! [`format_script_inner`] write what stands between the quotation marks.
 //!
 //! ```text
 //! escape(alloc, "a\n")? == "\"a\\n\""
@@ -24,5 +25,9 @@ mod output;
 pub mod simd;
 
 pub use escape_lanes::tables;
-pub use format::{format_html_string, format_json_string, format_script_string};
+pub use format::{
+    format_html_string, format_json_inner, format_json_string, format_script_inner,
+    format_script_string,
+};
 pub use kernel::Kernel;
+pub use output::PIECE;

@@ -1,5 +1,6 @@
 //! Vectors of bytes, and the kernels that escape text by them.
 
+mod ahead;
 pub mod avx2;
 pub mod avx512;
 mod body;
@@ -7,6 +8,7 @@ mod chunk;
 mod classify;
 mod few;
 mod flagged;
+mod inner;
 mod many;
 pub mod neon;
 mod rest;
@@ -16,5 +18,7 @@ pub mod util;
 pub mod v128;
 mod vector;
 
-pub(crate) use classify::{HTML_MODE, JSON_MODE, SCRIPT_MODE};
+pub(crate) use ahead::{clean_front, count_flagged};
+pub(crate) use body::escape_at;
+pub(crate) use classify::{HTML_MODE, JSON_MODE, SCRIPT_MODE, Vector};
 pub use escape_lanes::simd::{BitMask, Flags, LaneMask, LoadLast, Mask, Simd, bits, target};

@@ -1,60 +1,68 @@
-//! The escaped bytes of a text.
-ghost use Rattle.std.specs.Prelude.{◌⊎◌, ◌≡◌, ◌<◌, ◌↔◌, length, IfOk, IfErr, IsErrOf};
-ghost use Rattle.escape_simd.specs.Output.{plain, bound};
+//! Writing the escaped bytes of a text, piece by piece.
+ghost use Rattle.std.specs.Prelude.{◌⊎◌, ◌≡◌, ◌≢◌, ◌+◌, ◌*◌, ◌<◌, ◌≤◌, ◌↔◌, min, length, take, IfOk, IfErr, OnOk, OnErr, IsErrOf};
+ghost use Rattle.std.specs.Io.KnownBytes.{Appends, Keeps};
+ghost use Rattle.escape_simd.specs.Output.{plain, inner, quote_of, bound};
+ghost use Rattle.escape_stream.specs.Run.{AppendsBeginning};
 ghost use Rattle.escape_stream.specs.Words.{escaping};
 
 use crate::fault::ToolFault;
+use crate::output::{flush, write_all};
 use crate::words::Mode;
 use escape_simd::html::html_capacity;
 use escape_simd::json::json_capacity;
-use escape_simd::{Kernel, format_html_string, format_json_string, format_script_string};
+use escape_simd::{Kernel, format_html_string, format_json_inner, format_script_inner};
 use std::alloc::Allocator;
+use std::io::Write;
 
-/// What the kernel makes of the text.
+/// How many bytes of a text a run escapes and writes at a time, at most. What they may become,
+/// `6 * PIECE + 32` bytes at most, is all that it holds beside its input.
+pub const PIECE: usize = 64 * 1024;
+
+/// Writes what the kernel makes of the text, and flushes once.
+///
+/// Beside the text it holds what one piece may become.
 ///
 /// # Errors
 ///
-/// `TooLarge` exactly where the room that the output may take passes `usize::MAX`, and
-/// `OutOfMemory` where that room is refused.
-pub(crate) fn escaped<A: Allocator>(
+/// `TooLarge` exactly where the room that the output may take passes `usize::MAX`, `OutOfMemory` where
+/// room for a piece is refused, and `WriteFailed`, the only one after a write.
+pub(crate) fn write_escaped<A: Allocator, W: Write>(
     alloc: A,
     mode: Mode,
     kernel: Kernel,
     text: &str,
-) -> Result<Vec<u8, A>, ToolFault>
-    ensures exact { IfOk result (λ output. output.items ≡ plain (escaping mode) text.now) }
+    output: &mut W,
+) -> Result<(), ToolFault>
+    ensures exact { OnOk result
+        (Appends (W.contents output.old) (W.contents output.new) (plain (escaping mode) text.now)) }
+    ensures unchanged { IfErr result (λ fault. fault ≢ ToolFault.WriteFailed
+        → Keeps (W.contents output.old) (W.contents output.new)) }
+    ensures beginning { IsErrOf result ToolFault.WriteFailed
+        → AppendsBeginning (W.contents output.old) (W.contents output.new) (plain (escaping mode) text.now) }
     ensures too_large { IsErrOf result ToolFault.TooLarge
         ↔ (usize.MAX < bound (escaping mode) (length text.now)) }
-    ensures faults { IfErr result
-        (λ fault. (fault ≡ ToolFault.TooLarge) ⊎ (fault ≡ ToolFault.OutOfMemory)) }
+    ensures faults { IfErr result (λ fault. (fault ≡ ToolFault.TooLarge)
+        ⊎ ((fault ≡ ToolFault.OutOfMemory) ⊎ (fault ≡ ToolFault.WriteFailed))) }
 {
-    let room = capacity(mode, text.len())?;
-    let mut output = zeros(alloc, room)?;
-    let count = match mode {
-        Mode::Json => format_json_string(kernel, text, output.as_mut_slice()),
-        Mode::Html => format_html_string(kernel, text, output.as_mut_slice()),
-        Mode::Script => format_script_string(kernel, text, output.as_mut_slice()),
-    };
-    output.truncate(count);
-    Ok(output)
+    check_bound(mode, text.len())?;
+    let mut room = zeros(alloc, 6 * PIECE.min(text.len()) + 32)?;
+    write_whole(mode, kernel, text, room.as_mut_slice(), output)
 }
 
-/// How many bytes the output of a text of `len` bytes may take.
-fn capacity(mode: Mode, len: usize) -> Result<usize, ToolFault>
-    ensures room { IfOk result (λ room. room ≡ bound (escaping mode) len) }
+/// Whether the output of a text of `len` bytes may take more than `usize::MAX` bytes.
+fn check_bound(mode: Mode, len: usize) -> Result<(), ToolFault>
     ensures too_large { IsErrOf result ToolFault.TooLarge
         ↔ (usize.MAX < bound (escaping mode) len) }
     ensures fault { IfErr result (λ fault. fault ≡ ToolFault.TooLarge) }
 {
-    match mode {
-        Mode::Json | Mode::Script => match json_capacity(len) {
-            Ok(room) => Ok(room),
-            Err(_) => Err(ToolFault::TooLarge),
-        },
-        Mode::Html => match html_capacity(len) {
-            Ok(room) => Ok(room),
-            Err(_) => Err(ToolFault::TooLarge),
-        },
+    let fits = match mode {
+        Mode::Json | Mode::Script => json_capacity(len).is_ok(),
+        Mode::Html => html_capacity(len).is_ok(),
+    };
+    if fits {
+        Ok(())
+    } else {
+        Err(ToolFault::TooLarge)
     }
 }
 
@@ -65,5 +73,82 @@ fn zeros<A: Allocator>(alloc: A, count: usize) -> Result<Vec<u8, A>, ToolFault>
     match vec![in alloc; 0; count] {
         Ok(zeros) => Ok(zeros),
         Err(_) => Err(ToolFault::OutOfMemory),
+    }
+}
+
+/// Writes the output for the text, whose pieces are escaped in `room`, and flushes once.
+fn write_whole<W: Write>(
+    mode: Mode,
+    kernel: Kernel,
+    text: &str,
+    room: &mut [u8],
+    output: &mut W,
+) -> Result<(), ToolFault>
+    requires { 6 * min 65536 (length text.now) + 32 ≤ length room.old }
+    ensures whole { OnOk result
+        (Appends (W.contents output.old) (W.contents output.new) (plain (escaping mode) text.now)) }
+    ensures beginning { OnErr result
+        (AppendsBeginning (W.contents output.old) (W.contents output.new) (plain (escaping mode) text.now)) }
+    ensures fault { IfErr result (λ fault. fault ≡ ToolFault.WriteFailed) }
+{
+    write_quote(mode, output)?;
+    write_pieces(mode, kernel, text, room, output)?;
+    write_quote(mode, output)?;
+    flush(output)
+}
+
+/// Writes the quotation mark that a literal begins and ends with, in HTML nothing.
+fn write_quote<W: Write>(mode: Mode, output: &mut W) -> Result<(), ToolFault>
+    ensures whole { OnOk result
+        (Appends (W.contents output.old) (W.contents output.new) (quote_of (escaping mode))) }
+    ensures beginning { OnErr result
+        (AppendsBeginning (W.contents output.old) (W.contents output.new) (quote_of (escaping mode))) }
+    ensures fault { IfErr result (λ fault. fault ≡ ToolFault.WriteFailed) }
+{
+    match mode {
+        Mode::Json | Mode::Script => write_all(output, b"\""),
+        Mode::Html => write_all(output, b""),
+    }
+}
+
+/// Writes what stands for the text's bytes, piece by piece.
+///
+/// The pieces are texts: what stands for a separator in a script literal stands for all its bytes.
+fn write_pieces<W: Write>(
+    mode: Mode,
+    kernel: Kernel,
+    text: &str,
+    room: &mut [u8],
+    output: &mut W,
+) -> Result<(), ToolFault>
+    requires { 6 * min 65536 (length text.now) + 32 ≤ length room.old }
+    ensures whole { OnOk result
+        (Appends (W.contents output.old) (W.contents output.new) (inner (escaping mode) text.now)) }
+    ensures beginning { OnErr result
+        (AppendsBeginning (W.contents output.old) (W.contents output.new) (inner (escaping mode) text.now)) }
+    ensures fault { IfErr result (λ fault. fault ≡ ToolFault.WriteFailed) }
+{
+    let mut at = 0;
+    'pieces: while at < text.len() {
+        let next = text.floor_char_boundary(at + PIECE.min(text.len() - at));
+        let count = format_inner(mode, kernel, &text[at..next], room);
+        write_all(output, &room[..count])?;
+        at = next;
+    }
+    Ok(())
+}
+
+/// Writes what stands for the text, with no quotation marks, to the front of `room`, and answers how
+/// many bytes it became.
+fn format_inner(mode: Mode, kernel: Kernel, text: &str, room: &mut [u8]) -> usize
+    requires { 6 * length text.now + 32 ≤ length room.old }
+    ensures inside { result ≤ length room.new }
+    ensures same_room { length room.new ≡ length room.old }
+    ensures exact { take result room.new ≡ inner (escaping mode) text.now }
+{
+    match mode {
+        Mode::Json => format_json_inner(kernel, text, room),
+        Mode::Html => format_html_string(kernel, text, room),
+        Mode::Script => format_script_inner(kernel, text, room),
     }
 }

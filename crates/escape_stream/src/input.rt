@@ -7,8 +7,9 @@ use crate::fault::ToolFault;
 use std::alloc::Allocator;
 use std::io::Read;
 
-/// The least room, in bytes, that a vector with none left grows by.
-const LEAST_GROWTH: usize = 64 * 1024;
+/// How many bytes a read is asked for at most, and the least room that a vector with none left grows
+/// by.
+const WINDOW: usize = 64 * 1024;
 
 /// All that the input has left. It is read until a read gives nothing.
 ///
@@ -38,8 +39,10 @@ pub(crate) fn read_whole<R: Read, A: Allocator>(
     }
 }
 
-/// Makes the vector longer than `filled` bytes, where it isn't, by zeros. Its capacity then doubles
-/// at least.
+/// Makes the vector longer than `filled` bytes, where it isn't, by zeros for the next read.
+///
+/// Its capacity doubles at least where there is no room for them. What is not read into is not filled,
+/// so it stays untouched.
 fn make_room<A: Allocator>(bytes: &mut Vec<u8, A>, filled: usize) -> Result<(), ToolFault>
     requires { filled ≤ vec_len bytes.old }
     ensures front { OnOk result (take filled bytes.new.items ≡ take filled bytes.old.items) }
@@ -49,11 +52,10 @@ fn make_room<A: Allocator>(bytes: &mut Vec<u8, A>, filled: usize) -> Result<(), 
     if filled < bytes.len() {
         return Ok(());
     }
-    if bytes.reserve(LEAST_GROWTH).is_err() {
+    if bytes.reserve(WINDOW).is_err() {
         return Err(ToolFault::OutOfMemory);
     }
-    let capacity = bytes.capacity();
-    if bytes.resize(capacity, 0).is_err() {
+    if bytes.resize(bytes.len() + WINDOW, 0).is_err() {
         return Err(ToolFault::OutOfMemory);
     }
     Ok(())

@@ -19,6 +19,7 @@ mod output;
 mod stream;
 mod words;
 
+pub use escaped::PIECE;
 pub use fault::ToolFault;
 pub use stream::{run, run_in};
 pub use words::{Mode, USAGE, choose};

@@ -1,18 +1,17 @@
-//! Writing an output whole.
+//! Writing bytes whole.
 ghost use Rattle.std.specs.Prelude.{◌≡◌, OnOk, IfErr, OnErr};
-ghost use Rattle.std.specs.Io.KnownBytes.{Appends};
+ghost use Rattle.std.specs.Io.KnownBytes.{Appends, Keeps};
 ghost use Rattle.escape_stream.specs.Run.{AppendsBeginning};
 
 use crate::fault::ToolFault;
 use std::io::Write;
 
-/// Writes all the bytes, and flushes once.
+/// Writes all the bytes.
 ///
 /// # Errors
 ///
-/// `WriteFailed` where a write takes nothing, or a write or the flush answers an error, of any
-/// kind.
-pub(crate) fn write_whole<W: Write>(output: &mut W, bytes: &[u8]) -> Result<(), ToolFault>
+/// `WriteFailed` where a write takes nothing, or answers an error, of any kind.
+pub(crate) fn write_all<W: Write>(output: &mut W, bytes: &[u8]) -> Result<(), ToolFault>
     ensures whole { OnOk result
         (Appends (W.contents output.old) (W.contents output.new) bytes.now) }
     ensures beginning { OnErr result
@@ -26,6 +25,18 @@ pub(crate) fn write_whole<W: Write>(output: &mut W, bytes: &[u8]) -> Result<(), 
             _ => return Err(ToolFault::WriteFailed),
         }
     }
+    Ok(())
+}
+
+/// Flushes the writer.
+///
+/// # Errors
+///
+/// `WriteFailed` where that answers an error, of any kind.
+pub(crate) fn flush<W: Write>(output: &mut W) -> Result<(), ToolFault>
+    ensures kept { Keeps (W.contents output.old) (W.contents output.new) }
+    ensures fault { IfErr result (λ fault. fault ≡ ToolFault.WriteFailed) }
+{
     match output.flush() {
         Ok(()) => Ok(()),
         Err(_) => Err(ToolFault::WriteFailed),

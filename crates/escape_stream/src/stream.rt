@@ -5,10 +5,9 @@ ghost use Rattle.escape_simd.specs.Output.{plain, bound};
 ghost use Rattle.escape_stream.specs.Words.{escaping};
 ghost use Rattle.escape_stream.specs.Run.{AppendsEscaped, AppendsEscapedBeginning, WholeInput};
 
-use crate::escaped::escaped;
+use crate::escaped::write_escaped;
 use crate::fault::ToolFault;
 use crate::input::read_whole;
-use crate::output::write_whole;
 use crate::words::Mode;
 use escape_simd::Kernel;
 use std::alloc::{Allocator, Global};
@@ -17,7 +16,8 @@ use std::str;
 
 /// Reads the input to its end, escapes it by the kernel, writes the output and flushes it once.
 ///
-/// Nothing is written before the whole input is read and escaped. No newline is added, and a
+/// Nothing is written before the whole input is read. Beside it one piece of the output is held at a
+/// time. No newline is added, and a
 /// newline at the input's end or a byte order mark is part of the text. The kernel changes no byte
 /// of the output.
 ///
@@ -63,7 +63,7 @@ pub fn run<R: Read, W: Write>(
 /// What [`run`] does, in memory of the caller's allocator. One that can't be copied, as an arena, is
 /// lent: `&arena` is an allocator too.
 ///
-/// It asks for room for the input, and once for what the output may take.
+/// It asks for room for the input, and once for what a piece of it may become.
 ///
 /// # Errors
 ///
@@ -101,6 +101,5 @@ pub fn run_in<A: Allocator + Copy, R: Read, W: Write>(
     let Ok(text) = str::from_utf8(bytes.as_slice()) else {
         return Err(ToolFault::NotUtf8);
     };
-    let escaped_bytes = escaped(alloc, mode, kernel, text)?;
-    write_whole(output, escaped_bytes.as_slice())
+    write_escaped(alloc, mode, kernel, text, output)
 }

@@ -4,7 +4,7 @@ ghost use Rattle.std.specs.Prelude.{◌≡◌, IfOk};
 ghost use Rattle.escape_lanes.specs.Mode.{html};
 ghost use Rattle.escape_simd.specs.Output.{plain};
 
-use crate::{Mode, ToolFault, USAGE, choose, run};
+use crate::{Mode, PIECE, ToolFault, USAGE, choose, run};
 use escape_simd::Kernel;
 use std::alloc::Global;
 use std::io;
@@ -316,5 +316,67 @@ fn reads_a_large_input(rt: HostRuntime) -> Result<(), Fail> {
     let letters = vec![in rt.alloc(); b'a'; 300_000]?;
     let output = html_of(rt.alloc(), letters.as_slice())?;
     assert!(rt; output.as_slice() == letters.as_slice());
+    Ok(())
+}
+
+/// Takes all, and counts how often it is flushed.
+#[derive(Drop)]
+struct Flushed {
+    held: Vec<u8>,
+    flushes: u64,
+}
+
+impl Write for Flushed {
+    fn write(&mut self, buf: &[u8]) -> io::Result<usize> {
+        self.held.extend_from_slice(buf)?;
+        Ok(buf.len())
+    }
+
+    fn flush(&mut self) -> io::Result<()> {
+        self.flushes = self.flushes.saturating_add(1);
+        Ok(())
+    }
+}
+
+#[test]
+fn flushes_once_after_many_pieces(rt: HostRuntime) -> Result<(), Fail> {
+    let letters = vec![in rt.alloc(); b'a'; 3 * PIECE]?;
+    for mode in MODES {
+        let mut input = letters.as_slice();
+        let mut output = Flushed {
+            held: Vec::new(rt.alloc()),
+            flushes: 0,
+        };
+        let result = run(rt.alloc(), mode, Kernel::Avx2, &mut input, &mut output);
+        assert_eq!(rt; result, Ok(()));
+        assert_eq!(rt; output.flushes, 1, "{mode:?}");
+        let quotes = if mode == Mode::Html { 0 } else { 2 };
+        assert_eq!(rt; output.held.len(), 3 * PIECE + quotes, "{mode:?}");
+    }
+    Ok(())
+}
+
+#[test]
+fn a_write_that_fails_in_a_later_piece(rt: HostRuntime) -> Result<(), Fail> {
+    let letters = vec![in rt.alloc(); b'a'; 2 * PIECE]?;
+    for room in [PIECE - 1, PIECE, PIECE + 1, 2 * PIECE - 1] {
+        let mut input = letters.as_slice();
+        let mut output = Narrow {
+            held: Vec::new(rt.alloc()),
+            step: usize::MAX,
+            room,
+            error: None,
+            fails_at_flush: false,
+        };
+        let result = run(
+            rt.alloc(),
+            Mode::Html,
+            Kernel::Avx2,
+            &mut input,
+            &mut output,
+        );
+        assert_eq!(rt; result, FAILED, "{room}");
+        assert!(rt; output.held.as_slice() == &letters[..room], "{room}");
+    }
     Ok(())
 }

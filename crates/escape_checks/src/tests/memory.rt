@@ -2,6 +2,7 @@
 
 use crate::routes::KERNELS;
 use crate::tests::rationed::{Rationed, Requests};
+use crate::tests::texts::repeated;
 use escape_simd::html::{EscapeHtmlError, escape_html_each, escape_html_in, escape_html_into};
 use escape_simd::json::{
     EscapeError, escape_in, escape_into, escape_script_in, escape_script_into,
@@ -198,13 +199,13 @@ fn a_text_asks_once_for_the_bound(rt: HostRuntime) {
     assert_eq!(rt; heap.requests(), one_request(41));
 }
 
-// On so short an input a run asks twice: for the input, and for what the output may take.
+// On so short an input a run asks twice: for the input, and for what its one piece may become.
 #[test]
-fn a_run_asks_for_the_input_and_the_bound(rt: HostRuntime) -> Result<(), Fail> {
+fn a_run_asks_for_the_input_and_a_piece(rt: HostRuntime) -> Result<(), Fail> {
     for (mode, bound, escaped) in [
-        (Mode::Json, 41, b"\"<\"".as_slice()),
+        (Mode::Json, 38, b"\"<\"".as_slice()),
         (Mode::Html, 38, b"&lt;".as_slice()),
-        (Mode::Script, 41, b"\"\\u003c\"".as_slice()),
+        (Mode::Script, 38, b"\"\\u003c\"".as_slice()),
     ] {
         for kernel in KERNELS {
             for (granted, outcome, written, made) in [
@@ -231,5 +232,54 @@ fn a_run_asks_for_the_input_and_the_bound(rt: HostRuntime) -> Result<(), Fail> {
             }
         }
     }
+    Ok(())
+}
+
+#[test]
+fn a_long_text_asks_once_for_the_bound(rt: HostRuntime) -> Result<(), Fail> {
+    let len = 3 * escape_simd::PIECE;
+    let text = repeated(rt.alloc(), &[(len, "\"")])?;
+    for (outcome, granted) in [(Outcome::OutOfMemory, 0), (Outcome::Written, 1)] {
+        let heap = Rationed::new(rt.alloc());
+        let mut dst = vector_of(&heap, 1, 0)?;
+        heap.ration(granted);
+        let result = match escape_into(text.as_str(), &mut dst) {
+            Ok(()) => Outcome::Written,
+            Err(EscapeError::OutOfMemory) => Outcome::OutOfMemory,
+            Err(_) => Outcome::Other,
+        };
+        assert_eq!(rt; result, outcome);
+        let grown = if granted == 0 { 0 } else { 2 * len + 2 };
+        assert_eq!(rt; dst.len(), 1 + grown);
+        assert_eq!(rt; dst.first(), Some(&0xff));
+        assert_eq!(rt; heap.requests(), one_request(1 + 6 * len + 35));
+    }
+    Ok(())
+}
+
+// A run on more than a piece asks for the input as it grows, and at last for what a piece may become.
+#[test]
+fn a_long_run_asks_at_last_for_a_piece(rt: HostRuntime) -> Result<(), Fail> {
+    let text = repeated(rt.alloc(), &[(2 * escape_stream::PIECE, "<")])?;
+    let mut granted = 0;
+    let mut refused = true;
+    while refused && granted < 20 {
+        let heap = Rationed::new(rt.alloc());
+        heap.ration(granted);
+        let mut input = text.as_bytes();
+        let mut output = vec![in rt.alloc(); 0xff]?;
+        let result = run_in(&heap, Mode::Html, KERNELS[3], &mut input, &mut output);
+        if result == Ok(()) {
+            refused = false;
+            assert_eq!(rt; output.len(), 1 + 4 * text.len());
+            assert_eq!(rt; heap.requests().made, granted);
+            assert_eq!(rt; heap.requests().last_size, 6 * escape_stream::PIECE + 32);
+        } else {
+            assert_eq!(rt; result, Err(ToolFault::OutOfMemory), "{granted}");
+            assert_eq!(rt; output.as_slice(), [0xff].as_slice(), "{granted}");
+        }
+        granted += 1;
+    }
+    assert!(rt; !refused && 2 < granted);
     Ok(())
 }

@@ -8,6 +8,7 @@ use escape_simd::json::{
 };
 use escape_simd::simd::target::Target;
 use escape_simd::simd::util::escape_unchecked;
+use escape_simd::{format_json_inner, format_script_inner};
 use escape_stream::Mode;
 use std::process::Abort;
 use std::test::Fail;
@@ -166,6 +167,19 @@ fn kernels_write(
                 &target[..count],
                 output,
                 "{way:?} {kernel:?} {mode:?} {text}"
+            );
+        }
+        if mode != Mode::Html {
+            let mut target = vec![in rt.alloc(); 0xee; room(mode, text)?]?;
+            let count = if mode == Mode::Json {
+                format_json_inner(kernel, text, &mut target)
+            } else {
+                format_script_inner(kernel, text, &mut target)
+            };
+            assert_eq!(rt;
+                Some(&target[..count]),
+                output.get(1..output.len() - 1),
+                "{kernel:?} {mode:?} {text}"
             );
         }
     }

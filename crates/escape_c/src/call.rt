@@ -1,4 +1,4 @@
-//! What all exports share: a text of a mode is escaped into a buffer, or refused by a status.
+//! What the exports of all modes share: a text is escaped into a buffer, or refused by a status.
 ghost use Rattle.std.specs.Prelude.{◌≡◌, ◌≢◌, ◌≤◌, ◌<◌, ◌↔◌, ◌^◌, length, take, chars, IsUtf8, Ok, Err, IfOk, OnErr, IsOk};
 ghost use Rattle.escape_simd.specs.Formatted.{IsWritten};
 ghost use Rattle.escape_simd.specs.Headline.{IsOnlyOutput};
@@ -23,7 +23,7 @@ pub(crate) enum Mode {
     Script,
 }
 
-/// Why nothing is written. Its number is the status, which is 0 where something is.
+/// Why nothing is written. Its number is the status, which is 0 where all is.
 #[derive(Clone, Copy, Debug, PartialEq, Eq)]
 pub(crate) enum Refusal {
     NotUtf8 = 1,
@@ -32,7 +32,7 @@ pub(crate) enum Refusal {
     NoKernel = 4,
 }
 
-/// The kernel that the number names, where it names one.
+/// The kernel that the number names: 0 names the default one.
 fn kernel_of_number(kernel: u32) -> Result<Kernel, Refusal>
     ensures kernel { IfOk result (λ k. k ≡ kernel_numbered kernel) }
     ensures ok { IsOk result ↔ NamesKernel kernel }
@@ -49,7 +49,7 @@ fn kernel_of_number(kernel: u32) -> Result<Kernel, Refusal>
 }
 
 /// How many bytes a buffer must have for a text of `len` bytes.
-pub(crate) fn capacity(mode: Mode, len: usize) -> Result<usize, Refusal>
+fn capacity(mode: Mode, len: usize) -> Result<usize, Refusal>
     ensures exact { IfOk result (λ capacity. capacity ≡ bound (escaping mode) len) }
     ensures ok { IsOk result ↔ (bound (escaping mode) len < 2 ^ 64) }
     ensures err { OnErr result (result ≡ Err Refusal.TooLarge) }
@@ -59,6 +59,14 @@ pub(crate) fn capacity(mode: Mode, len: usize) -> Result<usize, Refusal>
         Mode::Html => html_capacity(len).ok(),
     };
     capacity.ok_or(Refusal::TooLarge)
+}
+
+/// How many bytes a buffer must have for a text of `len` bytes, or 0 where that passes `usize::MAX`.
+pub(crate) fn bound_or_zero(mode: Mode, len: usize) -> usize
+    ensures exact { bound (escaping mode) len < 2 ^ 64 → result ≡ bound (escaping mode) len }
+    ensures too_large { 2 ^ 64 ≤ bound (escaping mode) len → result ≡ 0 }
+{
+    capacity(mode, len).unwrap_or(0)
 }
 
 /// Whether the kernel's number, the size and the buffer allow the call. Answers the kernel.
@@ -114,7 +122,7 @@ fn status(written: Result<usize, Refusal>, count: &mut usize) -> u32
     }
 }
 
-/// Escapes the bytes, if they are a text, to the front of `buffer`.
+/// Escapes the bytes to the front of `buffer`, where they are a text.
 #[inline(always)]
 pub(crate) fn escape(
     mode: Mode,
@@ -139,6 +147,35 @@ pub(crate) fn escape(
             Ok(text) => Ok(format(mode, kernel, text, buffer)),
             Err(_) => Err(Refusal::NotUtf8),
         },
+        Err(why) => Err(why),
+    };
+    status(written, count)
+}
+
+/// Escapes the bytes, which must be a text, to the front of `buffer`.
+#[inline(always)]
+pub(crate) fn escape_unchecked(
+    mode: Mode,
+    kernel: u32,
+    text: &[u8],
+    buffer: &mut [u8],
+    count: &mut usize,
+) -> u32
+    requires { IsUtf8 text.now }
+    ensures refused { (why : Refusal) → (result ≡ status_of why)
+        ↔ Refuses (escaping mode) kernel text.now (length buffer.old) why }
+    ensures ok { (result ≡ 0) ↔ Accepts (escaping mode) kernel text.now (length buffer.old) }
+    ensures written { result ≡ 0 → IsWritten (lanes_numbered kernel) (escaping mode)
+        text.now buffer.old buffer.new count.new }
+    ensures headline { result ≡ 0
+        → IsOnlyOutput (escaping mode) (take count.new buffer.new) (chars text.now) }
+    ensures equal_texts { result ≡ 0
+        → IsOfOneText (escaping mode) text.now (take count.new buffer.new) }
+    ensures unchanged { result ≢ 0 → (buffer.new ≡ buffer.old) × (count.new ≡ 0) }
+{
+    let text = unsafe { str::from_utf8_unchecked(text) };
+    let written = match kernel_for(mode, kernel, text.len(), buffer.len()) {
+        Ok(kernel) => Ok(format(mode, kernel, text, buffer)),
         Err(why) => Err(why),
     };
     status(written, count)

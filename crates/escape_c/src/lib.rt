@@ -10,3 +10,4 @@ mod call;
 mod html;
 mod json;
 mod script;
+mod version;

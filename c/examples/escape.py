@@ -30,50 +30,71 @@ def _load():
 
 
 _library = _load()
-_size, _bytes = ctypes.c_size_t, ctypes.c_char_p
+_size, _bytes, _address = ctypes.c_size_t, ctypes.c_char_p, ctypes.c_void_p
+
+# A str and bytes from an address and a size; the address of the first of some bytes.
 _string_at = ctypes.pythonapi.PyUnicode_FromStringAndSize
-_string_at.restype, _string_at.argtypes = ctypes.py_object, [ctypes.c_void_p, ctypes.c_ssize_t]
+_bytes_at = ctypes.pythonapi.PyBytes_FromStringAndSize
+for _made in _string_at, _bytes_at:
+    _made.restype, _made.argtypes = ctypes.py_object, [_address, ctypes.c_ssize_t]
+_address_of = ctypes.pythonapi.PyBytes_AsString
+_address_of.restype, _address_of.argtypes = _address, [ctypes.py_object]
 
-# Buffers of this size are kept and used again. One in use is out of the list, so that neither another
+
+class _Room:
+    """A buffer and a count for one call, with their addresses."""
+
+    def __init__(self, size):
+        # Python makes bytes that are not filled of no address, for their maker to write to. What ctypes
+        # has for a buffer is filled with zeros, which takes longer than the escaping.
+        self.size = size
+        self.buffer = _bytes_at(None, size)
+        self.at = _address_of(self.buffer)
+        self.count = _size()
+        self.count_at = ctypes.addressof(self.count)
+
+
+# Rooms of this size are kept and used again. One in use is out of the list, so that neither another
 # thread nor a signal's handler finds it.
-_KEPT_ROOM = 1 << 16
+_KEPT_SIZE = 1 << 16
 _kept = []
-
-
-def _new(room):
-    return (ctypes.c_char * room)(), _size()
 
 
 def _escaper(name, doc):
     bound = _library["escape_%s_bound" % name]
     bound.restype, bound.argtypes = _size, [_size]
     checked, unchecked = _library["escape_" + name], _library["escape_%s_unchecked" % name]
-    for call in checked, unchecked:
-        call.restype = ctypes.c_uint32
-        call.argtypes = [ctypes.c_uint32, _bytes, _size, ctypes.c_void_p, _size, ctypes.c_void_p]
+    for write in checked, unchecked:
+        write.restype = ctypes.c_uint32
+        write.argtypes = [ctypes.c_uint32, _bytes, _size, _address, _size, _address]
+    kept_length = _KEPT_SIZE // 6 - 6
+    assert bound(kept_length) <= _KEPT_SIZE
 
     def call(text):
         # An encoded str is UTF-8; bytes may be anything.
         is_str = isinstance(text, str)
         source = text.encode() if is_str else bytes(memoryview(text))
-        room = max(bound(len(source)), _KEPT_ROOM)
-        try:
-            buffer, count = _kept.pop() if room == _KEPT_ROOM else _new(room)
-        except IndexError:
-            buffer, count = _new(room)
+        length = len(source)
+        if length > kept_length:
+            room = _Room(bound(length))
+        else:
+            try:
+                room = _kept.pop()
+            except IndexError:
+                room = _Room(_KEPT_SIZE)
         write = unchecked if is_str else checked
-        status = write(_DEFAULT, source, len(source), buffer, room, ctypes.byref(count))
-        if status == _OK:
-            at = ctypes.addressof(buffer)
-            output = _string_at(at, count.value) if is_str else ctypes.string_at(at, count.value)
-        if room == _KEPT_ROOM:
-            _kept.append((buffer, count))
-        if status == _OK:
-            return output
-        raise ValueError("not UTF-8" if status == _NOT_UTF8 else "too large")
+        status = write(_DEFAULT, source, length, room.at, room.size, room.count_at)
+        if status != _OK:
+            raise ValueError("not UTF-8" if status == _NOT_UTF8 else "too large")
+        output = (_string_at if is_str else _bytes_at)(room.at, room.count.value)
+        if length <= kept_length:
+            _kept.append(room)
+        return output
 
     call.__name__ = call.__qualname__ = "escape" if name == "json" else "escape_" + name
-    call.__doc__ = doc + "\n\nA str gives a str and bytes give bytes. ValueError: not UTF-8 (in a str, a lone surrogate)."
+    call.__doc__ = doc + """
+
+    A str gives a str, and bytes give bytes. ValueError: not UTF-8; in a str, a lone surrogate."""
     return call
 
 

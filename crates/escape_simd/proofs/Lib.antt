@@ -5,6 +5,7 @@ pub mod Stretches
 pub mod Lanes
 pub mod Costs
 pub mod Whole
+pub mod InnerLemmas
 pub mod Escapes
 pub mod Turns
 pub mod RestLemmas

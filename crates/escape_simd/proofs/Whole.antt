@@ -37,7 +37,7 @@ quote-short html = omega arith
 quote-short script = omega arith
 
 -- how much the last bytes' stores may reach past the output
-slack-most : (exact : Bool) (n : ℕ) → (exact ≡ false → n ≤ 32) → 8 ≤ n → (rest_slack exact n ≤ 32) × (rest_slack exact n ≤ n)
+pub slack-most : (exact : Bool) (n : ℕ) → (exact ≡ false → n ≤ 32) → 8 ≤ n → (rest_slack exact n ≤ 32) × (rest_slack exact n ≤ n)
 slack-most true n narrow some = (omega arith, some)
 slack-most false n narrow some = (narrow refl, omega arith)
 

@@ -7,6 +7,7 @@ pub mod Output
 pub mod Runs
 pub mod Stretch
 pub mod Formatted
+pub mod Inner
 pub mod Kernels
 pub mod Spelling
 pub mod Html

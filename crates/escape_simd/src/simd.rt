@@ -5,6 +5,7 @@ pub mod avx512;
 mod body;
 mod chunk;
 mod classify;
+pub(crate) mod inner;
 pub mod neon;
 mod rest;
 mod source;

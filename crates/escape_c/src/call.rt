@@ -2,8 +2,9 @@
 ghost use Rattle.std.specs.Prelude.{◌≡◌, ◌≢◌, ◌≤◌, ◌<◌, ◌↔◌, ◌^◌, length, take, chars, IsUtf8, Ok, Err, IfOk, OnErr, IsOk};
 ghost use Rattle.escape_simd.specs.Formatted.{IsWritten};
 ghost use Rattle.escape_simd.specs.Headline.{IsOnlyOutput};
+ghost use Rattle.escape_simd.specs.Inner.{IsInnerWritten, JoinsPieces};
 ghost use Rattle.escape_simd.specs.Kernels.{lanes_of};
-ghost use Rattle.escape_simd.specs.Laws.{IsOfOneText};
+ghost use Rattle.escape_simd.specs.Laws.{IsOfOneText, AgreesWithEach};
 ghost use Rattle.escape_simd.specs.Output.{bound};
 ghost use Rattle.escape_simd.specs.declared.Kernel.{Kernel};
 ghost use Rattle.escape_c.specs.declared.call.Mode.{Mode};
@@ -12,7 +13,10 @@ ghost use Rattle.escape_c.specs.Call.{escaping, kernel_numbered, lanes_numbered,
 
 use escape_simd::html::html_capacity;
 use escape_simd::json::json_capacity;
-use escape_simd::{Kernel, format_html_string, format_json_string, format_script_string};
+use escape_simd::{
+    Kernel, format_html_string, format_json_inner, format_json_string, format_script_inner,
+    format_script_string,
+};
 use std::str;
 
 /// What is written.
@@ -95,11 +99,28 @@ fn format(mode: Mode, kernel: Kernel, text: &str, buffer: &mut [u8]) -> usize
     ensures written { IsWritten (lanes_of kernel) (escaping mode) text.now buffer.old buffer.new result }
     ensures headline { IsOnlyOutput (escaping mode) (take result buffer.new) (chars text.now) }
     ensures equal_texts { IsOfOneText (escaping mode) text.now (take result buffer.new) }
+    ensures agree { AgreesWithEach (escaping mode) text.now result (take result buffer.new) }
 {
     match mode {
         Mode::Json => format_json_string(kernel, text, buffer),
         Mode::Html => format_html_string(kernel, text, buffer),
         Mode::Script => format_script_string(kernel, text, buffer),
+    }
+}
+
+/// The same of the inner part of a literal, which has no quotation marks.
+#[inline(always)]
+fn format_inner(mode: Mode, kernel: Kernel, text: &str, buffer: &mut [u8]) -> usize
+    requires literal { mode ≢ Mode.Html }
+    requires room { bound (escaping mode) (length text.now) ≤ length buffer.old }
+    ensures written { IsInnerWritten (lanes_of kernel) (escaping mode)
+        text.now buffer.old buffer.new result }
+    ensures joined { JoinsPieces (escaping mode) text.now (take result buffer.new) }
+{
+    match mode {
+        Mode::Json => format_json_inner(kernel, text, buffer),
+        Mode::Script => format_script_inner(kernel, text, buffer),
+        Mode::Html => unreachable!(),
     }
 }
 
@@ -140,6 +161,8 @@ pub(crate) fn escape(
         → IsOnlyOutput (escaping mode) (take count.new buffer.new) (chars text.now) }
     ensures equal_texts { result ≡ 0
         → IsOfOneText (escaping mode) text.now (take count.new buffer.new) }
+    ensures agree { result ≡ 0
+        → AgreesWithEach (escaping mode) text.now count.new (take count.new buffer.new) }
     ensures unchanged { result ≢ 0 → (buffer.new ≡ buffer.old) × (count.new ≡ 0) }
 {
     let written = match kernel_for(mode, kernel, text.len(), buffer.len()) {
@@ -171,11 +194,70 @@ pub(crate) fn escape_unchecked(
         → IsOnlyOutput (escaping mode) (take count.new buffer.new) (chars text.now) }
     ensures equal_texts { result ≡ 0
         → IsOfOneText (escaping mode) text.now (take count.new buffer.new) }
+    ensures agree { result ≡ 0
+        → AgreesWithEach (escaping mode) text.now count.new (take count.new buffer.new) }
     ensures unchanged { result ≢ 0 → (buffer.new ≡ buffer.old) × (count.new ≡ 0) }
 {
     let text = unsafe { str::from_utf8_unchecked(text) };
     let written = match kernel_for(mode, kernel, text.len(), buffer.len()) {
         Ok(kernel) => Ok(format(mode, kernel, text, buffer)),
+        Err(why) => Err(why),
+    };
+    status(written, count)
+}
+
+/// Escapes the bytes to the front of `buffer`, where they are a text, as the inner part of a literal.
+#[inline(always)]
+pub(crate) fn escape_inner(
+    mode: Mode,
+    kernel: u32,
+    text: &[u8],
+    buffer: &mut [u8],
+    count: &mut usize,
+) -> u32
+    requires { mode ≢ Mode.Html }
+    ensures refused { (why : Refusal) → (result ≡ status_of why)
+        ↔ Refuses (escaping mode) kernel text.now (length buffer.old) why }
+    ensures ok { (result ≡ 0) ↔ Accepts (escaping mode) kernel text.now (length buffer.old) }
+    ensures written { result ≡ 0 → IsInnerWritten (lanes_numbered kernel) (escaping mode)
+        text.now buffer.old buffer.new count.new }
+    ensures joined { result ≡ 0
+        → JoinsPieces (escaping mode) text.now (take count.new buffer.new) }
+    ensures unchanged { result ≢ 0 → (buffer.new ≡ buffer.old) × (count.new ≡ 0) }
+{
+    let written = match kernel_for(mode, kernel, text.len(), buffer.len()) {
+        Ok(kernel) => match str::from_utf8(text) {
+            Ok(text) => Ok(format_inner(mode, kernel, text, buffer)),
+            Err(_) => Err(Refusal::NotUtf8),
+        },
+        Err(why) => Err(why),
+    };
+    status(written, count)
+}
+
+/// Escapes the bytes, which must be a text, to the front of `buffer` as the inner part of a literal.
+#[inline(always)]
+pub(crate) fn escape_inner_unchecked(
+    mode: Mode,
+    kernel: u32,
+    text: &[u8],
+    buffer: &mut [u8],
+    count: &mut usize,
+) -> u32
+    requires literal { mode ≢ Mode.Html }
+    requires text { IsUtf8 text.now }
+    ensures refused { (why : Refusal) → (result ≡ status_of why)
+        ↔ Refuses (escaping mode) kernel text.now (length buffer.old) why }
+    ensures ok { (result ≡ 0) ↔ Accepts (escaping mode) kernel text.now (length buffer.old) }
+    ensures written { result ≡ 0 → IsInnerWritten (lanes_numbered kernel) (escaping mode)
+        text.now buffer.old buffer.new count.new }
+    ensures joined { result ≡ 0
+        → JoinsPieces (escaping mode) text.now (take count.new buffer.new) }
+    ensures unchanged { result ≢ 0 → (buffer.new ≡ buffer.old) × (count.new ≡ 0) }
+{
+    let text = unsafe { str::from_utf8_unchecked(text) };
+    let written = match kernel_for(mode, kernel, text.len(), buffer.len()) {
+        Ok(kernel) => Ok(format_inner(mode, kernel, text, buffer)),
         Err(why) => Err(why),
     };
     status(written, count)

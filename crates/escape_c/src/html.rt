@@ -3,7 +3,7 @@ ghost use Rattle.std.specs.Prelude.{◌≡◌, ◌≢◌, ◌≤◌, ◌<◌, �
 ghost use Rattle.escape_lanes.specs.Mode.{html};
 ghost use Rattle.escape_simd.specs.Formatted.{IsWritten};
 ghost use Rattle.escape_simd.specs.Html.{IsOnlyHtml};
-ghost use Rattle.escape_simd.specs.Laws.{IsOfOneText};
+ghost use Rattle.escape_simd.specs.Laws.{IsOfOneText, AgreesWithEach};
 ghost use Rattle.escape_simd.specs.Output.{bound};
 ghost use Rattle.escape_c.specs.declared.call.Refusal.{Refusal};
 ghost use Rattle.escape_c.specs.Call.{lanes_numbered, status_of, Accepts, Refuses};
@@ -35,6 +35,8 @@ pub extern "C" fn escape_html(kernel: u32, text: &[u8], buffer: &mut [u8], count
         → IsWritten (lanes_numbered kernel) html text.now buffer.old buffer.new count.new }
     ensures headline { result ≡ 0 → IsOnlyHtml (take count.new buffer.new) (chars text.now) }
     ensures equal_texts { result ≡ 0 → IsOfOneText html text.now (take count.new buffer.new) }
+    ensures agree { result ≡ 0
+        → AgreesWithEach html text.now count.new (take count.new buffer.new) }
     ensures unchanged { result ≢ 0 → (buffer.new ≡ buffer.old) × (count.new ≡ 0) }
 {
     call::escape(Mode::Html, kernel, text, buffer, count)
@@ -60,6 +62,8 @@ pub extern "C" fn escape_html_unchecked(
         → IsWritten (lanes_numbered kernel) html text.now buffer.old buffer.new count.new }
     ensures headline { result ≡ 0 → IsOnlyHtml (take count.new buffer.new) (chars text.now) }
     ensures equal_texts { result ≡ 0 → IsOfOneText html text.now (take count.new buffer.new) }
+    ensures agree { result ≡ 0
+        → AgreesWithEach html text.now count.new (take count.new buffer.new) }
     ensures unchanged { result ≢ 0 → (buffer.new ≡ buffer.old) × (count.new ≡ 0) }
 {
     call::escape_unchecked(Mode::Html, kernel, text, buffer, count)

@@ -2,8 +2,9 @@
 ghost use Rattle.std.specs.Prelude.{◌≡◌, ◌≢◌, ◌≤◌, ◌<◌, ◌^◌, ◌↔◌, length, take, chars, IsUtf8};
 ghost use Rattle.escape_lanes.specs.Mode.{script};
 ghost use Rattle.escape_simd.specs.Formatted.{IsWritten};
+ghost use Rattle.escape_simd.specs.Inner.{IsInnerWritten, JoinsPieces};
 ghost use Rattle.escape_simd.specs.Script.{IsOnlyScript, IsSafeInScript};
-ghost use Rattle.escape_simd.specs.Laws.{IsOfOneText};
+ghost use Rattle.escape_simd.specs.Laws.{IsOfOneText, AgreesWithEach};
 ghost use Rattle.escape_simd.specs.Output.{bound};
 ghost use Rattle.escape_c.specs.declared.call.Refusal.{Refusal};
 ghost use Rattle.escape_c.specs.Call.{lanes_numbered, status_of, Accepts, Refuses};
@@ -41,6 +42,8 @@ pub extern "C" fn escape_script(
     ensures headline { result ≡ 0 → IsOnlyScript (take count.new buffer.new) (chars text.now) }
     ensures safe { result ≡ 0 → IsSafeInScript (take count.new buffer.new) }
     ensures equal_texts { result ≡ 0 → IsOfOneText script text.now (take count.new buffer.new) }
+    ensures agree { result ≡ 0
+        → AgreesWithEach script text.now count.new (take count.new buffer.new) }
     ensures unchanged { result ≢ 0 → (buffer.new ≡ buffer.old) × (count.new ≡ 0) }
 {
     call::escape(Mode::Script, kernel, text, buffer, count)
@@ -67,7 +70,57 @@ pub extern "C" fn escape_script_unchecked(
     ensures headline { result ≡ 0 → IsOnlyScript (take count.new buffer.new) (chars text.now) }
     ensures safe { result ≡ 0 → IsSafeInScript (take count.new buffer.new) }
     ensures equal_texts { result ≡ 0 → IsOfOneText script text.now (take count.new buffer.new) }
+    ensures agree { result ≡ 0
+        → AgreesWithEach script text.now count.new (take count.new buffer.new) }
     ensures unchanged { result ≢ 0 → (buffer.new ≡ buffer.old) × (count.new ≡ 0) }
 {
     call::escape_unchecked(Mode::Script, kernel, text, buffer, count)
+}
+
+/// As [`escape_script`], without the two quotation marks: what stands for a piece of a longer text, which is
+/// cut between two characters. The outputs of its pieces, one after another, are that of the whole.
+///
+/// # Errors
+///
+/// Those of [`escape_script`].
+#[unsafe(no_mangle)]
+pub extern "C" fn escape_script_inner(
+    kernel: u32,
+    text: &[u8],
+    buffer: &mut [u8],
+    count: &mut usize,
+) -> u32
+    ensures refused { (why : Refusal) → (result ≡ status_of why)
+        ↔ Refuses script kernel text.now (length buffer.old) why }
+    ensures ok { (result ≡ 0) ↔ Accepts script kernel text.now (length buffer.old) }
+    ensures written { result ≡ 0
+        → IsInnerWritten (lanes_numbered kernel) script text.now buffer.old buffer.new count.new }
+    ensures joined { result ≡ 0 → JoinsPieces script text.now (take count.new buffer.new) }
+    ensures unchanged { result ≢ 0 → (buffer.new ≡ buffer.old) × (count.new ≡ 0) }
+{
+    call::escape_inner(Mode::Script, kernel, text, buffer, count)
+}
+
+/// As [`escape_script_inner`], for a caller who knows that the piece is UTF-8.
+///
+/// # Errors
+///
+/// Those of [`escape_script_inner`], but for 1.
+#[unsafe(no_mangle)]
+pub extern "C" fn escape_script_inner_unchecked(
+    kernel: u32,
+    text: &[u8],
+    buffer: &mut [u8],
+    count: &mut usize,
+) -> u32
+    requires { IsUtf8 text.now }
+    ensures refused { (why : Refusal) → (result ≡ status_of why)
+        ↔ Refuses script kernel text.now (length buffer.old) why }
+    ensures ok { (result ≡ 0) ↔ Accepts script kernel text.now (length buffer.old) }
+    ensures written { result ≡ 0
+        → IsInnerWritten (lanes_numbered kernel) script text.now buffer.old buffer.new count.new }
+    ensures joined { result ≡ 0 → JoinsPieces script text.now (take count.new buffer.new) }
+    ensures unchanged { result ≢ 0 → (buffer.new ≡ buffer.old) × (count.new ≡ 0) }
+{
+    call::escape_inner_unchecked(Mode::Script, kernel, text, buffer, count)
 }

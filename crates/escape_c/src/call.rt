@@ -92,6 +92,19 @@ fn kernel_for(mode: Mode, kernel: u32, len: usize, room: usize) -> Result<Kernel
     Ok(kernel)
 }
 
+/// The bytes as a text, where they are one.
+#[inline(always)]
+fn as_text(bytes: &[u8]) -> Result<&str, Refusal>
+    ensures text { IfOk result (λ text. text.now ≡ bytes.now) }
+    ensures ok { IsOk result ↔ IsUtf8 bytes.now }
+    ensures err { OnErr result (result ≡ Err Refusal.NotUtf8) }
+{
+    match str::from_utf8(bytes) {
+        Ok(text) => Ok(text),
+        Err(_) => Err(Refusal::NotUtf8),
+    }
+}
+
 /// Escapes the text to the front of `buffer` by the kernel, and answers how many bytes it became.
 #[inline(always)]
 fn format(mode: Mode, kernel: Kernel, text: &str, buffer: &mut [u8]) -> usize
@@ -166,9 +179,9 @@ pub(crate) fn escape(
     ensures unchanged { result ≢ 0 → (buffer.new ≡ buffer.old) × (count.new ≡ 0) }
 {
     let written = match kernel_for(mode, kernel, text.len(), buffer.len()) {
-        Ok(kernel) => match str::from_utf8(text) {
+        Ok(kernel) => match as_text(text) {
             Ok(text) => Ok(format(mode, kernel, text, buffer)),
-            Err(_) => Err(Refusal::NotUtf8),
+            Err(why) => Err(why),
         },
         Err(why) => Err(why),
     };
@@ -226,9 +239,9 @@ pub(crate) fn escape_inner(
     ensures unchanged { result ≢ 0 → (buffer.new ≡ buffer.old) × (count.new ≡ 0) }
 {
     let written = match kernel_for(mode, kernel, text.len(), buffer.len()) {
-        Ok(kernel) => match str::from_utf8(text) {
+        Ok(kernel) => match as_text(text) {
             Ok(text) => Ok(format_inner(mode, kernel, text, buffer)),
-            Err(_) => Err(Refusal::NotUtf8),
+            Err(why) => Err(why),
         },
         Err(why) => Err(why),
     };

@@ -82,6 +82,16 @@ escape_status escape_json(escape_kernel kernel, const char *text, size_t length,
 escape_status escape_json_unchecked(escape_kernel kernel, const char *text, size_t length,
                                     char *buffer, size_t room, size_t *count);
 
+/* As escape_json, without the two quotation marks, for a text that is given in pieces: `"`, the outputs of
+ * its pieces, and `"` are the literal of the whole. A piece ends between two characters. The bound is the
+ * same; the output has from length to 6 * length bytes. */
+escape_status escape_json_inner(escape_kernel kernel, const char *text, size_t length, char *buffer,
+                                size_t room, size_t *count);
+
+/* As escape_json_inner, for a piece that the caller knows to be UTF-8; see escape_json_unchecked. */
+escape_status escape_json_inner_unchecked(escape_kernel kernel, const char *text, size_t length,
+                                          char *buffer, size_t room, size_t *count);
+
 /* HTML, for text and for attribute values in quotation marks: `"`, `&`, `'`, `/`, `<` and `>` become
  * `&quot;`, `&amp;`, `&#x27;`, `&#x2f;`, `&lt;` and `&gt;`. */
 
@@ -114,6 +124,16 @@ escape_status escape_script(escape_kernel kernel, const char *text, size_t lengt
 /* As escape_script, for a text that the caller knows to be UTF-8; see escape_json_unchecked. */
 escape_status escape_script_unchecked(escape_kernel kernel, const char *text, size_t length,
                                       char *buffer, size_t room, size_t *count);
+
+/* As escape_script, without the two quotation marks, for a text that is given in pieces: `"`, the outputs of
+ * its pieces, and `"` are the literal of the whole. A piece ends between two characters. The bound is the
+ * same; the output has from length to 6 * length bytes. */
+escape_status escape_script_inner(escape_kernel kernel, const char *text, size_t length, char *buffer,
+                                  size_t room, size_t *count);
+
+/* As escape_script_inner, for a piece that the caller knows to be UTF-8; see escape_json_unchecked. */
+escape_status escape_script_inner_unchecked(escape_kernel kernel, const char *text, size_t length,
+                                            char *buffer, size_t room, size_t *count);
 
 #ifdef __cplusplus
 }

@@ -22,6 +22,8 @@ struct mode {
     const char *name;
     size_t (*bound)(size_t);
     call *checked, *unchecked;
+    /* of a piece; HTML has no quotation marks, so its pieces are texts */
+    call *inner, *inner_unchecked;
     replacement *replace;
     size_t quotes, slack;
 };
@@ -85,9 +87,12 @@ static size_t script_replacement(const byte *text, size_t length, char out[8], s
 }
 
 static const struct mode MODES[] = {
-    {"json", escape_json_bound, escape_json, escape_json_unchecked, json_replacement, 2, 35},
-    {"html", escape_html_bound, escape_html, escape_html_unchecked, html_replacement, 0, 32},
-    {"script", escape_script_bound, escape_script, escape_script_unchecked, script_replacement, 2, 35},
+    {"json", escape_json_bound, escape_json, escape_json_unchecked, escape_json_inner, escape_json_inner_unchecked,
+     json_replacement, 2, 35},
+    {"html", escape_html_bound, escape_html, escape_html_unchecked, escape_html, escape_html_unchecked,
+     html_replacement, 0, 32},
+    {"script", escape_script_bound, escape_script, escape_script_unchecked, escape_script_inner, escape_script_inner_unchecked,
+     script_replacement, 2, 35},
 };
 enum { MODE_COUNT = sizeof MODES / sizeof MODES[0] };
 
@@ -176,10 +181,12 @@ enum { CANARY = 0xa5, PAST = 200 };
  * bytes past the bound where `canaries` says so. Answers whether all is right. */
 static int is_right(const struct mode *mode, call *escape, escape_kernel kernel, const byte *text,
                     size_t length, byte *buffer, int canaries) {
-    char expected[6 * LONGEST + 16];
-    size_t size = model(mode, text, length, expected), count = 12345;
+    char whole[6 * LONGEST + 16], *expected = whole;
+    size_t size = model(mode, text, length, whole), count = 12345;
     size_t bound = mode->bound(length), room = bound + (canaries ? PAST : 0), at;
-    size_t kept = size + LANES[kernel] < bound ? size + LANES[kernel] : bound;
+    size_t kept;
+    if (mode->quotes && (escape == mode->inner || escape == mode->inner_unchecked)) expected++, size -= 2;
+    kept = size + LANES[kernel] < bound ? size + LANES[kernel] : bound;
     memset(buffer, CANARY, room);
     if (escape(kernel, (const char *)text, length, (char *)buffer, room, &count) != ESCAPE_OK) return 0;
     if (count != size || memcmp(buffer, expected, size)) return 0;
@@ -234,6 +241,8 @@ static void test_statuses(void) {
             memset(text, 'a', sizeof text);
             refused(mode, "a byte short", mode->checked, kernel, text, 100, room - 1, ESCAPE_TOO_SHORT);
             refused(mode, "a byte short", mode->unchecked, kernel, text, 100, room - 1, ESCAPE_TOO_SHORT);
+            refused(mode, "a byte short", mode->inner, kernel, text, 100, room - 1, ESCAPE_TOO_SHORT);
+            refused(mode, "too large", mode->inner, kernel, text, too_large, room, ESCAPE_TOO_LARGE);
             refused(mode, "no buffer", mode->checked, kernel, text, 0, 0, ESCAPE_TOO_SHORT);
             refused(mode, "too large", mode->checked, kernel, text, too_large, room, ESCAPE_TOO_LARGE);
             refused(mode, "too large", mode->unchecked, kernel, text, too_large, room, ESCAPE_TOO_LARGE);
@@ -244,10 +253,12 @@ static void test_statuses(void) {
                     memcpy(text + at, BROKEN[b], size);
                     refused(mode, "not UTF-8, at the end", mode->checked, kernel, text, at + size, mode->bound(at + size), ESCAPE_NOT_UTF8);
                     refused(mode, "not UTF-8, within", mode->checked, kernel, text, at + size + 40, mode->bound(at + size + 40), ESCAPE_NOT_UTF8);
+                    refused(mode, "not UTF-8, of a piece", mode->inner, kernel, text, at + size, mode->bound(at + size), ESCAPE_NOT_UTF8);
                 }
         }
         for (kernel = KERNELS; kernel < KERNELS + 3; kernel++) {
             refused(mode, "no kernel", mode->checked, kernel, "a", 1, mode->bound(1), ESCAPE_NO_KERNEL);
+            refused(mode, "no kernel", mode->inner_unchecked, kernel, "a", 1, mode->bound(1), ESCAPE_NO_KERNEL);
             refused(mode, "no kernel", mode->unchecked, kernel, "a", 1, mode->bound(1), ESCAPE_NO_KERNEL);
         }
         refused(mode, "no kernel", mode->checked, UINT32_MAX, "\xff", 1, 0, ESCAPE_NO_KERNEL);
@@ -302,6 +313,7 @@ static void test_forbidden_pages(void) {
                 byte *buffer_at = target + pages * page - mode->bound(length);
                 memcpy(text_at, text, length);
                 if (!is_right(mode, mode->checked, kernel, text_at, length, buffer_at, 0)) fault("%s, kernel %u, %zu bytes at a page's end", mode->name, (unsigned)kernel, length);
+                if (!is_right(mode, mode->inner, kernel, text_at, length, buffer_at, 0)) fault("%s, kernel %u, a piece of %zu bytes at a page's end", mode->name, (unsigned)kernel, length);
                 if (!is_right(mode, mode->unchecked, kernel, text_at, length, buffer_at, 0)) fault("%s, kernel %u, %zu bytes at a page's end, unchecked", mode->name, (unsigned)kernel, length);
                 memcpy(source, text, length);
                 if (!is_right(mode, mode->checked, kernel, source, length, target, 0)) fault("%s, kernel %u, %zu bytes at a page's start", mode->name, (unsigned)kernel, length);
@@ -337,13 +349,40 @@ static size_t random_texts(uint64_t seed, size_t texts) {
         size_t length = random_text(&state, LONGEST, text);
         wrong += !is_right(mode, mode->checked, kernel, text, length, buffer, 1);
         wrong += !is_right(mode, mode->unchecked, kernel, text, length, buffer, 1);
+        wrong += !is_right(mode, mode->inner, kernel, text, length, buffer, 1);
+        wrong += !is_right(mode, mode->inner_unchecked, kernel, text, length, buffer, 1);
     }
     return wrong;
 }
 
 static void test_random_texts(void) {
     size_t wrong = random_texts(2463534242u, RANDOM_TEXTS);
-    if (wrong) fault("%zu of %d", wrong, 2 * RANDOM_TEXTS);
+    if (wrong) fault("%zu of %d", wrong, 4 * RANDOM_TEXTS);
+}
+
+/* The outputs of a text's pieces, one after another in one buffer, between the quotation marks. */
+static void test_pieces(void) {
+    byte text[LONGEST + 8];
+    char expected[6 * LONGEST + 16], output[12 * LONGEST + 100];
+    uint64_t state = 521288629u;
+    int n;
+    for (n = 0; n < 20000; n++) {
+        const struct mode *mode = &MODES[n % MODE_COUNT];
+        escape_kernel kernel = (escape_kernel)(n / MODE_COUNT % KERNELS);
+        size_t length = random_text(&state, LONGEST, text), size = model(mode, text, length, expected);
+        size_t at = 0, end = 0, count;
+        if (mode->quotes) output[end++] = '"';
+        while (at < length) {
+            size_t next_at = at + 1 + next(&state) % 90;
+            while (next_at < length && (text[next_at] & 0xc0) == 0x80) next_at++;
+            if (next_at > length) next_at = length;
+            if (mode->inner(kernel, (const char *)text + at, next_at - at, output + end, sizeof output - end, &count) != ESCAPE_OK) fault("%s, kernel %u: refused", mode->name, (unsigned)kernel);
+            end += count;
+            at = next_at;
+        }
+        if (mode->quotes) output[end++] = '"';
+        if (end != size || memcmp(output, expected, size)) fault("%s, kernel %u, %zu bytes", mode->name, (unsigned)kernel, length);
+    }
 }
 
 static void *run_thread(void *seed) {
@@ -376,6 +415,7 @@ int main(void) {
     test("source and target flush against forbidden pages", test_forbidden_pages);
     test("every kernel at every border, canaries past both limits", test_kernels);
     test("100,000 random texts against a byte loop", test_random_texts);
+    test("texts in pieces", test_pieces);
     test("four threads at once", test_threads);
     return failed_tests != 0;
 }

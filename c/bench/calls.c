@@ -44,15 +44,16 @@ static double measured(call *escape, const char *text, size_t length, size_t tex
     return best;
 }
 
-/* Words of letters; with a mark every so many bytes, and of characters of two bytes where told. */
-static void fill(char *text, size_t length, size_t every, int wide) {
-    uint64_t state = 88172645463325252u;
-    size_t at = 0;
+/* Words of letters; with a mark every so many bytes, and of characters of two bytes where told. The first
+ * mark is at another place in each of several texts. */
+static void fill(char *text, size_t length, size_t nth, size_t every, int wide) {
+    uint64_t state = 88172645463325252u + nth;
+    size_t at = 0, first = every ? 7 * nth % every : 0;
     while (at < length) {
         state ^= state << 13, state ^= state >> 7, state ^= state << 17;
-        if (every && at % every == every - 1) text[at++] = '"';
+        if (every && (at + first) % every == every - 1) text[at++] = '"';
         else if (state % 6 == 0) text[at++] = ' ';
-        else if (wide && at + 2 <= length && (!every || at % every != every - 2)) text[at++] = (char)0xd0, text[at++] = (char)(0xb0 + state / 7 % 16);
+        else if (wide && at + 2 <= length && (!every || (at + first) % every != every - 2)) text[at++] = (char)0xd0, text[at++] = (char)(0xb0 + state / 7 % 16);
         else text[at++] = (char)('a' + state / 7 % 26);
     }
 }
@@ -76,7 +77,7 @@ int main(void) {
                 char *text = malloc(texts * length), *buffer = malloc(room);
                 double checked, unchecked, copied;
                 if (!text || !buffer) return 1;
-                for (n = 0; n < texts; n++) fill(text + n * length, length, CORPORA[c].every, CORPORA[c].wide);
+                for (n = 0; n < texts; n++) fill(text + n * length, length, n, CORPORA[c].every, CORPORA[c].wide);
                 memset(buffer, 0, room);
                 checked = measured(MODES[m].checked, text, length, texts, buffer, room);
                 unchecked = measured(MODES[m].unchecked, text, length, texts, buffer, room);

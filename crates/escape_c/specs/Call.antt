@@ -1,10 +1,10 @@
 -- What a call from C answers.
-use Rattle.std.specs.Prelude.{◌≡◌, ℕ, ◌≤◌, ◌<◌, ◌^◌, List, length, IsUtf8}
+use Rattle.std.specs.Prelude.{◌≡◌, ℕ, ◌≤◌, ◌<◌, ◌^◌, List, ◌++◌, length, IsUtf8}
 use Rattle.std.proofs.Common.{zero, suc}
 use Rattle.escape_lanes.specs.Mode.{json, html, script}
 use Rattle.escape_lanes.specs.Mode as meaning
 use Rattle.escape_simd.specs.Kernels.{lanes_of}
-use Rattle.escape_simd.specs.Output.{bound}
+use Rattle.escape_simd.specs.Output.{bound, inner}
 use Rattle.escape_simd.specs.declared.Kernel.{Kernel}
 use Rattle.escape_simd.specs.declared.Kernel.TheVariants.{V128, Sse2, Neon, Avx2, Avx512}
 use Rattle.escape_c.specs.declared.call.Mode.{Mode}
@@ -56,3 +56,9 @@ Refuses mode kernel text room TooShort =
     NamesKernel kernel × ((bound mode (length text) < 2 ^ 64) × (room < bound mode (length text)))
 Refuses mode kernel text room NotUtf8 =
     NamesKernel kernel × ((bound mode (length text) ≤ room) × ¬ (IsUtf8 text))
+
+-- Wherever the text is a piece of a longer one, after a text and before any bytes, the output is a piece of what
+-- stands for that.
+abbrev pub JoinsPieces : meaning.Mode → List ℕ → List ℕ → Type 0
+JoinsPieces mode text output = (before after : List ℕ) → IsUtf8 before
+    → inner mode (before ++ (text ++ after)) ≡ inner mode before ++ (output ++ inner mode after)

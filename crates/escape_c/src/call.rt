@@ -1,15 +1,14 @@
 //! What the exports of all modes share: a text is escaped into a buffer, or refused by a status.
 ghost use Rattle.std.specs.Prelude.{◌≡◌, ◌≢◌, ◌≤◌, ◌<◌, ◌↔◌, ◌^◌, length, take, chars, IsUtf8, Ok, Err, IfOk, OnErr, IsOk};
-ghost use Rattle.escape_simd.specs.Formatted.{IsWritten};
+ghost use Rattle.escape_simd.specs.Formatted.{IsInnerWritten, IsWritten};
 ghost use Rattle.escape_simd.specs.Headline.{IsOnlyOutput};
-ghost use Rattle.escape_simd.specs.Inner.{IsInnerWritten, JoinsPieces};
 ghost use Rattle.escape_simd.specs.Kernels.{lanes_of};
 ghost use Rattle.escape_simd.specs.Laws.{IsOfOneText, AgreesWithEach};
-ghost use Rattle.escape_simd.specs.Output.{bound};
+ghost use Rattle.escape_simd.specs.Output.{bound, quoted};
 ghost use Rattle.escape_simd.specs.declared.Kernel.{Kernel};
 ghost use Rattle.escape_c.specs.declared.call.Mode.{Mode};
 ghost use Rattle.escape_c.specs.declared.call.Refusal.{Refusal};
-ghost use Rattle.escape_c.specs.Call.{escaping, kernel_numbered, lanes_numbered, NamesKernel, status_of, Accepts, Refuses};
+ghost use Rattle.escape_c.specs.Call.{escaping, kernel_numbered, lanes_numbered, NamesKernel, status_of, Accepts, JoinsPieces, Refuses};
 
 use escape_simd::html::html_capacity;
 use escape_simd::json::json_capacity;
@@ -128,6 +127,8 @@ fn format_inner(mode: Mode, kernel: Kernel, text: &str, buffer: &mut [u8]) -> us
     requires room { bound (escaping mode) (length text.now) ≤ length buffer.old }
     ensures written { IsInnerWritten (lanes_of kernel) (escaping mode)
         text.now buffer.old buffer.new result }
+    ensures headline { IsOnlyOutput (escaping mode)
+        (quoted (take result buffer.new)) (chars text.now) }
     ensures joined { JoinsPieces (escaping mode) text.now (take result buffer.new) }
 {
     match mode {
@@ -234,6 +235,8 @@ pub(crate) fn escape_inner(
     ensures ok { (result ≡ 0) ↔ Accepts (escaping mode) kernel text.now (length buffer.old) }
     ensures written { result ≡ 0 → IsInnerWritten (lanes_numbered kernel) (escaping mode)
         text.now buffer.old buffer.new count.new }
+    ensures headline { result ≡ 0 → IsOnlyOutput (escaping mode)
+        (quoted (take count.new buffer.new)) (chars text.now) }
     ensures joined { result ≡ 0
         → JoinsPieces (escaping mode) text.now (take count.new buffer.new) }
     ensures unchanged { result ≢ 0 → (buffer.new ≡ buffer.old) × (count.new ≡ 0) }
@@ -264,6 +267,8 @@ pub(crate) fn escape_inner_unchecked(
     ensures ok { (result ≡ 0) ↔ Accepts (escaping mode) kernel text.now (length buffer.old) }
     ensures written { result ≡ 0 → IsInnerWritten (lanes_numbered kernel) (escaping mode)
         text.now buffer.old buffer.new count.new }
+    ensures headline { result ≡ 0 → IsOnlyOutput (escaping mode)
+        (quoted (take count.new buffer.new)) (chars text.now) }
     ensures joined { result ≡ 0
         → JoinsPieces (escaping mode) text.now (take count.new buffer.new) }
     ensures unchanged { result ≢ 0 → (buffer.new ≡ buffer.old) × (count.new ≡ 0) }

@@ -1,13 +1,12 @@
 //! JSON string literals that can stand in a script element.
 ghost use Rattle.std.specs.Prelude.{◌≡◌, ◌≢◌, ◌≤◌, ◌<◌, ◌^◌, ◌↔◌, length, take, chars, IsUtf8};
 ghost use Rattle.escape_lanes.specs.Mode.{script};
-ghost use Rattle.escape_simd.specs.Formatted.{IsWritten};
-ghost use Rattle.escape_simd.specs.Inner.{IsInnerWritten, JoinsPieces};
+ghost use Rattle.escape_simd.specs.Formatted.{IsInnerWritten, IsWritten};
 ghost use Rattle.escape_simd.specs.Script.{IsOnlyScript, IsSafeInScript};
 ghost use Rattle.escape_simd.specs.Laws.{IsOfOneText, AgreesWithEach};
-ghost use Rattle.escape_simd.specs.Output.{bound};
+ghost use Rattle.escape_simd.specs.Output.{bound, quoted};
 ghost use Rattle.escape_c.specs.declared.call.Refusal.{Refusal};
-ghost use Rattle.escape_c.specs.Call.{lanes_numbered, status_of, Accepts, Refuses};
+ghost use Rattle.escape_c.specs.Call.{lanes_numbered, status_of, Accepts, JoinsPieces, Refuses};
 
 use crate::call::{self, Mode};
 
@@ -95,6 +94,8 @@ pub extern "C" fn escape_script_inner(
     ensures ok { (result ≡ 0) ↔ Accepts script kernel text.now (length buffer.old) }
     ensures written { result ≡ 0
         → IsInnerWritten (lanes_numbered kernel) script text.now buffer.old buffer.new count.new }
+    ensures headline { result ≡ 0
+        → IsOnlyScript (quoted (take count.new buffer.new)) (chars text.now) }
     ensures joined { result ≡ 0 → JoinsPieces script text.now (take count.new buffer.new) }
     ensures unchanged { result ≢ 0 → (buffer.new ≡ buffer.old) × (count.new ≡ 0) }
 {
@@ -119,6 +120,8 @@ pub extern "C" fn escape_script_inner_unchecked(
     ensures ok { (result ≡ 0) ↔ Accepts script kernel text.now (length buffer.old) }
     ensures written { result ≡ 0
         → IsInnerWritten (lanes_numbered kernel) script text.now buffer.old buffer.new count.new }
+    ensures headline { result ≡ 0
+        → IsOnlyScript (quoted (take count.new buffer.new)) (chars text.now) }
     ensures joined { result ≡ 0 → JoinsPieces script text.now (take count.new buffer.new) }
     ensures unchanged { result ≢ 0 → (buffer.new ≡ buffer.old) × (count.new ≡ 0) }
 {

@@ -11,7 +11,7 @@ use Rattle.escape_simd.specs.Stretch.{HoldsFlags, CanRun, look_ahead, stored_lan
 use Rattle.escape_simd.proofs.Texts.{IsClean}
 
 -- no lane before the first set one is set
-first_set-before : (bs : List Bool) (k : ℕ) → k < first_set bs → get_or bs k false ≡ false
+pub first_set-before : (bs : List Bool) (k : ℕ) → k < first_set bs → get_or bs k false ≡ false
 unfolding first_set
 first_set-before [] k h = absurd (omega arith)
 first_set-before (true ∷ bs) k h = absurd (omega arith)
@@ -26,7 +26,7 @@ first_set-here (true ∷ bs) h = refl
 first_set-here (false ∷ bs) h = first_set-here bs h
 
 -- where none is set, no lane is
-none_set-at : (bs : List Bool) (k : ℕ) → none_set bs ≡ true → get_or bs k false ≡ false
+pub none_set-at : (bs : List Bool) (k : ℕ) → none_set bs ≡ true → get_or bs k false ≡ false
 unfolding none_set
 none_set-at [] k h = get_or_past [] k false (omega arith)
 none_set-at (true ∷ bs) k h = absurd (cc)

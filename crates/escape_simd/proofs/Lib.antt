@@ -5,7 +5,6 @@ pub mod Stretches
 pub mod Lanes
 pub mod Costs
 pub mod Whole
-pub mod InnerLemmas
 pub mod Escapes
 pub mod Turns
 pub mod RestLemmas
@@ -14,5 +13,7 @@ pub mod JsonLemmas
 pub mod ScriptLemmas
 pub mod OutputLemmas
 pub mod Examples
+pub mod AheadLemmas
+pub mod InnerLemmas
 pub mod Pieces
 pub mod JoinedLemmas

@@ -38,6 +38,11 @@ module _ (bytes : List ℕ) (at index next : ℕ) (utf8 : IsUtf8 bytes) (here : 
 passed : (bytes : List ℕ) (at next : ℕ) → at ≤ next → take next bytes ≡ take at bytes ++ slice_range bytes at next
 passed bytes at next forward = let e : at + (next - at) ≡ next = omega arith in rw (← e) (take-add at (next - at) bytes ∙ ap (λ n. take at bytes ++ take n (drop at bytes)) (omega arith))
 
+-- what stands for both
+pub inner-piece : (mode : Mode) (bytes : List ℕ) (at next : ℕ) → IsUtf8 bytes → IsCharBoundary bytes at → at ≤ next → inner mode (take next bytes) ≡ inner mode (take at bytes) ++ inner mode (slice_range bytes at next)
+inner-piece mode bytes at next utf8 here forward =
+    inner-append mode (take next bytes) (take at bytes) (slice_range bytes at next) (passed bytes at next forward) (cut-text mode (take at bytes) (IsUtf8-take bytes at utf8 here))
+
 -- what stands after a piece: the vector was filled up, and the piece escaped at its end
 pub piece-written : (mode : Mode) (bytes old before filled new : List ℕ) (at next end len last : ℕ) → IsUtf8 bytes → IsCharBoundary bytes at → at ≤ next → end ≤ len
     → take end before ≡ old ++ inner mode (take at bytes)
@@ -48,4 +53,4 @@ piece-written mode bytes old before filled new at next end len last utf8 here fo
     let same : take end filled ≡ take end before = sym (take-take end len filled inside) ∙ ap (take end) front in
     written ∙ ap (λ xs. xs ++ inner mode (slice_range bytes at next)) (same ∙ so_far)
     ∙ append_assoc old (inner mode (take at bytes)) (inner mode (slice_range bytes at next))
-    ∙ ap (λ xs. old ++ xs) (sym (inner-append mode (take next bytes) (take at bytes) (slice_range bytes at next) (passed bytes at next forward) (cut-text mode (take at bytes) (IsUtf8-take bytes at utf8 here))))
+    ∙ ap (λ xs. old ++ xs) (sym (inner-piece mode bytes at next utf8 here forward))

@@ -267,7 +267,7 @@ module _ (mode : Mode) where
 -- How long what stands for bytes is
 
 -- a separator by six bytes
-length-separator : (bytes : List ℕ) → begins_separator bytes ≡ true → length (first_replacement script bytes) ≡ 6
+pub length-separator : (bytes : List ℕ) → begins_separator bytes ≡ true → length (first_replacement script bytes) ≡ 6
 length-separator bytes begins = elim (cases_Bool (get_or bytes 2 0 == 0xa8)) [
   | inl line ↦ rw (begins, line) refl
   | inr paragraph ↦ rw (begins, paragraph) refl

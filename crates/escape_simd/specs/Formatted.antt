@@ -3,7 +3,7 @@ use Rattle.std.specs.Prelude.{◌≡◌, ℕ, ◌+◌, ◌*◌, ◌/◌, ◌≤�
 use Rattle.escape_lanes.specs.Mode.{Mode}
 use Rattle.escape_lanes.specs.Written.{bytes_of, stored_of, escaped_of, quotes_of, IsSameSlice}
 use Rattle.escape_lanes.specs.declared.simd.target.Target.{Target}
-use Rattle.escape_simd.specs.Output.{plain, quote_count, bound}
+use Rattle.escape_simd.specs.Output.{plain, inner, quote_count, bound}
 use Rattle.escape_simd.specs.Runs.{escaped_count, run_count}
 
 -- The plain escaping of the text stands at the front of the bytes.
@@ -28,3 +28,14 @@ pub record IsFormatted {N : ℕ} (mode : Mode) (text : List ℕ) (old new : Targ
   -- each vector stored was classified
   pub each_stored : ticks_old + stored_of new ≤ ticks_new + stored_of old
   pub classified : ticks_new ≤ ticks_old + (run_count mode text + length text / N + 1)
+
+-- What stands for the text, with no quotation marks, stands at the front of the bytes.
+pub record IsInnerWritten (lanes : ℕ) (mode : Mode) (text old new : List ℕ) (count : ℕ) : Type 0 where
+  pub exact : take count new ≡ inner mode text
+  pub ends : count ≡ length (inner mode text)
+  -- each byte of the text takes one to six bytes
+  pub least : length text ≤ count
+  pub most : count ≤ 6 * length text
+  -- bytes left alone
+  pub kept_bound : drop (6 * length text + 32) new ≡ drop (6 * length text + 32) old
+  pub kept_past : drop (count + lanes) new ≡ drop (count + lanes) old

@@ -7,7 +7,6 @@ pub mod Output
 pub mod Runs
 pub mod Stretch
 pub mod Formatted
-pub mod Inner
 pub mod Kernels
 pub mod Spelling
 pub mod Html
@@ -16,3 +15,4 @@ pub mod Script
 pub mod Headline
 pub mod Laws
 pub mod Messages
+pub mod Ahead

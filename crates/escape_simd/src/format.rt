@@ -1,16 +1,16 @@
 //! The output for a text in a slice, by the kernel that is told.
-ghost use Rattle.std.specs.Prelude.{◌≤◌, length, take, chars};
+ghost use Rattle.std.specs.Prelude.{◌+◌, ◌*◌, ◌≤◌, length, take, chars};
 ghost use Rattle.escape_lanes.specs.Mode.{json, html, script};
-ghost use Rattle.escape_simd.specs.Formatted.{IsWritten};
+ghost use Rattle.escape_simd.specs.Formatted.{IsInnerWritten, IsWritten};
 ghost use Rattle.escape_simd.specs.Html.{IsOnlyHtml};
 ghost use Rattle.escape_simd.specs.Json.{IsOnlyJson};
 ghost use Rattle.escape_simd.specs.Kernels.{lanes_of};
 ghost use Rattle.escape_simd.specs.Laws.{AgreesWithEach, IsOfOneText};
-ghost use Rattle.escape_simd.specs.Output.{bound};
+ghost use Rattle.escape_simd.specs.Output.{bound, quoted};
 ghost use Rattle.escape_simd.specs.Script.{IsOnlyScript, IsSafeInScript};
 
 use crate::kernel::Kernel;
-use crate::simd::{avx2, avx512, neon, sse2, v128};
+use crate::simd::{JSON_MODE, SCRIPT_MODE, avx2, avx512, neon, sse2, v128};
 
 /// Writes the text as a JSON string literal (RFC 8259, section 7), its quotation marks included, to the
 /// front of `dst` by the kernel, and answers how many bytes it became.
@@ -94,5 +94,61 @@ pub fn format_script_string(kernel: Kernel, value: &str, dst: &mut [u8]) -> usiz
         Kernel::Neon => neon::format_script_string(value, dst),
         Kernel::Avx2 => avx2::format_script_string(value, dst),
         Kernel::Avx512 => avx512::format_script_string(value, dst),
+    }
+}
+
+/// Writes what [`format_json_string`] writes between its quotation marks to the front of `dst` by the
+/// kernel, and answers how many bytes it became. So a literal can be written in parts: what stands for
+/// texts joined is what stands for each of them, joined.
+///
+/// `dst` must have at least `6 * n + 32` bytes for a text of `n` bytes:
+/// [`html_capacity`](crate::html::html_capacity). No byte from that place on changes, and none that is
+/// a vector or more past the last one written. Every kernel writes the same bytes. HTML has no quotation
+/// marks, so [`format_html_string`] is the like of it.
+///
+/// ```text
+/// let mut dst = [0; 38];
+/// format_json_inner(Kernel::Avx2, "\"", &mut dst) == 2
+/// dst.starts_with(b"\\\"")
+/// ```
+pub fn format_json_inner(kernel: Kernel, value: &str, dst: &mut [u8]) -> usize
+    requires { 6 * length value.now + 32 ≤ length dst.old }
+    ensures written { IsInnerWritten (lanes_of kernel) json value.now dst.old dst.new result }
+    ensures headline { IsOnlyJson (quoted (take result dst.new)) (chars value.now) }
+{
+    match kernel {
+        Kernel::V128 => v128::format_inner::<{ JSON_MODE }>(value, dst),
+        Kernel::Sse2 => sse2::format_inner::<{ JSON_MODE }>(value, dst),
+        Kernel::Neon => neon::format_inner::<{ JSON_MODE }>(value, dst),
+        Kernel::Avx2 => avx2::format_inner::<{ JSON_MODE }>(value, dst),
+        Kernel::Avx512 => avx512::format_inner::<{ JSON_MODE }>(value, dst),
+    }
+}
+
+/// Writes what [`format_script_string`] writes between its quotation marks to the front of `dst` by the
+/// kernel, and answers how many bytes it became. So a literal can be written in parts: what stands for
+/// texts joined is what stands for each of them, joined.
+///
+/// `dst` must have at least `6 * n + 32` bytes for a text of `n` bytes:
+/// [`html_capacity`](crate::html::html_capacity). No byte from that place on changes, and none that is
+/// a vector or more past the last one written. Every kernel writes the same bytes. HTML has no quotation
+/// marks, so [`format_html_string`] is the like of it.
+///
+/// ```text
+/// let mut dst = [0; 38];
+/// format_script_inner(Kernel::Avx2, "<", &mut dst) == 6
+/// dst.starts_with(b"\\u003c")
+/// ```
+pub fn format_script_inner(kernel: Kernel, value: &str, dst: &mut [u8]) -> usize
+    requires { 6 * length value.now + 32 ≤ length dst.old }
+    ensures written { IsInnerWritten (lanes_of kernel) script value.now dst.old dst.new result }
+    ensures headline { IsOnlyScript (quoted (take result dst.new)) (chars value.now) }
+{
+    match kernel {
+        Kernel::V128 => v128::format_inner::<{ SCRIPT_MODE }>(value, dst),
+        Kernel::Sse2 => sse2::format_inner::<{ SCRIPT_MODE }>(value, dst),
+        Kernel::Neon => neon::format_inner::<{ SCRIPT_MODE }>(value, dst),
+        Kernel::Avx2 => avx2::format_inner::<{ SCRIPT_MODE }>(value, dst),
+        Kernel::Avx512 => avx512::format_inner::<{ SCRIPT_MODE }>(value, dst),
     }
 }

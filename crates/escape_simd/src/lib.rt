@@ -8,7 +8,7 @@
 //! [`html::escape_html_into`] and [`html::escape_html_each`] append to a vector of bytes instead, of
 //! any allocator. [`format_json_string`], [`format_script_string`] and [`format_html_string`] write
 //! to a slice by the kernel that they are told, and take no memory; [`format_json_inner`] and
-//! [`format_script_inner`] do so without the quotation marks, for a literal that is written in pieces.
+//! [`format_script_inner`] write what stands between the quotation marks.
 //!
 //! ```text
 //! escape(alloc, "a\n")? == "\"a\\n\""
@@ -19,13 +19,14 @@
 
 mod format;
 pub mod html;
-mod inner;
 pub mod json;
 mod kernel;
 mod output;
 pub mod simd;
 
 pub use escape_lanes::tables;
-pub use format::{format_html_string, format_json_string, format_script_string};
-pub use inner::{format_json_inner, format_script_inner};
+pub use format::{
+    format_html_string, format_json_inner, format_json_string, format_script_inner,
+    format_script_string,
+};
 pub use kernel::Kernel;

@@ -6,8 +6,11 @@ ghost use Rattle.escape_simd.specs.Spelling.{IsTextOf};
 ghost use Rattle.escape_simd.specs.Headline.{IsOnlyOutput};
 ghost use Rattle.escape_simd.specs.Laws.{JoinsTexts, IsOfOneText, HasOutputLength};
 
+mod bytes;
+
 use crate::simd::HTML_MODE;
-use crate::simd::avx2::escape_at;
+use crate::simd::avx2::Simd256u;
+use bytes::append_bytes;
 use std::alloc::{AllocError, Allocator};
 
 /// Why a text was not escaped.
@@ -37,10 +40,6 @@ pub(crate) fn scratch_bound<const MODE: u8>(len: usize) -> Option<usize>
         .checked_add(if MODE == HTML_MODE { 32 } else { 35 })
 }
 
-/// How many bytes are escaped at a time. What makes room for them, and what they become, stays in the
-/// first caches.
-const PIECE: usize = 4096;
-
 /// Appends a quotation mark in JSON, also in script mode, and nothing in HTML.
 fn push_quote<const MODE: u8, A: Allocator>(dst: &mut Vec<u8, A>)
     requires { vec_len dst.old < vec_capacity dst.old }
@@ -53,41 +52,6 @@ fn push_quote<const MODE: u8, A: Allocator>(dst: &mut Vec<u8, A>)
     let Ok(()) = dst.push(b'"') else {
         unreachable!()
     };
-}
-
-/// Makes the vector `len` bytes long by zeros, where it is shorter. It has room for them.
-fn fill<A: Allocator>(dst: &mut Vec<u8, A>, len: usize)
-    requires { len ≤ vec_capacity dst.old }
-    ensures front { take (vec_len dst.old) dst.new.items ≡ dst.old.items }
-    ensures longer { vec_len dst.old ≤ vec_len dst.new }
-    ensures filled { len ≤ vec_len dst.new }
-    ensures capacity { vec_capacity dst.old ≤ vec_capacity dst.new }
-{
-    if dst.len() < len {
-        let Ok(()) = dst.resize(len, 0) else {
-            unreachable!()
-        };
-    }
-}
-
-/// Appends what stands for the text's bytes, piece by piece, to a vector that has room for it.
-///
-/// The pieces are texts: what stands for a separator in a script literal stands for all its bytes.
-fn append_bytes<const MODE: u8, A: Allocator>(value: &str, dst: &mut Vec<u8, A>)
-    requires { vec_len dst.old + 6 * length value.now + 32 ≤ vec_capacity dst.old }
-    ensures items { dst.new.items ≡ dst.old.items ++ inner (mode_numbered MODE) value.now }
-    ensures room { vec_len dst.new + 32 ≤ vec_capacity dst.new }
-{
-    let mut at = 0;
-    let mut end = dst.len();
-    'pieces: while at < value.len() {
-        let next = value.floor_char_boundary(at + PIECE.min(value.len() - at));
-        let piece = &value.as_bytes()[at..next];
-        fill(dst, end + 6 * piece.len() + 32);
-        end = escape_at::<MODE>(piece, dst, end);
-        at = next;
-    }
-    dst.truncate(end);
 }
 
 /// Appends the output for the text.
@@ -108,7 +72,7 @@ pub(crate) fn append<const MODE: u8, A: Allocator>(
     };
     dst.reserve(scratch)?;
     push_quote::<MODE, A>(dst);
-    append_bytes::<MODE, A>(value, dst);
+    append_bytes::<Simd256u, A, MODE, 32, 4, false>(value, dst);
     push_quote::<MODE, A>(dst);
     Ok(())
 }

@@ -1,11 +1,12 @@
 //! Vectors of bytes, and the kernels that escape text by them.
 
+mod ahead;
 pub mod avx2;
 pub mod avx512;
 mod body;
 mod chunk;
 mod classify;
-pub(crate) mod inner;
+mod inner;
 pub mod neon;
 mod rest;
 mod source;
@@ -14,5 +15,7 @@ pub mod util;
 pub mod v128;
 mod vector;
 
-pub(crate) use classify::{HTML_MODE, JSON_MODE, SCRIPT_MODE};
+pub(crate) use ahead::{clean_front, count_flagged};
+pub(crate) use body::escape_at;
+pub(crate) use classify::{HTML_MODE, JSON_MODE, SCRIPT_MODE, Vector};
 pub use escape_lanes::simd::{BitMask, Flags, LaneMask, LoadLast, Mask, Simd, bits, target};

@@ -1,18 +1,17 @@
 //! The kernel of 32 lanes.
-ghost use Rattle.std.specs.Prelude.{◌≡◌, ◌+◌, ◌≤◌, ◌++◌, length, take, chars, refl};
+ghost use Rattle.std.specs.Prelude.{◌≡◌, ◌+◌, ◌*◌, ◌≤◌, length, take, chars, refl};
 ghost use Rattle.std.proofs.Common.{lit≤};
 ghost use Rattle.escape_lanes.specs.Mode.{mode_of, script};
 ghost use Rattle.escape_lanes.specs.Written.{bytes_of};
-ghost use Rattle.escape_simd.specs.Output.{bound, inner};
-ghost use Rattle.escape_simd.specs.Formatted.{IsFormatted, IsWritten};
+ghost use Rattle.escape_simd.specs.Output.{bound};
+ghost use Rattle.escape_simd.specs.Formatted.{IsFormatted, IsInnerWritten, IsWritten};
 ghost use Rattle.escape_simd.specs.Headline.{IsOnlyOutput};
 ghost use Rattle.escape_simd.specs.Laws.{IsOfOneText};
 ghost use Rattle.escape_simd.specs.Modes.{mode_numbered};
-ghost use Rattle.escape_simd.specs.Stretch.{room_from};
 
-use crate::simd::body;
 use crate::simd::classify::{HTML_MODE, JSON_MODE, SCRIPT_MODE, Vector};
 use crate::simd::source::Source;
+use crate::simd::{body, inner};
 pub use escape_lanes::simd::avx2::{
     Flags256, Mask256, Simd256u, escaped_flags, escaped_mask, script_flags, script_mask,
 };
@@ -121,12 +120,11 @@ pub fn format_script_string(value: &str, dst: &mut [u8]) -> usize
     body::format_in_mode::<Simd256u, { SCRIPT_MODE }, 32, 4, false>(value, dst)
 }
 
-/// Escapes the bytes to `dst` from `to` on in the mode numbered `MODE`, with no quotation marks, and
-/// answers the place reached.
-pub(crate) fn escape_at<const MODE: u8>(src: &[u8], dst: &mut [u8], to: usize) -> usize
-    requires { to + room_from (mode_numbered MODE) src.now 0 ≤ length dst.old }
-    ensures end { result ≡ to + length (inner (mode_numbered MODE) src.now) }
-    ensures written { take result dst.new ≡ take to dst.old ++ inner (mode_numbered MODE) src.now }
+/// Escapes the text to the front of `dst` in the mode numbered `MODE`, with no quotation marks, and
+/// answers how many bytes it became.
+pub(crate) fn format_inner<const MODE: u8>(value: &str, dst: &mut [u8]) -> usize
+    requires { 6 * length value.now + 32 ≤ length dst.old }
+    ensures { IsInnerWritten 32 (mode_numbered MODE) value.now dst.old dst.new result }
 {
-    body::escape_at::<Simd256u, MODE, 32, 4, false>(src, dst, to)
+    inner::format_inner::<Simd256u, MODE, 32, 4, false>(value, dst)
 }

@@ -1,45 +1,45 @@
-//! The inner part of a literal in a slice.
-ghost use Rattle.std.specs.Prelude.{◌≡◌, ◌≤◌, false, length, take};
-ghost use Rattle.escape_simd.specs.Inner.{IsInnerWritten, JoinsPieces, inner_bound};
-ghost use Rattle.escape_simd.specs.Kernels.{lanes_of};
+//! What stands for a text, with no quotation marks, in a slice.
+ghost use Rattle.std.specs.Prelude.{◌≡◌, ◌+◌, ◌*◌, ◌≤◌, false, length};
+ghost use Rattle.escape_lanes.specs.Written.{bytes_of, IsSameSlice};
+ghost use Rattle.escape_simd.specs.Formatted.{IsInnerWritten};
 ghost use Rattle.escape_simd.specs.Modes.{mode_numbered};
 
-use crate::kernel::Kernel;
 use crate::simd::body::escape_bytes;
 use crate::simd::classify::Vector;
-use crate::simd::{avx2, avx512, neon, sse2, v128};
 use escape_lanes::simd::target::{Target, Ticks};
 
-/// Escapes the text to the front of `dst` by the vector, with no quotation marks, and answers how many
-/// bytes it became.
+/// Escapes the text to the front of the target, with no quotation marks, and answers how many bytes it
+/// became.
 #[inline(always)]
-fn inner_by<V: Vector<N>, const MODE: u8, const N: usize, const CHUNK: usize, const EXACT: bool>(
-    value: &str,
-    dst: &mut [u8],
-) -> usize
+fn target_inner<
+    V: Vector<N>,
+    const MODE: u8,
+    const N: usize,
+    const CHUNK: usize,
+    const EXACT: bool,
+>(value: &str, target: &mut Target<'_, N>) -> usize
     requires narrow { EXACT ≡ false → N ≤ 32 }
-    requires room { inner_bound (length value.now) ≤ length dst.old }
-    ensures written { IsInnerWritten N (mode_numbered MODE) value.now dst.old dst.new result }
-    ensures joined { JoinsPieces (mode_numbered MODE) value.now (take result dst.new) }
+    requires room { 6 * length value.now + 32 ≤ length (bytes_of target.old) }
+    ensures same_slice { IsSameSlice target.old target.new }
+    ensures written { IsInnerWritten N (mode_numbered MODE) value.now
+        (bytes_of target.old) (bytes_of target.new) result }
 {
-    let mut target = Target::<N>::new(dst);
-    let mut ticks = Ticks::new();
-    escape_bytes::<V, MODE, N, CHUNK, EXACT>(value.as_bytes(), &mut target, 0, &mut ticks)
+    escape_bytes::<V, MODE, N, CHUNK, EXACT>(value.as_bytes(), target, 0, &mut Ticks::new())
 }
 
-/// The same by the kernel.
+/// As [`target_inner`], with the target made over `dst`.
 #[inline(always)]
-pub(crate) fn format_inner<const MODE: u8>(kernel: Kernel, value: &str, dst: &mut [u8]) -> usize
-    requires { inner_bound (length value.now) ≤ length dst.old }
-    ensures written { IsInnerWritten (lanes_of kernel) (mode_numbered MODE)
-        value.now dst.old dst.new result }
-    ensures joined { JoinsPieces (mode_numbered MODE) value.now (take result dst.new) }
+pub(crate) fn format_inner<
+    V: Vector<N>,
+    const MODE: u8,
+    const N: usize,
+    const CHUNK: usize,
+    const EXACT: bool,
+>(value: &str, dst: &mut [u8]) -> usize
+    requires narrow { EXACT ≡ false → N ≤ 32 }
+    requires room { 6 * length value.now + 32 ≤ length dst.old }
+    ensures { IsInnerWritten N (mode_numbered MODE) value.now dst.old dst.new result }
 {
-    match kernel {
-        Kernel::V128 => inner_by::<v128::Simd128u, MODE, 16, 1, false>(value, dst),
-        Kernel::Sse2 => inner_by::<sse2::Simd128u, MODE, 16, 4, false>(value, dst),
-        Kernel::Neon => inner_by::<neon::Simd128u, MODE, 16, 4, false>(value, dst),
-        Kernel::Avx2 => inner_by::<avx2::Simd256u, MODE, 32, 4, false>(value, dst),
-        Kernel::Avx512 => inner_by::<avx512::Simd512u, MODE, 64, 4, true>(value, dst),
-    }
+    let mut target = Target::<N>::new(dst);
+    target_inner::<V, MODE, N, CHUNK, EXACT>(value, &mut target)
 }

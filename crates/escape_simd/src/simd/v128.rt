@@ -1,18 +1,19 @@
 //! The kernel of 16 lanes in an array: one vector at a time, HTML classified by one table look-up a
 //! byte.
-ghost use Rattle.std.specs.Prelude.{◌≡◌, ◌≤◌, length, take, chars, refl};
+ghost use Rattle.std.specs.Prelude.{◌≡◌, ◌+◌, ◌*◌, ◌≤◌, length, take, chars, refl};
 ghost use Rattle.std.proofs.Common.{lit≤};
 ghost use Rattle.escape_lanes.specs.Mode.{mode_of, script};
 ghost use Rattle.escape_lanes.specs.Words.{words-bytes};
 ghost use Rattle.escape_lanes.specs.Written.{bytes_of};
 ghost use Rattle.escape_simd.specs.Output.{bound};
-ghost use Rattle.escape_simd.specs.Formatted.{IsFormatted, IsWritten};
+ghost use Rattle.escape_simd.specs.Formatted.{IsFormatted, IsInnerWritten, IsWritten};
 ghost use Rattle.escape_simd.specs.Headline.{IsOnlyOutput};
 ghost use Rattle.escape_simd.specs.Laws.{IsOfOneText};
+ghost use Rattle.escape_simd.specs.Modes.{mode_numbered};
 
-use crate::simd::body;
 use crate::simd::classify::{HTML_MODE, JSON_MODE, SCRIPT_MODE, Vector};
 use crate::simd::source::Source;
+use crate::simd::{body, inner};
 use escape_lanes::simd::target::{Target, Ticks};
 pub use escape_lanes::simd::v128::{
     Flags128, Mask128, Simd128u, escaped_flags, escaped_mask, script_flags, script_mask,
@@ -119,4 +120,13 @@ pub fn format_script_string(value: &str, dst: &mut [u8]) -> usize
     ensures equal_texts { IsOfOneText script value.now (take result dst.new) }
 {
     body::format_in_mode::<Simd128u, { SCRIPT_MODE }, 16, 1, false>(value, dst)
+}
+
+/// Escapes the text to the front of `dst` in the mode numbered `MODE`, with no quotation marks, and
+/// answers how many bytes it became.
+pub(crate) fn format_inner<const MODE: u8>(value: &str, dst: &mut [u8]) -> usize
+    requires { 6 * length value.now + 32 ≤ length dst.old }
+    ensures { IsInnerWritten 16 (mode_numbered MODE) value.now dst.old dst.new result }
+{
+    inner::format_inner::<Simd128u, MODE, 16, 1, false>(value, dst)
 }

@@ -2,7 +2,7 @@ use Rattle.std.proofs.Common.{length, ◌-◌, ◌≡◌, ◌+◌, ◌*◌, ◌�
 use Rattle.std.specs.Str.{IsCharBoundary}
 use Rattle.escape_simd.specs.Modes.{mode_numbered}
 use Rattle.escape_simd.specs.Output.{inner}
-use Rattle.escape_simd.proofs.output.append_bytes.Given as goal
+use Rattle.escape_simd.proofs.output.bytes.append_pieces.Given as goal
 
 abbrev pub invariant-pieces : goal.invariant-pieces
 invariant-pieces g l = record {

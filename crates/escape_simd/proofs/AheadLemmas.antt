@@ -1,0 +1,182 @@
+-- What masks tell of a text before it is written: its clean front, and how many bytes need an escape.
+use Rattle.std.proofs.Common.{◌≡◌, ℕ, zero, suc, ◌+◌, ◌-◌, ◌*◌, ◌<◌, ◌≤◌, Bool, true, false, cond, List, [], ◌∷◌, ◌++◌, length, take, drop, get_or, map, replicate, refl, sym, ap, ◌∙◌, arith, inl, inr, length-append, length-drop, length-take-le}
+use Rattle.std.specs.List.{count_by}
+use Rattle.std.proofs.Math.Seq.{take-add}
+use Rattle.std.proofs.lemmas.Bool.{cases_Bool}
+use Rattle.std.proofs.lemmas.Bool.Decides.{leb_tells}
+use Rattle.std.proofs.lemmas.List.{length-map, get_or-take, get_or-drop, get_or-map, get_or_append_left, take-append-drop, take_all, append-nil}
+use Rattle.std.proofs.lemmas.List.Sums.{sum_by-append}
+use Rattle.escape_lanes.specs.Bits.{first_set, none_set}
+use Rattle.escape_lanes.specs.Mode.{Mode, json, html, script, mode_of}
+use Rattle.escape_lanes.specs.Replacement.{needs_escape, replacement}
+use Rattle.escape_simd.specs.Ahead.{IsCleanBetween}
+use Rattle.escape_simd.specs.Output.{inner, passed, first_replacement, begins_separator, script_inner_after}
+use Rattle.escape_simd.specs.Stretch.{rest_length}
+use Rattle.escape_simd.proofs.Lanes.{first_set-before, none_set-at}
+use Rattle.escape_simd.proofs.ReplacementLemmas.{replacement-clean, length-replacement}
+use Rattle.escape_simd.proofs.Stretches.{rest-is}
+use Rattle.escape_simd.proofs.Texts.{inner-clean, length-separator, no_separator}
+
+-- The clean front
+
+-- a mask whose first n lanes are the flags of the text's bytes from a place on
+module _ (mode : Mode) (src : List ℕ) (at n : ℕ) (bits more : List Bool) (inside : at + n ≤ length src) (is : bits ≡ map (needs_escape mode) (take n (drop at src)) ++ more) where
+  -- has the flag of each
+  lane : (k : ℕ) → k < n → get_or bits k false ≡ needs_escape mode (get_or src (at + k) 0)
+  lane k h =
+      let d = length-drop at src in
+      let l = length-take-le n (drop at src) (omega (arith, d)) in
+      let m = length-map (take n (drop at src)) (needs_escape mode) in
+      ap (λ bs. get_or bs k false) is
+      ∙ get_or_append_left (map (needs_escape mode) (take n (drop at src))) more false k (omega (arith, l, m))
+      ∙ get_or-map (needs_escape mode) (take n (drop at src)) k 0 false (omega (arith, l))
+      ∙ ap (needs_escape mode) (get_or-take n (drop at src) k 0 h ∙ get_or-drop at src k 0)
+
+  -- the bytes are clean as far as no lane is set
+  clean-lanes : (m : ℕ) → m ≤ n → ((k : ℕ) → k < m → get_or bits k false ≡ false) → IsCleanBetween mode src at (at + m)
+  clean-lanes m few none k after before =
+      let e : at + (k - at) ≡ k = omega arith in
+      sym (ap (λ i. needs_escape mode (get_or src i 0)) e) ∙ sym (lane (k - at) (omega arith)) ∙ none (k - at) (omega arith)
+
+  -- where none is, all n
+  pub clean-none : none_set bits ≡ true → IsCleanBetween mode src at (at + n)
+  clean-none none = clean-lanes n (omega arith) (λ k h. none_set-at bits k none)
+
+  -- those before the first that is
+  pub clean-first : (m : ℕ) → m ≤ n → m ≤ first_set bits → IsCleanBetween mode src at (at + m)
+  clean-first m few first = clean-lanes m few (λ k h. first_set-before bits k (omega arith))
+
+-- a mask of a text's last bytes
+pub clean-last : (mode : Mode) (src : List ℕ) (at : ℕ) (bits more : List Bool) → at ≤ length src → bits ≡ map (needs_escape mode) (drop (length src - (length src - at)) src) ++ more
+    → (m : ℕ) → m ≤ length src - at → m ≤ first_set bits → IsCleanBetween mode src at (at + m)
+clean-last mode src at bits more inside is =
+    let e : length src - (length src - at) ≡ at = omega arith in
+    let l = length-drop at src in
+    let all : drop (length src - (length src - at)) src ≡ take (length src - at) (drop at src) = ap (λ k. drop k src) e ∙ sym (take_all (length src - at) (drop at src) (omega (arith, l))) in
+    clean-first mode src at (length src - at) bits more (omega arith) (is ∙ ap (λ xs. map (needs_escape mode) xs ++ more) all)
+
+-- a mask of a whole vector has no other lanes
+pub no-more : (xs bits : List Bool) → bits ≡ xs → bits ≡ xs ++ []
+no-more xs bits e = e ∙ sym (append-nil xs)
+
+-- the first set lane is a lane, or as many as there are
+pub first_set-most : (bits : List Bool) → first_set bits ≤ length bits
+unfolding first_set
+first_set-most [] = omega arith
+first_set-most (true ∷ bs) = omega arith
+first_set-most (false ∷ bs) = let m = first_set-most bs in omega (arith, m)
+
+-- clean bytes, and then more of them
+pub clean-on : (mode : Mode) (src : List ℕ) (at i next : ℕ) → IsCleanBetween mode src at i → IsCleanBetween mode src i next → IsCleanBetween mode src at next
+clean-on mode src at i next first second k after before = elim (leb_tells i k) [
+  | inl on ↦ second k on.1 before
+  | inr under ↦ first k after under.1
+]
+
+-- four vectors of them
+pub clean-four : (mode : Mode) (src : List ℕ) (at n : ℕ) → IsCleanBetween mode src at (at + n) → IsCleanBetween mode src (at + n) (at + n + n) → IsCleanBetween mode src (at + 2 * n) (at + 2 * n + n) → IsCleanBetween mode src (at + 3 * n) (at + 3 * n + n)
+    → IsCleanBetween mode src at (at + 4 * n)
+clean-four mode src at n a b c d =
+    clean-on mode src at (at + n) (at + 4 * n) a
+    (clean-on mode src (at + n) (at + n + n) (at + 4 * n) b
+    (clean-on mode src (at + n + n) (at + 2 * n + n) (at + 4 * n) (λ k after before. c k (omega (arith, after)) before)
+    (λ k after before. d k (omega (arith, after)) (omega (arith, before)))))
+
+-- clean bytes at the front stand for themselves
+pub clean-front : (mode : Mode) (src : List ℕ) (front n : ℕ) → front ≤ n → n ≤ length src → IsCleanBetween mode src 0 n → inner mode src ≡ take front src ++ inner mode (drop front src)
+clean-front mode src front n few inside clean =
+    let l = length-take-le front src (omega arith) in
+    ap (inner mode) (sym (take-append-drop front src))
+    ∙ inner-clean mode (drop front src) (take front src) (λ k h. ap (needs_escape mode) (get_or-take front src k 0 (omega (arith, l))) ∙ clean k (omega arith) (omega (arith, l)))
+
+-- How many bytes need an escape
+
+-- one byte more
+count-step : (f : ℕ → Bool) (x : ℕ) (xs : List ℕ) → count_by f (x ∷ xs) ≡ cond (f x) 1 0 + count_by f xs
+count-step f x xs = let a = sum_by-append (λ y. cond (f y) 1 0) (x ∷ []) xs in omega (arith, a)
+
+-- one lane more
+lane-step : (x : Bool) (xs : List Bool) → count_by (λ b. b) (x ∷ xs) ≡ cond x 1 0 + count_by (λ b. b) xs
+lane-step x xs = let a = sum_by-append (λ (y : Bool). cond y 1 0) (x ∷ []) xs in omega (arith, a)
+
+-- a flag is set where its byte needs an escape
+count-map : (f : ℕ → Bool) (xs : List ℕ) → count_by (λ b. b) (map f xs) ≡ count_by f xs
+count-map f [] = refl
+count-map f (x ∷ xs) = lane-step (f x) (map f xs) ∙ ap (λ n. cond (f x) 1 0 + n) (count-map f xs) ∙ sym (count-step f x xs)
+
+-- no cleared lane is counted
+count-cleared : (n : ℕ) → count_by (λ b. b) (replicate n false) ≡ 0
+count-cleared zero = refl
+count-cleared (suc n) = let s = lane-step false (replicate n false) in let r = count-cleared n in omega (arith, s, r)
+
+module _ (f : ℕ → Bool) (src : List ℕ) (at : ℕ) where
+  -- a vector more
+  pub count-more : (n : ℕ) (bits : List Bool) → bits ≡ map f (take n (drop at src)) → count_by f (take (at + n) src) ≡ count_by f (take at src) + count_by (λ b. b) bits
+  count-more n bits is =
+      ap (count_by f) (take-add at n src)
+      ∙ sum_by-append (λ y. cond (f y) 1 0) (take at src) (take n (drop at src))
+      ∙ ap (λ k. count_by f (take at src) + k) (sym (ap (count_by (λ b. b)) is ∙ count-map f (take n (drop at src))))
+
+  -- the last bytes
+  pub count-last : (n : ℕ) (bits : List Bool) → at ≤ length src → bits ≡ map f (drop (length src - (length src - at)) src) ++ replicate n false
+      → count_by f src ≡ count_by f (take at src) + count_by (λ b. b) bits
+  count-last n bits inside is =
+      let e : length src - (length src - at) ≡ at = omega arith in
+      let rest = is ∙ ap (λ k. map f (drop k src) ++ replicate n false) e in
+      let both = sum_by-append (λ (b : Bool). cond b 1 0) (map f (drop at src)) (replicate n false) in
+      ap (count_by f) (sym (take-append-drop at src))
+      ∙ sum_by-append (λ y. cond (f y) 1 0) (take at src) (drop at src)
+      ∙ ap (λ k. count_by f (take at src) + k) (sym (ap (count_by (λ b. b)) rest ∙ both ∙ ap (λ k. count_by (λ b. b) (map f (drop at src)) + k) (count-cleared n) ∙ add-zero (count_by (λ b. b) (map f (drop at src))) ∙ count-map f (drop at src)))
+    where
+      add-zero : (k : ℕ) → k + 0 ≡ k
+      add-zero k = omega arith
+
+-- what stands for a byte is five bytes longer at most, and no longer where it needs no escape
+replacement-most : (mode : Mode) (b : ℕ) → length (replacement mode b) ≤ 1 + 5 * cond (needs_escape mode b) 1 0
+replacement-most mode b = elim (cases_Bool (needs_escape mode b)) [
+  | inl need ↦ rw need (let m = (length-replacement mode b).1 in omega (arith, m))
+  | inr clean ↦ rw clean (let e = ap length (replacement-clean mode b clean) in omega (arith, e))
+]
+
+-- and so is what stands for a separator
+first-most : (b : ℕ) (bs : List ℕ) → length (first_replacement script (b ∷ bs)) ≤ 1 + 5 * cond (needs_escape script b) 1 0
+first-most b bs = elim (cases_Bool (needs_escape script b)) [
+  | inl need ↦ rw need (let m = any-most (b ∷ bs) in omega (arith, m))
+  | inr clean ↦ rw (no_separator b bs clean) (replacement-most script b)
+]
+  where
+    any-most : (bytes : List ℕ) → length (first_replacement script bytes) ≤ 6
+    any-most bytes = elim (cases_Bool (begins_separator bytes)) [
+      | inl begins ↦ let l = length-separator bytes begins in omega (arith, l)
+      | inr none ↦ rw none ((length-replacement script (get_or bytes 0 0)).1)
+    ]
+
+-- byte by byte
+bytewise-most : (is_html : Bool) (bs : List ℕ) → length (inner (mode_of is_html) bs) ≤ length bs + 5 * count_by (needs_escape (mode_of is_html)) bs
+bytewise-most true [] = omega arith
+bytewise-most true (b ∷ bs) =
+    let m = replacement-most html b in let l = length-append (replacement html b) (inner html bs) in
+    let n = bytewise-most true bs in let c = count-step (needs_escape html) b bs in omega (arith, m, l, n, c)
+bytewise-most false [] = omega arith
+bytewise-most false (b ∷ bs) =
+    let m = replacement-most json b in let l = length-append (replacement json b) (inner json bs) in
+    let n = bytewise-most false bs in let c = count-step (needs_escape json) b bs in omega (arith, m, l, n, c)
+
+-- with separators
+script-most : (n : ℕ) (bs : List ℕ) → length (script_inner_after n bs) ≤ length bs + 5 * count_by (needs_escape script) bs
+unfolding script_inner_after
+script-most n [] = omega arith
+script-most (suc n) (b ∷ bs) = let m = script-most n bs in let c = count-step (needs_escape script) b bs in omega (arith, m, c)
+script-most zero (b ∷ bs) =
+    let m = first-most b bs in let l = length-append (first_replacement script (b ∷ bs)) (script_inner_after (passed script (b ∷ bs) - 1) bs) in
+    let n = script-most (passed script (b ∷ bs) - 1) bs in let c = count-step (needs_escape script) b bs in omega (arith, m, l, n, c)
+
+-- what stands for bytes is five bytes longer at most for each that needs an escape
+pub counted-most : (mode : Mode) (bs : List ℕ) → length (inner mode bs) ≤ length bs + 5 * count_by (needs_escape mode) bs
+counted-most json bs = bytewise-most false bs
+counted-most html bs = bytewise-most true bs
+counted-most script bs = script-most 0 bs
+
+-- as a condition on room has it
+pub counted-room : (mode : Mode) (src : List ℕ) → rest_length mode src 0 ≤ length src + 5 * count_by (needs_escape mode) src
+counted-room mode src = let r = rest-is mode src 0 in let m = counted-most mode src in omega (arith, r, m)

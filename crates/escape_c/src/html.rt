@@ -20,8 +20,8 @@ pub extern "C" fn escape_html_bound(length: usize) -> usize
     call::bound_or_zero(Mode::Html, length)
 }
 
-/// Escapes the text as HTML to the front of `buffer` by the kernel
-/// numbered, and returns the status; `count` gets how many bytes it became.
+/// Writes the text as HTML to the front of `buffer` by the kernel numbered, and returns the status;
+/// `count` gets how many bytes it became.
 ///
 /// # Errors
 ///

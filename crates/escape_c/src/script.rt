@@ -20,8 +20,8 @@ pub extern "C" fn escape_script_bound(length: usize) -> usize
     call::bound_or_zero(Mode::Script, length)
 }
 
-/// Escapes the text as a JSON string literal that can stand in a script element to the front of `buffer` by the kernel
-/// numbered, and returns the status; `count` gets how many bytes it became.
+/// Writes the text as a JSON string literal that can stand in a script element to the front of `buffer` by
+/// the kernel numbered, and returns the status; `count` gets how many bytes it became.
 ///
 /// # Errors
 ///
@@ -76,8 +76,8 @@ pub extern "C" fn escape_script_unchecked(
     call::escape_unchecked(Mode::Script, kernel, text, buffer, count)
 }
 
-/// As [`escape_script`], without the two quotation marks: what stands for a piece of a longer text, which is
-/// cut between two characters. The outputs of its pieces, one after another, are that of the whole.
+/// As [`escape_script`], without the two quotation marks, for a piece of a longer text, which is cut between
+/// two characters. The outputs of its pieces, one after another, are what stands for the whole.
 ///
 /// # Errors
 ///

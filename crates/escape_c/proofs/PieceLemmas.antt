@@ -1,0 +1,13 @@
+-- What stands for a piece of a text.
+use Rattle.std.proofs.Common.{◌≡◌, ℕ, List, ◌++◌, refl, ap, ◌∙◌, IsUtf8}
+use Rattle.escape_lanes.specs.Mode.{Mode}
+use Rattle.escape_simd.specs.Output.{inner}
+use Rattle.escape_simd.proofs.OutputLemmas.{inner-append}
+use Rattle.escape_simd.proofs.Pieces.{cut-text}
+use Rattle.escape_c.specs.Call.{JoinsPieces}
+
+-- a text that is cut between two characters
+pub JoinsPieces-inner : (mode : Mode) (text output : List ℕ) → output ≡ inner mode text → IsUtf8 text → JoinsPieces mode text output
+JoinsPieces-inner mode text output same utf8 before after first =
+    inner-append mode (before ++ (text ++ after)) before (text ++ after) refl (cut-text mode before first)
+    ∙ ap (λ xs. inner mode before ++ xs) (inner-append mode (text ++ after) text after refl (cut-text mode text utf8) ∙ ap (λ xs. xs ++ inner mode after) (rw (← same) refl))

@@ -12,6 +12,7 @@ pub mod HtmlLemmas
 pub mod JsonLemmas
 pub mod ScriptLemmas
 pub mod OutputLemmas
+pub mod EscapingLemmas
 pub mod Examples
 pub mod Pieces
 pub mod JoinedLemmas

@@ -14,4 +14,5 @@ pub mod Json
 pub mod Script
 pub mod Headline
 pub mod Laws
+pub mod Escaping
 pub mod Messages

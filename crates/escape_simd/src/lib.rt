@@ -24,5 +24,8 @@ mod output;
 pub mod simd;
 
 pub use escape_lanes::tables;
-pub use format::{format_html_string, format_json_string, format_script_string};
+pub use format::{
+    format_html_str, format_html_string, format_json_str, format_json_string, format_script_str,
+    format_script_string,
+};
 pub use kernel::Kernel;

@@ -8,6 +8,7 @@ ghost use Rattle.escape_simd.specs.Laws.{JoinsTexts, IsOfOneText, HasOutputLengt
 
 use crate::simd::HTML_MODE;
 use crate::simd::avx2::escape_at;
+use crate::{html, json};
 use std::alloc::{AllocError, Allocator};
 
 /// Why a text was not escaped.
@@ -33,8 +34,13 @@ pub(crate) fn scratch_bound<const MODE: u8>(len: usize) -> Option<usize>
     ensures fits { IfSome result (λ n. n ≡ bound (mode_numbered MODE) len) }
     ensures passes { IsNone result ↔ (usize.MAX < bound (mode_numbered MODE) len) }
 {
-    len.checked_mul(6)?
-        .checked_add(if MODE == HTML_MODE { 32 } else { 35 })
+    if MODE == HTML_MODE {
+        return len
+            .checked_mul(html::CAPACITY_FACTOR)?
+            .checked_add(html::CAPACITY_SLACK);
+    }
+    len.checked_mul(json::CAPACITY_FACTOR)?
+        .checked_add(json::CAPACITY_SLACK)
 }
 
 /// How many bytes are escaped at a time. What makes room for them, and what they become, stays in the

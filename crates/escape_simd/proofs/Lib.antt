@@ -15,4 +15,6 @@ pub mod OutputLemmas
 pub mod EscapingLemmas
 pub mod Examples
 pub mod Pieces
+pub mod ToWrite
+pub mod WriterLemmas
 pub mod JoinedLemmas

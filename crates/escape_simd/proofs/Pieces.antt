@@ -11,7 +11,7 @@ use Rattle.escape_simd.specs.Output.{inner}
 use Rattle.escape_simd.proofs.OutputLemmas.{CanBeCutAfter, inner-append}
 
 -- a text can be cut after a text
-cut-text : (mode : Mode) (first : List ℕ) → IsUtf8 first → CanBeCutAfter mode first
+pub cut-text : (mode : Mode) (first : List ℕ) → IsUtf8 first → CanBeCutAfter mode first
 cut-text json first utf8 = tt
 cut-text html first utf8 = tt
 cut-text script first utf8 = utf8

@@ -15,4 +15,6 @@ pub mod Script
 pub mod Headline
 pub mod Laws
 pub mod Escaping
+pub mod ToWrite
+pub mod Writers
 pub mod Messages

@@ -16,12 +16,16 @@
 //! ```
 #![tactic(auto)]
 
+mod adapter;
+mod appended_text;
 mod format;
 pub mod html;
 pub mod json;
 mod kernel;
 mod output;
+mod piecewise;
 pub mod simd;
+mod writer;
 
 pub use escape_lanes::tables;
 pub use format::{

@@ -16,5 +16,6 @@ pub mod Headline
 pub mod Laws
 pub mod Escaping
 pub mod ToWrite
+pub mod Lists
 pub mod Writers
 pub mod Messages

@@ -9,6 +9,7 @@ mod display;
 mod each;
 mod error;
 mod into_string;
+mod joined;
 mod to_writer;
 
 use crate::output::{append, scratch_bound, text};
@@ -17,6 +18,7 @@ pub use display::Escaped;
 pub use each::escape_html_each;
 pub use error::{EscapeHtmlError, InputTooLarge};
 pub use into_string::escape_html_into_string;
+pub use joined::escape_html_joined_into;
 use std::alloc::{Allocator, Global};
 pub use to_writer::escape_html_to_writer;
 

@@ -8,6 +8,7 @@ ghost use Rattle.escape_simd.specs.Laws.{appended};
 mod display;
 mod error;
 mod into_string;
+mod list;
 mod to_writer;
 
 use crate::output::{append, scratch_bound, text};
@@ -15,6 +16,7 @@ use crate::simd::{JSON_MODE, SCRIPT_MODE};
 pub use display::{Escaped, EscapedScript};
 pub use error::EscapeError;
 pub use into_string::{escape_into_string, escape_script_into_string};
+pub use list::{escape_array_into, escape_joined_into, escape_script_array_into};
 use std::alloc::{Allocator, Global};
 pub use to_writer::{escape_script_to_writer, escape_to_writer};
 

@@ -22,6 +22,7 @@ mod format;
 pub mod html;
 pub mod json;
 mod kernel;
+mod list;
 mod output;
 mod piecewise;
 pub mod simd;
@@ -33,3 +34,4 @@ pub use format::{
     format_script_string,
 };
 pub use kernel::Kernel;
+pub use list::ListError;

@@ -71,15 +71,22 @@ IsOneLine-quoted bytes output same printed =
     let whole : IsPrinted (quoted bytes) = (omega arith, AllByRecursion-append (λ x. 0x20 ≤ x) bytes (0x22 ∷ []) printed (omega arith, tt)) in
     All-from_recursion (λ b. 0x20 ≤ b) output (subst IsPrinted (sym same) whole)
 
+-- a literal stands on one line
+pub json_one_line : (bytes output : List ℕ) → output ≡ plain json bytes → IsOneLine output
+json_one_line bytes output same = IsOneLine-quoted (inner json bytes) output same (json_inner_printed bytes)
+
+pub script_one_line : (bytes output : List ℕ) → output ≡ plain script bytes → IsOneLine output
+script_one_line bytes output same = IsOneLine-quoted (inner script bytes) output same (script_inner_printed 0 bytes)
+
 -- the output for a text can stand in its place
 IsHarmless-output : (mode : Mode) (bytes output : List ℕ) → output ≡ plain mode bytes → IsUtf8 bytes → IsHarmless mode output
-IsHarmless-output json bytes output same utf8 = IsOneLine-quoted (inner json bytes) output same (json_inner_printed bytes)
+IsHarmless-output json bytes output same utf8 = json_one_line bytes output same
 IsHarmless-output html bytes output same utf8 = record {
   markup_free = (IsOnlyHtml-output bytes output utf8 same).markup_free;
   ampersands = subst AmpersandsBeginEntities (sym same) (plain_ampersands bytes);
 }
 IsHarmless-output script bytes output same utf8 = record {
-  one_line = IsOneLine-quoted (inner script bytes) output same (script_inner_printed 0 bytes);
+  one_line = script_one_line bytes output same;
   safe = IsSafeInScript-output bytes output same;
 }
 

@@ -13,6 +13,7 @@ pub mod JsonLemmas
 pub mod ScriptLemmas
 pub mod OutputLemmas
 pub mod EscapingLemmas
+pub mod PlainLaws
 pub mod Examples
 pub mod Pieces
 pub mod ToWrite

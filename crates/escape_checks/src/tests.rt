@@ -4,4 +4,5 @@ mod memory;
 mod numbers;
 mod rationed;
 mod rows;
+mod targets;
 mod texts;

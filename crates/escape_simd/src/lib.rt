@@ -7,7 +7,13 @@
 //! the caller's own. [`json::escape_into`], [`json::escape_script_into`],
 //! [`html::escape_html_into`] and [`html::escape_html_each`] append to a vector of bytes instead, of
 //! any allocator. [`format_json_string`], [`format_script_string`] and [`format_html_string`] write
-//! to a slice by the kernel that they are told, and take no memory.
+//! to a slice by the kernel that they are told, and take no memory; [`format_json_str`] and its kin
+//! answer the output there as text.
+//!
+//! [`json::Escaped`], [`json::EscapedScript`] and [`html::Escaped`] are for `write!`, `print!` and
+//! `format!`; [`json::escape_to_writer`] and its kin write to an `io::Write`,
+//! [`json::escape_into_string`] and its kin append to a `String`. [`json::escape_array_into`] and
+//! [`json::escape_joined_into`] take many texts.
 //!
 //! ```text
 //! escape(alloc, "a\n")? == "\"a\\n\""

@@ -3,11 +3,13 @@
 
 ghost use Rattle.std.specs.Prelude.{◌≤◌, length};
 
+mod calls;
 mod modes;
 mod per_byte;
 mod texts;
 mod timing;
 
+use calls::each_call;
 use modes::{MODES, Mode};
 use per_byte::table_of;
 use std::env;
@@ -27,7 +29,11 @@ const SPREAD: usize = 65536;
 fn main(rt: HostRuntime) -> Result<(), Fail> {
     let mut words = env::args(&rt)?;
     let _program = words.next();
-    let measures = matches!(words.next(), Some(word) if word.as_str() == "measure");
+    let word = words.next();
+    if matches!(&word, Some(word) if word.as_str() == "calls") {
+        return each_call(&rt);
+    }
+    let measures = matches!(word, Some(word) if word.as_str() == "measure");
     if measures {
         println!(rt; "mode corpus      bytes   GB/s    {COLUMNS}")?;
     }
@@ -36,7 +42,7 @@ fn main(rt: HostRuntime) -> Result<(), Fail> {
     }
     if !measures {
         println!(rt; "every kernel writes what the loop writes")?;
-        println!(rt; "usage: escape_bench measure")?;
+        println!(rt; "usage: escape_bench measure|calls")?;
     }
     Ok(())
 }

@@ -5,4 +5,5 @@ mod numbers;
 mod pieces;
 mod rationed;
 mod rows;
+mod targets;
 mod texts;

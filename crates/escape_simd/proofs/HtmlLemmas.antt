@@ -71,7 +71,7 @@ replacement_markup_free b =
     ]
 
 -- the output holds no markup
-plain_markup_free : (bytes : List ℕ) → IsMarkupFree (plain html bytes)
+pub plain_markup_free : (bytes : List ℕ) → IsMarkupFree (plain html bytes)
 plain_markup_free bytes = All-from_recursion (λ x. is_markup x ≡ false) (inner html bytes) (free bytes)
   where
     free : (bs : List ℕ) → AllByRecursion (λ x. is_markup x ≡ false) (inner html bs)

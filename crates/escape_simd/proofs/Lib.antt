@@ -12,8 +12,12 @@ pub mod HtmlLemmas
 pub mod JsonLemmas
 pub mod ScriptLemmas
 pub mod OutputLemmas
+pub mod EscapingLemmas
+pub mod PlainLaws
 pub mod Examples
 pub mod AheadLemmas
 pub mod InnerLemmas
 pub mod Pieces
+pub mod ToWrite
+pub mod WriterLemmas
 pub mod JoinedLemmas

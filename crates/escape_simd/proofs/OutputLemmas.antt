@@ -9,7 +9,7 @@ use Rattle.std.proofs.lemmas.Bool.Decides.{nat_tests}
 use Rattle.std.proofs.lemmas.Str.{IsUtf8-append, IsUtf8-nil, IsUtf8-encode, encode_ascii, encodes-chars, scalars-chars}
 use Rattle.escape_lanes.specs.Mode.{Mode, json, html, script}
 use Rattle.escape_lanes.specs.Replacement.{replacement, needs_escape}
-use Rattle.escape_simd.specs.Output.{script_inner_after, first_replacement, passed, begins_separator, inner, plain, quoted}
+use Rattle.escape_simd.specs.Output.{script_inner_after, first_replacement, passed, begins_separator, inner, plain, quoted, quote_of}
 use Rattle.escape_simd.specs.Html.{HtmlReads}
 use Rattle.escape_simd.specs.Json.{JsonDenotes}
 use Rattle.escape_simd.specs.Script.{is_script_marked}
@@ -83,7 +83,7 @@ IsUtf8-pieces mode (c ∷ cs) h =
     IsUtf8-append (inner mode (encode_utf8 c)) (flat_map (λ c. inner mode (encode_utf8 c)) cs) (IsUtf8-replacement mode c parts.0) (IsUtf8-pieces mode cs parts.1)
 
 -- what stands for the bytes of a text is a text
-IsUtf8-inner : (mode : Mode) (bytes : List ℕ) → IsUtf8 bytes → IsUtf8 (inner mode bytes)
+pub IsUtf8-inner : (mode : Mode) (bytes : List ℕ) → IsUtf8 bytes → IsUtf8 (inner mode bytes)
 IsUtf8-inner mode bytes utf8 =
     let same = sym (inner-pieces mode (chars bytes)) ∙ ap (inner mode) (encodes-chars bytes utf8) in
     subst IsUtf8 same (IsUtf8-pieces mode (chars bytes) (scalars-chars bytes utf8))
@@ -93,6 +93,12 @@ IsUtf8-quoted : (bytes : List ℕ) → IsUtf8 bytes → IsUtf8 (quoted bytes)
 IsUtf8-quoted bytes utf8 =
     let quote = ascii_text (0x22 ∷ []) (omega arith, tt) in
     IsUtf8-append (0x22 ∷ []) (bytes ++ 0x22 ∷ []) quote (IsUtf8-append bytes (0x22 ∷ []) utf8 quote)
+
+-- a quotation mark is a text
+pub IsUtf8-quote : (mode : Mode) → IsUtf8 (quote_of mode)
+IsUtf8-quote json = ascii_text (0x22 ∷ []) (omega arith, tt)
+IsUtf8-quote html = IsUtf8-nil
+IsUtf8-quote script = ascii_text (0x22 ∷ []) (omega arith, tt)
 
 -- the output for the bytes of a text is a text
 IsUtf8-plain : (mode : Mode) (bytes : List ℕ) → IsUtf8 bytes → IsUtf8 (plain mode bytes)

@@ -14,5 +14,9 @@ pub mod Json
 pub mod Script
 pub mod Headline
 pub mod Laws
+pub mod Escaping
+pub mod ToWrite
+pub mod Lists
+pub mod Writers
 pub mod Messages
 pub mod Ahead

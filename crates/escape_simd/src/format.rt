@@ -1,13 +1,12 @@
 //! The output for a text in a slice, by the kernel that is told.
-ghost use Rattle.std.specs.Prelude.{◌+◌, ◌*◌, ◌≤◌, length, take, chars};
+ghost use Rattle.std.specs.Prelude.{◌+◌, ◌*◌, ◌≤◌, length, take};
 ghost use Rattle.escape_lanes.specs.Mode.{json, html, script};
+ghost use Rattle.escape_simd.specs.Escaping.{IsEscaping};
 ghost use Rattle.escape_simd.specs.Formatted.{IsInnerWritten, IsWritten};
-ghost use Rattle.escape_simd.specs.Html.{IsOnlyHtml};
-ghost use Rattle.escape_simd.specs.Json.{IsOnlyJson};
 ghost use Rattle.escape_simd.specs.Kernels.{lanes_of};
-ghost use Rattle.escape_simd.specs.Laws.{AgreesWithEach, IsOfOneText};
+ghost use Rattle.escape_simd.specs.Laws.{AgreesWithEach};
 ghost use Rattle.escape_simd.specs.Output.{bound, quoted};
-ghost use Rattle.escape_simd.specs.Script.{IsOnlyScript, IsSafeInScript};
+ghost use Rattle.escape_simd.specs.Script.{IsSafeInScript};
 
 use crate::kernel::Kernel;
 use crate::simd::{JSON_MODE, SCRIPT_MODE, avx2, avx512, neon, sse2, v128};
@@ -27,9 +26,30 @@ use crate::simd::{JSON_MODE, SCRIPT_MODE, avx2, avx512, neon, sse2, v128};
 pub fn format_json_string(kernel: Kernel, value: &str, dst: &mut [u8]) -> usize
     requires { bound json (length value.now) ≤ length dst.old }
     ensures written { IsWritten (lanes_of kernel) json value.now dst.old dst.new result }
-    ensures headline { IsOnlyJson (take result dst.new) (chars value.now) }
-    ensures equal_texts { IsOfOneText json value.now (take result dst.new) }
+    ensures output { IsEscaping json value.now (take result dst.new) }
     ensures agree { AgreesWithEach json value.now result (take result dst.new) }
+{
+    json_by(kernel, value, dst)
+}
+
+/// As [`format_json_string`], and answers the output as text, which it is.
+///
+/// ```text
+/// let mut dst = [0; 41];
+/// format_json_str(Kernel::Avx2, "<", &mut dst) == "\"<\""
+/// ```
+pub fn format_json_str<'a>(kernel: Kernel, value: &str, dst: &'a mut [u8]) -> &'a str
+    requires { bound json (length value.now) ≤ length dst.old }
+    ensures output { IsEscaping json value.now result.now }
+{
+    let count = format_json_string(kernel, value, dst);
+    // The output for a text is a text.
+    unsafe { str::from_utf8_unchecked(&dst[..count]) }
+}
+
+fn json_by(kernel: Kernel, value: &str, dst: &mut [u8]) -> usize
+    requires { bound json (length value.now) ≤ length dst.old }
+    ensures { IsWritten (lanes_of kernel) json value.now dst.old dst.new result }
 {
     match kernel {
         Kernel::V128 => v128::format_string::<false>(value, dst),
@@ -55,9 +75,30 @@ pub fn format_json_string(kernel: Kernel, value: &str, dst: &mut [u8]) -> usize
 pub fn format_html_string(kernel: Kernel, value: &str, dst: &mut [u8]) -> usize
     requires { bound html (length value.now) ≤ length dst.old }
     ensures written { IsWritten (lanes_of kernel) html value.now dst.old dst.new result }
-    ensures headline { IsOnlyHtml (take result dst.new) (chars value.now) }
-    ensures equal_texts { IsOfOneText html value.now (take result dst.new) }
+    ensures output { IsEscaping html value.now (take result dst.new) }
     ensures agree { AgreesWithEach html value.now result (take result dst.new) }
+{
+    html_by(kernel, value, dst)
+}
+
+/// As [`format_html_string`], and answers the output as text, which it is.
+///
+/// ```text
+/// let mut dst = [0; 38];
+/// format_html_str(Kernel::Avx2, "<", &mut dst) == "&lt;"
+/// ```
+pub fn format_html_str<'a>(kernel: Kernel, value: &str, dst: &'a mut [u8]) -> &'a str
+    requires { bound html (length value.now) ≤ length dst.old }
+    ensures output { IsEscaping html value.now result.now }
+{
+    let count = format_html_string(kernel, value, dst);
+    // The output for a text is a text.
+    unsafe { str::from_utf8_unchecked(&dst[..count]) }
+}
+
+fn html_by(kernel: Kernel, value: &str, dst: &mut [u8]) -> usize
+    requires { bound html (length value.now) ≤ length dst.old }
+    ensures { IsWritten (lanes_of kernel) html value.now dst.old dst.new result }
 {
     match kernel {
         Kernel::V128 => v128::format_string::<true>(value, dst),
@@ -83,10 +124,30 @@ pub fn format_html_string(kernel: Kernel, value: &str, dst: &mut [u8]) -> usize
 pub fn format_script_string(kernel: Kernel, value: &str, dst: &mut [u8]) -> usize
     requires { bound script (length value.now) ≤ length dst.old }
     ensures written { IsWritten (lanes_of kernel) script value.now dst.old dst.new result }
-    ensures headline { IsOnlyScript (take result dst.new) (chars value.now) }
-    ensures safe { IsSafeInScript (take result dst.new) }
-    ensures equal_texts { IsOfOneText script value.now (take result dst.new) }
+    ensures output { IsEscaping script value.now (take result dst.new) }
     ensures agree { AgreesWithEach script value.now result (take result dst.new) }
+{
+    script_by(kernel, value, dst)
+}
+
+/// As [`format_script_string`], and answers the output as text, which it is.
+///
+/// ```text
+/// let mut dst = [0; 41];
+/// format_script_str(Kernel::Avx2, "<", &mut dst) == "\"\\u003c\""
+/// ```
+pub fn format_script_str<'a>(kernel: Kernel, value: &str, dst: &'a mut [u8]) -> &'a str
+    requires { bound script (length value.now) ≤ length dst.old }
+    ensures output { IsEscaping script value.now result.now }
+{
+    let count = format_script_string(kernel, value, dst);
+    // The output for a text is a text.
+    unsafe { str::from_utf8_unchecked(&dst[..count]) }
+}
+
+fn script_by(kernel: Kernel, value: &str, dst: &mut [u8]) -> usize
+    requires { bound script (length value.now) ≤ length dst.old }
+    ensures { IsWritten (lanes_of kernel) script value.now dst.old dst.new result }
 {
     match kernel {
         Kernel::V128 => v128::format_script_string(value, dst),

@@ -1,21 +1,41 @@
 //! HTML text in which six bytes are written as entities: `"`, `&`, `'`, `/`, `<` and `>`.
-ghost use Rattle.std.specs.Prelude.{◌≡◌, ◌+◌, ◌<◌, ◌≤◌, ◌↔◌, ◌++◌, length, chars, string_bytes, vec_len, vec_capacity, Err, IsOk, IsErr, IfOk, OnOk, OnErr};
+ghost use Rattle.std.specs.Prelude.{◌≡◌, ◌+◌, ◌*◌, ◌<◌, ◌≤◌, ◌↔◌, ◌++◌, length, string_bytes, vec_len, vec_capacity, Err, IsOk, IsErr, IfOk, OnOk, OnErr};
 ghost use Rattle.escape_lanes.specs.Mode.{html};
 ghost use Rattle.escape_simd.specs.Output.{plain, bound};
-ghost use Rattle.escape_simd.specs.Html.{IsOnlyHtml, AmpersandsBeginEntities};
-ghost use Rattle.escape_simd.specs.Spelling.{IsTextOf};
-ghost use Rattle.escape_simd.specs.Laws.{appended, JoinsTexts, IsOfOneText, HasOutputLength};
+ghost use Rattle.escape_simd.specs.Escaping.{IsEscaping};
+ghost use Rattle.escape_simd.specs.Laws.{appended};
 
+mod display;
 mod each;
 mod error;
+mod into_string;
+mod joined;
+mod to_writer;
 
 use crate::output::{append, scratch_bound, text};
 use crate::simd::HTML_MODE;
+pub use display::Escaped;
 pub use each::escape_html_each;
 pub use error::{EscapeHtmlError, InputTooLarge};
+pub use into_string::escape_html_into_string;
+pub use joined::escape_html_joined_into;
 use std::alloc::{Allocator, Global};
+pub use to_writer::escape_html_to_writer;
 
-/// How many bytes a target must have for a text of `len` bytes: `6 * len + 32`.
+/// How many bytes of a target each byte of a text may need in HTML.
+///
+/// With [`CAPACITY_SLACK`] it makes an array of the size that [`html_capacity`] tells:
+///
+/// ```text
+/// const ROOM: usize = CAPACITY_FACTOR * 80 + CAPACITY_SLACK;
+/// let mut dst = [0; ROOM]; // for a text of up to 80 bytes
+/// ```
+pub const CAPACITY_FACTOR: usize = 6;
+
+/// How many bytes of a target are needed besides [`CAPACITY_FACTOR`] for each byte of the text in HTML.
+pub const CAPACITY_SLACK: usize = 32;
+
+/// Returns how many bytes a target must have for a text of `len` bytes: `6 * len + 32`.
 ///
 /// The error says that this passes `usize::MAX`.
 ///
@@ -24,6 +44,7 @@ use std::alloc::{Allocator, Global};
 /// ```
 pub fn html_capacity(len: usize) -> Result<usize, InputTooLarge>
     ensures exact { IfOk result (λ capacity. capacity ≡ bound html len) }
+    ensures by_name { bound html len ≡ CAPACITY_FACTOR * len + CAPACITY_SLACK }
     ensures too_large { IsErr result ↔ (usize.MAX < bound html len) }
 {
     scratch_bound::<{ HTML_MODE }>(len).ok_or(InputTooLarge)
@@ -44,14 +65,7 @@ pub fn html_capacity(len: usize) -> Result<usize, InputTooLarge>
 /// escape_html(alloc, "<a href='/x'>")? == "&lt;a href=&#x27;&#x2f;x&#x27;&gt;"
 /// ```
 pub fn escape_html(alloc: Global, value: &str) -> Result<String, EscapeHtmlError>
-    ensures characters { OnOk result (IsTextOf value.now (chars value.now)) }
-    ensures exact { IfOk result (λ output. string_bytes output ≡ plain html value.now) }
-    ensures headline { IfOk result (λ output. IsOnlyHtml (string_bytes output) (chars value.now)) }
-    ensures ampersands { IfOk result (λ output. AmpersandsBeginEntities (string_bytes output)) }
-    ensures joined { IfOk result (λ output. JoinsTexts html value.now (string_bytes output)) }
-    ensures equal_texts { IfOk result (λ output. IsOfOneText html value.now (string_bytes output)) }
-    ensures len { IfOk result (λ output. HasOutputLength html
-        (length value.now) (string_bytes output)) }
+    ensures output { IfOk result (λ output. IsEscaping html value.now (string_bytes output)) }
     ensures too_large { (result ≡ Err (EscapeHtmlError.TooLarge (record {})))
         ↔ (usize.MAX < bound html (length value.now)) }
 {
@@ -69,14 +83,7 @@ pub fn escape_html(alloc: Global, value: &str) -> Result<String, EscapeHtmlError
 /// escape_html_in(&arena, "<")? == "&lt;"
 /// ```
 pub fn escape_html_in<A: Allocator>(alloc: A, value: &str) -> Result<String<A>, EscapeHtmlError>
-    ensures characters { OnOk result (IsTextOf value.now (chars value.now)) }
-    ensures exact { IfOk result (λ output. string_bytes output ≡ plain html value.now) }
-    ensures headline { IfOk result (λ output. IsOnlyHtml (string_bytes output) (chars value.now)) }
-    ensures ampersands { IfOk result (λ output. AmpersandsBeginEntities (string_bytes output)) }
-    ensures joined { IfOk result (λ output. JoinsTexts html value.now (string_bytes output)) }
-    ensures equal_texts { IfOk result (λ output. IsOfOneText html value.now (string_bytes output)) }
-    ensures len { IfOk result (λ output. HasOutputLength html
-        (length value.now) (string_bytes output)) }
+    ensures output { IfOk result (λ output. IsEscaping html value.now (string_bytes output)) }
     ensures too_large { (result ≡ Err (EscapeHtmlError.TooLarge (record {})))
         ↔ (usize.MAX < bound html (length value.now)) }
 {
@@ -102,9 +109,7 @@ pub fn escape_html_into<A: Allocator>(
     dst: &mut Vec<u8, A>,
 ) -> Result<(), EscapeHtmlError>
     ensures exact { OnOk result (dst.new.items ≡ dst.old.items ++ plain html value.now) }
-    ensures headline { OnOk result (IsOnlyHtml
-        (appended dst.old.items dst.new.items) (chars value.now)) }
-    ensures equal_texts { OnOk result (IsOfOneText html value.now
+    ensures output { OnOk result (IsEscaping html value.now
         (appended dst.old.items dst.new.items)) }
     ensures unchanged { OnErr result (dst.new.items ≡ dst.old.items) }
     ensures too_large { (result ≡ Err (EscapeHtmlError.TooLarge (record {})))

@@ -1,20 +1,40 @@
 //! JSON string literals, as RFC 8259 has them in section 7.
-ghost use Rattle.std.specs.Prelude.{◌≡◌, ◌+◌, ◌<◌, ◌≤◌, ◌↔◌, ◌++◌, length, chars, string_bytes, vec_len, vec_capacity, Err, IsOk, IsOkUnless, IfOk, OnOk, OnErr};
+ghost use Rattle.std.specs.Prelude.{◌≡◌, ◌+◌, ◌*◌, ◌<◌, ◌≤◌, ◌↔◌, ◌++◌, length, string_bytes, vec_len, vec_capacity, Err, IsOk, IsOkUnless, IfOk, OnOk, OnErr};
 ghost use Rattle.escape_lanes.specs.Mode.{json, script};
 ghost use Rattle.escape_simd.specs.Output.{plain, bound};
-ghost use Rattle.escape_simd.specs.Json.{IsOnlyJson};
-ghost use Rattle.escape_simd.specs.Script.{IsOnlyScript, IsSafeInScript};
-ghost use Rattle.escape_simd.specs.Spelling.{IsTextOf};
-ghost use Rattle.escape_simd.specs.Laws.{appended, JoinsTexts, IsOfOneText, HasOutputLength};
+ghost use Rattle.escape_simd.specs.Escaping.{IsEscaping};
+ghost use Rattle.escape_simd.specs.Laws.{appended};
 
+mod display;
 mod error;
+mod into_string;
+mod list;
+mod to_writer;
 
 use crate::output::{append, scratch_bound, text};
 use crate::simd::{JSON_MODE, SCRIPT_MODE};
+pub use display::{Escaped, EscapedScript};
 pub use error::EscapeError;
+pub use into_string::{escape_into_string, escape_script_into_string};
+pub use list::{escape_array_into, escape_joined_into, escape_script_array_into};
 use std::alloc::{Allocator, Global};
+pub use to_writer::{escape_script_to_writer, escape_to_writer};
 
-/// How many bytes a target must have for the literal of a text of `len` bytes: `6 * len + 35`.
+/// How many bytes of a target each byte of a text may need, in JSON and script literals.
+///
+/// With [`CAPACITY_SLACK`] it makes an array of the size that [`json_capacity`] tells:
+///
+/// ```text
+/// const ROOM: usize = CAPACITY_FACTOR * 80 + CAPACITY_SLACK;
+/// let mut dst = [0; ROOM]; // for a text of up to 80 bytes
+/// ```
+pub const CAPACITY_FACTOR: usize = 6;
+
+/// How many bytes of a target are needed besides [`CAPACITY_FACTOR`] for each byte of the text, in JSON
+/// and script literals.
+pub const CAPACITY_SLACK: usize = 35;
+
+/// Returns how many bytes a target must have for the literal of a text of `len` bytes: `6 * len + 35`.
 ///
 /// The error is [`EscapeError::TooLarge`], where that passes `usize::MAX`.
 ///
@@ -23,6 +43,7 @@ use std::alloc::{Allocator, Global};
 /// ```
 pub fn json_capacity(len: usize) -> Result<usize, EscapeError>
     ensures exact { IfOk result (λ capacity. capacity ≡ bound json len) }
+    ensures by_name { bound json len ≡ CAPACITY_FACTOR * len + CAPACITY_SLACK }
     ensures too_large { (result ≡ Err EscapeError.TooLarge) ↔ (usize.MAX < bound json len) }
     ensures refusal { IsOkUnless result EscapeError.TooLarge }
 {
@@ -44,13 +65,7 @@ pub fn json_capacity(len: usize) -> Result<usize, EscapeError>
 /// escape(alloc, "a\"\n")? == "\"a\\\"\\n\""
 /// ```
 pub fn escape(alloc: Global, value: &str) -> Result<String, EscapeError>
-    ensures characters { OnOk result (IsTextOf value.now (chars value.now)) }
-    ensures exact { IfOk result (λ output. string_bytes output ≡ plain json value.now) }
-    ensures headline { IfOk result (λ output. IsOnlyJson (string_bytes output) (chars value.now)) }
-    ensures joined { IfOk result (λ output. JoinsTexts json value.now (string_bytes output)) }
-    ensures equal_texts { IfOk result (λ output. IsOfOneText json value.now (string_bytes output)) }
-    ensures len { IfOk result (λ output. HasOutputLength json
-        (length value.now) (string_bytes output)) }
+    ensures output { IfOk result (λ output. IsEscaping json value.now (string_bytes output)) }
     ensures too_large { (result ≡ Err EscapeError.TooLarge)
         ↔ (usize.MAX < bound json (length value.now)) }
 {
@@ -68,13 +83,7 @@ pub fn escape(alloc: Global, value: &str) -> Result<String, EscapeError>
 /// escape_in(&arena, "x")? == "\"x\""
 /// ```
 pub fn escape_in<A: Allocator>(alloc: A, value: &str) -> Result<String<A>, EscapeError>
-    ensures characters { OnOk result (IsTextOf value.now (chars value.now)) }
-    ensures exact { IfOk result (λ output. string_bytes output ≡ plain json value.now) }
-    ensures headline { IfOk result (λ output. IsOnlyJson (string_bytes output) (chars value.now)) }
-    ensures joined { IfOk result (λ output. JoinsTexts json value.now (string_bytes output)) }
-    ensures equal_texts { IfOk result (λ output. IsOfOneText json value.now (string_bytes output)) }
-    ensures len { IfOk result (λ output. HasOutputLength json
-        (length value.now) (string_bytes output)) }
+    ensures output { IfOk result (λ output. IsEscaping json value.now (string_bytes output)) }
     ensures too_large { (result ≡ Err EscapeError.TooLarge)
         ↔ (usize.MAX < bound json (length value.now)) }
 {
@@ -97,9 +106,7 @@ pub fn escape_in<A: Allocator>(alloc: A, value: &str) -> Result<String<A>, Escap
 /// ```
 pub fn escape_into<A: Allocator>(value: &str, dst: &mut Vec<u8, A>) -> Result<(), EscapeError>
     ensures exact { OnOk result (dst.new.items ≡ dst.old.items ++ plain json value.now) }
-    ensures headline { OnOk result (IsOnlyJson
-        (appended dst.old.items dst.new.items) (chars value.now)) }
-    ensures equal_texts { OnOk result (IsOfOneText json value.now
+    ensures output { OnOk result (IsEscaping json value.now
         (appended dst.old.items dst.new.items)) }
     ensures unchanged { OnErr result (dst.new.items ≡ dst.old.items) }
     ensures too_large { (result ≡ Err EscapeError.TooLarge)
@@ -131,16 +138,7 @@ pub fn escape_into<A: Allocator>(value: &str, dst: &mut Vec<u8, A>) -> Result<()
 /// escape_script(alloc, "</script>")? == "\"\\u003c/script\\u003e\""
 /// ```
 pub fn escape_script(alloc: Global, value: &str) -> Result<String, EscapeError>
-    ensures characters { OnOk result (IsTextOf value.now (chars value.now)) }
-    ensures exact { IfOk result (λ output. string_bytes output ≡ plain script value.now) }
-    ensures headline { IfOk result (λ output. IsOnlyScript
-        (string_bytes output) (chars value.now)) }
-    ensures safe { IfOk result (λ output. IsSafeInScript (string_bytes output)) }
-    ensures joined { IfOk result (λ output. JoinsTexts script value.now (string_bytes output)) }
-    ensures equal_texts { IfOk result (λ output. IsOfOneText script value.now
-        (string_bytes output)) }
-    ensures len { IfOk result (λ output. HasOutputLength script
-        (length value.now) (string_bytes output)) }
+    ensures output { IfOk result (λ output. IsEscaping script value.now (string_bytes output)) }
     ensures too_large { (result ≡ Err EscapeError.TooLarge)
         ↔ (usize.MAX < bound script (length value.now)) }
 {
@@ -158,16 +156,7 @@ pub fn escape_script(alloc: Global, value: &str) -> Result<String, EscapeError>
 /// escape_script_in(&arena, "a<b")? == "\"a\\u003cb\""
 /// ```
 pub fn escape_script_in<A: Allocator>(alloc: A, value: &str) -> Result<String<A>, EscapeError>
-    ensures characters { OnOk result (IsTextOf value.now (chars value.now)) }
-    ensures exact { IfOk result (λ output. string_bytes output ≡ plain script value.now) }
-    ensures headline { IfOk result (λ output. IsOnlyScript
-        (string_bytes output) (chars value.now)) }
-    ensures safe { IfOk result (λ output. IsSafeInScript (string_bytes output)) }
-    ensures joined { IfOk result (λ output. JoinsTexts script value.now (string_bytes output)) }
-    ensures equal_texts { IfOk result (λ output. IsOfOneText script value.now
-        (string_bytes output)) }
-    ensures len { IfOk result (λ output. HasOutputLength script
-        (length value.now) (string_bytes output)) }
+    ensures output { IfOk result (λ output. IsEscaping script value.now (string_bytes output)) }
     ensures too_large { (result ≡ Err EscapeError.TooLarge)
         ↔ (usize.MAX < bound script (length value.now)) }
 {
@@ -195,10 +184,7 @@ pub fn escape_script_into<A: Allocator>(
     dst: &mut Vec<u8, A>,
 ) -> Result<(), EscapeError>
     ensures exact { OnOk result (dst.new.items ≡ dst.old.items ++ plain script value.now) }
-    ensures headline { OnOk result (IsOnlyScript
-        (appended dst.old.items dst.new.items) (chars value.now)) }
-    ensures safe { OnOk result (IsSafeInScript (appended dst.old.items dst.new.items)) }
-    ensures equal_texts { OnOk result (IsOfOneText script value.now
+    ensures output { OnOk result (IsEscaping script value.now
         (appended dst.old.items dst.new.items)) }
     ensures unchanged { OnErr result (dst.new.items ≡ dst.old.items) }
     ensures too_large { (result ≡ Err EscapeError.TooLarge)

@@ -1,6 +1,10 @@
 //! The bodies that a text can be escaped by.
 
-/// A body of a certain width. All write the same bytes.
+/// A body of a certain width and shape. All write the same bytes, on every processor.
+///
+/// A name says how many bytes are looked at together, and in which steps. It says nothing of the
+/// instructions: each kernel is built for every target, and the build's `--cpu` decides what its steps
+/// become. So a name does not ask for a processor that has the instructions of that name.
 #[derive(Debug, Clone, Copy, PartialEq, Eq)]
 pub enum Kernel {
     /// 16 lanes in an array, one vector at a time.
@@ -13,4 +17,16 @@ pub enum Kernel {
     Avx2,
     /// 64 lanes, four vectors at a time.
     Avx512,
+}
+
+impl Default for Kernel {
+    ghost use Rattle.escape_simd.specs.declared.kernel.Kernel.TheVariants.{Avx2};
+    ghost use Rattle.std.specs.Prelude.{◌≡◌};
+
+    ghost is_default = { λ kernel. kernel ≡ Avx2 };
+
+    /// Returns [`Kernel::Avx2`], by which the calls that allocate and the program escape.
+    fn default() -> Kernel {
+        Kernel::Avx2
+    }
 }

@@ -8,7 +8,13 @@
 //! [`html::escape_html_into`] and [`html::escape_html_each`] append to a vector of bytes instead, of
 //! any allocator. [`format_json_string`], [`format_script_string`] and [`format_html_string`] write
 //! to a slice by the kernel that they are told, and take no memory; [`format_json_inner`] and
-//! [`format_script_inner`] write what stands between the quotation marks.
+//! [`format_script_inner`] write what stands between the quotation marks, and [`format_json_str`] and
+//! its kin answer the output there as text.
+//!
+//! [`json::Escaped`], [`json::EscapedScript`] and [`html::Escaped`] are for `write!`, `print!` and
+//! `format!`; [`json::escape_to_writer`] and its kin write to an `io::Write`,
+//! [`json::escape_into_string`] and its kin append to a `String`. [`json::escape_array_into`] and
+//! [`json::escape_joined_into`] take many texts.
 //!
 //! ```text
 //! escape(alloc, "a\n")? == "\"a\\n\""
@@ -17,17 +23,23 @@
 //! ```
 #![tactic(auto)]
 
+mod adapter;
+mod appended_text;
 mod format;
 pub mod html;
 pub mod json;
 mod kernel;
+mod list;
 mod output;
+mod piecewise;
 pub mod simd;
+mod writer;
 
 pub use escape_lanes::tables;
 pub use format::{
-    format_html_string, format_json_inner, format_json_string, format_script_inner,
-    format_script_string,
+    format_html_str, format_html_string, format_json_inner, format_json_str, format_json_string,
+    format_script_inner, format_script_str, format_script_string,
 };
 pub use kernel::Kernel;
+pub use list::ListError;
 pub use output::PIECE;

@@ -10,6 +10,7 @@ mod bytes;
 
 use crate::simd::HTML_MODE;
 use crate::simd::avx2::Simd256u;
+use crate::{html, json};
 pub use bytes::PIECE;
 use bytes::append_bytes;
 use std::alloc::{AllocError, Allocator};
@@ -37,8 +38,13 @@ pub(crate) fn scratch_bound<const MODE: u8>(len: usize) -> Option<usize>
     ensures fits { IfSome result (λ n. n ≡ bound (mode_numbered MODE) len) }
     ensures passes { IsNone result ↔ (usize.MAX < bound (mode_numbered MODE) len) }
 {
-    len.checked_mul(6)?
-        .checked_add(if MODE == HTML_MODE { 32 } else { 35 })
+    if MODE == HTML_MODE {
+        return len
+            .checked_mul(html::CAPACITY_FACTOR)?
+            .checked_add(html::CAPACITY_SLACK);
+    }
+    len.checked_mul(json::CAPACITY_FACTOR)?
+        .checked_add(json::CAPACITY_SLACK)
 }
 
 /// Appends a quotation mark in JSON, also in script mode, and nothing in HTML.

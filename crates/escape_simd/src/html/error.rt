@@ -1,5 +1,6 @@
 //! Why a text was not written as HTML.
 use crate::output::Refusal;
+use std::alloc::{AllocError, AllocFailed};
 use std::fmt;
 
 /// The scratch bound of a text, `6 * n + 32` for one of `n` bytes, passes `usize::MAX`.
@@ -51,6 +52,31 @@ impl From<Refusal> for EscapeHtmlError {
             Refusal::TooLarge => EscapeHtmlError::TooLarge(InputTooLarge),
             Refusal::OutOfMemory => EscapeHtmlError::OutOfMemory,
         }
+    }
+}
+
+impl From<AllocError> for EscapeHtmlError {
+    ghost use Rattle.escape_simd.specs.declared.html.error.EscapeHtmlError.TheVariants.{OutOfMemory};
+    ghost use Rattle.std.specs.Prelude.{◌≡◌};
+
+    ghost from_gives = { λ _ error. error ≡ OutOfMemory };
+
+    /// Returns [`EscapeHtmlError::OutOfMemory`]. So `?` serves a caller that also pushes bytes of its
+    /// own.
+    fn from(_refused: AllocError) -> EscapeHtmlError {
+        EscapeHtmlError::OutOfMemory
+    }
+}
+
+impl<T: Drop> From<AllocFailed<T>> for EscapeHtmlError {
+    ghost use Rattle.escape_simd.specs.declared.html.error.EscapeHtmlError.TheVariants.{OutOfMemory};
+    ghost use Rattle.std.specs.Prelude.{◌≡◌};
+
+    ghost from_gives = { λ _ error. error ≡ OutOfMemory };
+
+    /// Returns [`EscapeHtmlError::OutOfMemory`], as for a `push` that was refused. The value is let go.
+    fn from(_refused: AllocFailed<T>) -> EscapeHtmlError {
+        EscapeHtmlError::OutOfMemory
     }
 }
 

@@ -1,5 +1,6 @@
 //! Why a text was not written as a JSON string literal.
 use crate::output::Refusal;
+use std::alloc::{AllocError, AllocFailed};
 use std::fmt;
 
 /// Why a text was not written as a JSON string literal.
@@ -23,6 +24,30 @@ impl From<Refusal> for EscapeError {
             Refusal::TooLarge => EscapeError::TooLarge,
             Refusal::OutOfMemory => EscapeError::OutOfMemory,
         }
+    }
+}
+
+impl From<AllocError> for EscapeError {
+    ghost use Rattle.escape_simd.specs.declared.json.error.EscapeError.TheVariants.{OutOfMemory};
+    ghost use Rattle.std.specs.Prelude.{◌≡◌};
+
+    ghost from_gives = { λ _ error. error ≡ OutOfMemory };
+
+    /// Returns [`EscapeError::OutOfMemory`]. So `?` serves a caller that also pushes bytes of its own.
+    fn from(_refused: AllocError) -> EscapeError {
+        EscapeError::OutOfMemory
+    }
+}
+
+impl<T: Drop> From<AllocFailed<T>> for EscapeError {
+    ghost use Rattle.escape_simd.specs.declared.json.error.EscapeError.TheVariants.{OutOfMemory};
+    ghost use Rattle.std.specs.Prelude.{◌≡◌};
+
+    ghost from_gives = { λ _ error. error ≡ OutOfMemory };
+
+    /// Returns [`EscapeError::OutOfMemory`], as for a `push` that was refused. The value is let go.
+    fn from(_refused: AllocFailed<T>) -> EscapeError {
+        EscapeError::OutOfMemory
     }
 }
 

@@ -1,7 +1,6 @@
-use Rattle.std.proofs.Common.{sym, subst}
-use Rattle.escape_simd.specs.Html.{AmpersandsBeginEntities}
-use Rattle.escape_simd.proofs.HtmlLemmas.{plain_ampersands}
+use Rattle.escape_lanes.specs.Mode.{html}
+use Rattle.escape_simd.proofs.EscapingLemmas.{IsEscaping-output}
 use Rattle.escape_simd.proofs.html.escape_html_in.Goals as goal
 
-pub returns-clause-ampersands : goal.returns-clause-ampersands
-returns-clause-ampersands g c = subst AmpersandsBeginEntities (sym c.in_ok-text.ensures.exact) (plain_ampersands c.args.value.now)
+pub returns-clause-output : goal.returns-clause-output
+returns-clause-output g c = IsEscaping-output html _ _ c.in_ok-text.ensures.exact c.utf8.value

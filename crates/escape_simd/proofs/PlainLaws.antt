@@ -1,0 +1,60 @@
+-- The laws that callers rest on, each of the plain escaping itself: of `plain mode bytes`, whatever the bytes, or of a text.
+use Rattle.std.proofs.Common.{ℕ, List, IsUtf8, chars, length, refl}
+use Rattle.escape_lanes.specs.Mode.{Mode, json, html, script}
+use Rattle.escape_simd.specs.Escaping.{IsOneLine, IsEscaping}
+use Rattle.escape_simd.specs.Headline.{IsOnlyOutput}
+use Rattle.escape_simd.specs.Html.{IsMarkupFree, AmpersandsBeginEntities}
+use Rattle.escape_simd.specs.Laws.{JoinsTexts, IsOfOneText, HasOutputLength}
+use Rattle.escape_simd.specs.Output.{plain}
+use Rattle.escape_simd.specs.Script.{IsSafeInScript}
+use Rattle.escape_simd.proofs.EscapingLemmas.{IsEscaping-output, json_one_line, script_one_line}
+use Rattle.escape_simd.proofs.HtmlLemmas.{plain_markup_free, plain_ampersands}
+use Rattle.escape_simd.proofs.OutputLemmas.{IsUtf8-output, IsOnlyOutput-output, IsOfOneText-output, HasOutputLength-output, JoinsTexts-output}
+use Rattle.escape_simd.proofs.ScriptLemmas.{IsSafeInScript-output}
+
+-- Of any bytes
+
+-- HTML: none of the bytes `"`, `'`, `/`, `<` and `>`
+pub html_is_markup_free : (bytes : List ℕ) → IsMarkupFree (plain html bytes)
+html_is_markup_free = plain_markup_free
+
+-- HTML: each ampersand begins an entity
+pub html_ampersands_begin_entities : (bytes : List ℕ) → AmpersandsBeginEntities (plain html bytes)
+html_ampersands_begin_entities = plain_ampersands
+
+-- JSON and script literals stand on one line
+pub json_is_one_line : (bytes : List ℕ) → IsOneLine (plain json bytes)
+json_is_one_line bytes = json_one_line bytes (plain json bytes) refl
+
+pub script_is_one_line : (bytes : List ℕ) → IsOneLine (plain script bytes)
+script_is_one_line bytes = script_one_line bytes (plain script bytes) refl
+
+-- script: no `<`, `>` or `&`, and no separator of lines or paragraphs
+pub script_is_safe : (bytes : List ℕ) → IsSafeInScript (plain script bytes)
+script_is_safe bytes = IsSafeInScript-output bytes (plain script bytes) refl
+
+-- joined at every border
+pub plain_joins : (mode : Mode) (bytes : List ℕ) → JoinsTexts mode bytes (plain mode bytes)
+plain_joins mode bytes = JoinsTexts-output mode bytes (plain mode bytes) refl
+
+-- one to six bytes for each byte, and the quotation marks
+pub plain_length : (mode : Mode) (bytes : List ℕ) → HasOutputLength mode (length bytes) (plain mode bytes)
+plain_length mode bytes = HasOutputLength-output mode bytes (plain mode bytes) refl
+
+-- Of texts
+
+-- a text again
+pub plain_is_utf8 : (mode : Mode) (bytes : List ℕ) → IsUtf8 bytes → IsUtf8 (plain mode bytes)
+plain_is_utf8 mode bytes utf8 = IsUtf8-output mode bytes (plain mode bytes) utf8 refl
+
+-- the only output
+pub plain_is_only : (mode : Mode) (bytes : List ℕ) → IsUtf8 bytes → IsOnlyOutput mode (plain mode bytes) (chars bytes)
+plain_is_only mode bytes utf8 = IsOnlyOutput-output mode bytes (plain mode bytes) refl utf8
+
+-- of no other text
+pub plain_is_of_one_text : (mode : Mode) (bytes : List ℕ) → IsUtf8 bytes → IsOfOneText mode bytes (plain mode bytes)
+plain_is_of_one_text mode bytes utf8 = IsOfOneText-output mode bytes (plain mode bytes) refl utf8
+
+-- all of this
+pub plain_is_escaping : (mode : Mode) (bytes : List ℕ) → IsUtf8 bytes → IsEscaping mode bytes (plain mode bytes)
+plain_is_escaping mode bytes utf8 = IsEscaping-output mode bytes (plain mode bytes) refl utf8

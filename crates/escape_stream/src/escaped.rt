@@ -49,20 +49,21 @@ pub(crate) fn write_escaped<A: Allocator, W: Write>(
     write_whole(mode, kernel, text, room.as_mut_slice(), output)
 }
 
-/// Whether the output of a text of `len` bytes may take more than `usize::MAX` bytes.
+/// Refuses a text of `len` bytes whose output may take more than `usize::MAX` bytes.
 fn check_bound(mode: Mode, len: usize) -> Result<(), ToolFault>
     ensures too_large { IsErrOf result ToolFault.TooLarge
         ↔ (usize.MAX < bound (escaping mode) len) }
     ensures fault { IfErr result (λ fault. fault ≡ ToolFault.TooLarge) }
 {
-    let fits = match mode {
-        Mode::Json | Mode::Script => json_capacity(len).is_ok(),
-        Mode::Html => html_capacity(len).is_ok(),
-    };
-    if fits {
-        Ok(())
-    } else {
-        Err(ToolFault::TooLarge)
+    match mode {
+        Mode::Json | Mode::Script => match json_capacity(len) {
+            Ok(_) => Ok(()),
+            Err(_) => Err(ToolFault::TooLarge),
+        },
+        Mode::Html => match html_capacity(len) {
+            Ok(_) => Ok(()),
+            Err(_) => Err(ToolFault::TooLarge),
+        },
     }
 }
 

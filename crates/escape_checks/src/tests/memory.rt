@@ -271,7 +271,7 @@ fn a_long_run_asks_at_last_for_a_piece(rt: HostRuntime) -> Result<(), Fail> {
         let result = run_in(&heap, Mode::Html, KERNELS[3], &mut input, &mut output);
         if result == Ok(()) {
             refused = false;
-            assert_eq!(rt; output.len(), 1 + 4 * text.len());
+            assert_eq!(rt; output.len(), 1 + 8 * escape_stream::PIECE);
             assert_eq!(rt; heap.requests().made, granted);
             assert_eq!(rt; heap.requests().last_size, 6 * escape_stream::PIECE + 32);
         } else {

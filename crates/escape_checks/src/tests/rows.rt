@@ -177,8 +177,8 @@ fn kernels_write(
                 format_script_inner(kernel, text, &mut target)
             };
             assert_eq!(rt;
-                Some(&target[..count]),
-                output.get(1..output.len() - 1),
+                target.get(..count),
+                output.get(1..output.len().saturating_sub(1)),
                 "{kernel:?} {mode:?} {text}"
             );
         }

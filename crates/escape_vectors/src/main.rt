@@ -9,10 +9,9 @@ mod replay;
 
 use answer::Answer;
 use replay::agrees;
-use std::env;
-use std::fs;
 use std::process::ExitCode;
 use std::test::Fail;
+use std::{env, fs};
 
 /// A line of the list is a mode, a text and what stands for the text, the last two in hexadecimal.
 const LIST: &str = "answers.tsv";

@@ -1,4 +1,4 @@
-//! How fast the kernels are, beside the best simple loop over bytes.
+//! How fast the kernels and the calls are, beside the best simple loop over bytes.
 #![tactic(auto)]
 
 ghost use Rattle.std.specs.Prelude.{◌≤◌, length};
@@ -41,7 +41,7 @@ fn main(rt: HostRuntime) -> Result<(), Fail> {
         each_mode(&rt, corpus, measures)?;
     }
     if !measures {
-        println!(rt; "every kernel writes what the loop writes")?;
+        println!(rt; "every kernel and call writes what the loop writes")?;
         println!(rt; "usage: escape_bench measure|calls")?;
     }
     Ok(())
@@ -87,21 +87,23 @@ fn each_size(
     requires wanted_room { ROOM ≤ length wanted.old }
     requires room { ROOM ≤ length dst.old }
 {
-    let escaping = Escaping {
+    let mut escaping = Escaping {
         mode,
         table: table_of(mode),
+        appended: Vec::new(rt.alloc()),
+        alloc: rt.alloc(),
     };
     for len in SIZES {
         if text.len() < len {
             break;
         }
         let texts = pieces(rt.alloc(), text, len, SPREAD.min(text.len()))?;
-        if !agree(&escaping, &texts, wanted, dst) {
-            return Err(Fail::new("a kernel writes other bytes than the loop"));
+        if !agree(&mut escaping, &texts, wanted, dst) {
+            return Err(Fail::new("a kernel or a call writes other bytes than the loop"));
         }
         if text.len() == LONGEST {
             print!(rt; "{mode:?} {corpus:<8?} {len:>8}")?;
-            report(rt, &escaping, &texts, len, dst)?;
+            report(rt, &mut escaping, &texts, len, dst)?;
         }
     }
     Ok(())
@@ -120,7 +122,7 @@ fn copied_front<'a>(text: &str, len: usize, memory: &'a mut [u8]) -> Option<&'a 
 /// Measures the ways, and prints the loop's speed and how many times as fast each is.
 fn report(
     rt: &(impl Clock + Print),
-    escaping: &Escaping,
+    escaping: &mut Escaping,
     texts: &[&str],
     len: usize,
     dst: &mut [u8],

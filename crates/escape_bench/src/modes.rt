@@ -1,8 +1,11 @@
 //! The modes that are measured: a further one is one more line in each list of this file.
 ghost use Rattle.std.specs.Prelude.{◌≤◌, ◌+◌, ◌*◌, length};
 
+use escape_simd::html::{escape_html, escape_html_into};
+use escape_simd::json::{escape, escape_into, escape_script, escape_script_into};
 use escape_simd::tables::{html_row, json_row, script_entry};
 use escape_simd::{Kernel, format_html_string, format_json_string, format_script_string};
+use std::alloc::Global;
 
 #[derive(Debug, Clone, Copy, PartialEq, Eq)]
 pub enum Mode {
@@ -40,5 +43,25 @@ pub fn format_string(mode: Mode, kernel: Kernel, text: &str, dst: &mut [u8]) -> 
         Mode::Json => format_json_string(kernel, text, dst),
         Mode::Html => format_html_string(kernel, text, dst),
         Mode::Script => format_script_string(kernel, text, dst),
+    }
+}
+
+/// Appends what the text becomes, and answers whether it could.
+#[inline(always)]
+pub fn append(mode: Mode, text: &str, target: &mut Vec<u8>) -> bool {
+    match mode {
+        Mode::Json => escape_into(text, target).is_ok(),
+        Mode::Html => escape_html_into(text, target).is_ok(),
+        Mode::Script => escape_script_into(text, target).is_ok(),
+    }
+}
+
+/// What the text becomes, in memory of its own.
+#[inline(always)]
+pub fn answer(alloc: Global, mode: Mode, text: &str) -> Option<String> {
+    match mode {
+        Mode::Json => escape(alloc, text).ok(),
+        Mode::Html => escape_html(alloc, text).ok(),
+        Mode::Script => escape_script(alloc, text).ok(),
     }
 }

@@ -1,9 +1,10 @@
 //! The best of many rounds, with the ways in turn in each round.
 ghost use Rattle.std.specs.Prelude.{◌≤◌, ◌+◌, ◌*◌, length};
 
-use crate::modes::{Mode, format_string};
+use crate::modes::{Mode, answer, append, format_string};
 use crate::per_byte::{Table, per_byte};
 use escape_simd::Kernel;
+use std::alloc::Global;
 use std::test::Fail;
 use std::time::{Clock, Instant};
 
@@ -12,9 +13,13 @@ enum Way {
     Loop,
     Copy,
     Of(Kernel),
+    /// The call that appends, to a vector that is emptied before.
+    Appending,
+    /// The call that answers a `String`.
+    Answering,
 }
 
-const WAYS: [Way; 7] = [
+const WAYS: [Way; 9] = [
     Way::Loop,
     Way::Copy,
     Way::Of(Kernel::V128),
@@ -22,10 +27,12 @@ const WAYS: [Way; 7] = [
     Way::Of(Kernel::Neon),
     Way::Of(Kernel::Avx2),
     Way::Of(Kernel::Avx512),
+    Way::Appending,
+    Way::Answering,
 ];
 
 /// The names of the ways, in their order.
-pub const COLUMNS: &str = "loop    copy    v128    sse2    neon    avx2  avx512";
+pub const COLUMNS: &str = "loop    copy    v128    sse2    neon    avx2  avx512    into  string";
 
 /// The bytes of the longest text.
 pub const LONGEST: usize = 1 << 20;
@@ -35,25 +42,40 @@ pub const ROOM: usize = 6 * LONGEST + 35;
 
 const ROUNDS: usize = 50;
 
-/// A mode, with the table of the loop.
+/// A mode, with the table of the loop and what the calls need.
 #[derive(Drop)]
 pub struct Escaping {
     pub mode: Mode,
     pub table: Table,
+    /// What the appending call appends to.
+    pub appended: Vec<u8>,
+    /// Where the answering call takes its memory.
+    pub alloc: Global,
 }
 
-/// Whether the kernels write the same bytes as the loop for each text.
-pub fn agree(escaping: &Escaping, texts: &[&str], wanted: &mut [u8], dst: &mut [u8]) -> bool
+/// Whether the kernels and the calls write the same bytes as the loop for each text.
+pub fn agree(escaping: &mut Escaping, texts: &[&str], wanted: &mut [u8], dst: &mut [u8]) -> bool
     requires wanted_room { ROOM ≤ length wanted.old }
     requires room { ROOM ≤ length dst.old }
 {
     for text in texts {
         let count = once(Way::Loop, escaping, text, wanted);
-        for way in &WAYS[2..] {
+        let Some(wanted) = wanted.get(..count) else {
+            return false;
+        };
+        for way in &WAYS[2..7] {
             let written = once(*way, escaping, text, dst);
-            if wanted.get(..count) != dst.get(..written) {
+            if dst.get(..written) != Some(wanted) {
                 return false;
             }
+        }
+        once(Way::Appending, escaping, text, dst);
+        if escaping.appended.as_slice() != wanted {
+            return false;
+        }
+        match answer(escaping.alloc, escaping.mode, text) {
+            Some(answered) if answered.as_bytes() == wanted => {}
+            _ => return false,
         }
     }
     true
@@ -62,14 +84,14 @@ pub fn agree(escaping: &Escaping, texts: &[&str], wanted: &mut [u8], dst: &mut [
 /// The nanoseconds that so many passes over the texts take in the best round, for each way.
 pub fn best_of_rounds(
     rt: &impl Clock,
-    escaping: &Escaping,
+    escaping: &mut Escaping,
     texts: &[&str],
     dst: &mut [u8],
     passes: usize,
-) -> Result<[u32; 7], Fail>
+) -> Result<[u32; 9], Fail>
     requires { ROOM ≤ length dst.old }
 {
-    let mut best = [u32::MAX; 7];
+    let mut best = [u32::MAX; 9];
     for _ in 0..ROUNDS {
         for (place, way) in WAYS.iter().enumerate() {
             let start = Instant::now(rt)?;
@@ -84,7 +106,7 @@ pub fn best_of_rounds(
 }
 
 #[inline(never)]
-fn pass(way: Way, escaping: &Escaping, texts: &[&str], dst: &mut [u8])
+fn pass(way: Way, escaping: &mut Escaping, texts: &[&str], dst: &mut [u8])
     requires { ROOM ≤ length dst.old }
 {
     for text in texts {
@@ -94,7 +116,7 @@ fn pass(way: Way, escaping: &Escaping, texts: &[&str], dst: &mut [u8])
 
 /// Writes what the text becomes. A text above the longest becomes nothing.
 #[inline(always)]
-fn once(way: Way, escaping: &Escaping, text: &str, dst: &mut [u8]) -> usize
+fn once(way: Way, escaping: &mut Escaping, text: &str, dst: &mut [u8]) -> usize
     requires { ROOM ≤ length dst.old }
 {
     if LONGEST < text.len() {
@@ -104,6 +126,18 @@ fn once(way: Way, escaping: &Escaping, text: &str, dst: &mut [u8]) -> usize
         Way::Loop => per_byte(&escaping.table, text.as_bytes(), dst),
         Way::Copy => copy(text.as_bytes(), dst),
         Way::Of(kernel) => format_string(escaping.mode, kernel, text, dst),
+        Way::Appending => {
+            escaping.appended.clear();
+            if append(escaping.mode, text, &mut escaping.appended) {
+                escaping.appended.len()
+            } else {
+                0
+            }
+        }
+        Way::Answering => match answer(escaping.alloc, escaping.mode, text) {
+            Some(answered) => answered.len(),
+            None => 0,
+        },
     }
 }
 

@@ -1,5 +1,6 @@
 //! What no clause says, over the public calls.
 mod borders;
+mod differential;
 mod memory;
 mod numbers;
 mod pieces;

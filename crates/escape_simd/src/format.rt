@@ -1,12 +1,13 @@
 //! The output for a text in a slice, by the kernel that is told.
-ghost use Rattle.std.specs.Prelude.{◌+◌, ◌*◌, ◌≤◌, length, take};
+ghost use Rattle.std.specs.Prelude.{◌+◌, ◌*◌, ◌≤◌, length, take, chars};
 ghost use Rattle.escape_lanes.specs.Mode.{json, html, script};
 ghost use Rattle.escape_simd.specs.Escaping.{IsEscaping};
 ghost use Rattle.escape_simd.specs.Formatted.{IsInnerWritten, IsWritten};
+ghost use Rattle.escape_simd.specs.Json.{IsOnlyJson};
 ghost use Rattle.escape_simd.specs.Kernels.{lanes_of};
 ghost use Rattle.escape_simd.specs.Laws.{AgreesWithEach};
 ghost use Rattle.escape_simd.specs.Output.{bound, quoted};
-ghost use Rattle.escape_simd.specs.Script.{IsSafeInScript};
+ghost use Rattle.escape_simd.specs.Script.{IsOnlyScript};
 
 use crate::kernel::Kernel;
 use crate::simd::{JSON_MODE, SCRIPT_MODE, avx2, avx512, neon, sse2, v128};

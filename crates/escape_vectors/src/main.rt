@@ -1,7 +1,7 @@
 //! Replays another implementation's answers through every kernel, the calls that allocate, and `run`.
 //!
 //! It prints each answer that differs, and at the end how many passed. The status is a failure where
-//! one differs.
+//! one differs. A word that it is given is the path of the list.
 #![tactic(auto)]
 
 mod answer;
@@ -9,15 +9,20 @@ mod replay;
 
 use answer::Answer;
 use replay::agrees;
-use std::fs;
 use std::process::ExitCode;
 use std::test::Fail;
+use std::{env, fs};
 
 /// A line of the list is a mode, a text and what stands for the text, the last two in hexadecimal.
 const LIST: &str = "answers.tsv";
 
 fn main(rt: HostRuntime) -> Result<ExitCode, Fail> {
-    let list = fs::read_to_string(&rt, LIST)?;
+    let mut words = env::args(&rt)?;
+    let _program = words.next();
+    let list = match words.next() {
+        Some(path) => fs::read_to_string(&rt, path.as_str())?,
+        None => fs::read_to_string(&rt, LIST)?,
+    };
     let mut passed = 0u64;
     let mut failed = 0u64;
     for line in list.as_str().lines() {

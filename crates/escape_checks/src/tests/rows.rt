@@ -1,14 +1,10 @@
 //! Texts with what stands for them, written out.
 
-use crate::routes::{KERNELS, WAYS, format, room};
 use crate::tests::texts::repeated;
-use escape_simd::html::{escape_html, escape_html_each, escape_html_in, escape_html_into};
-use escape_simd::json::{
-    escape, escape_in, escape_into, escape_script, escape_script_in, escape_script_into,
-};
+use crate::writers::differing;
+use escape_simd::html::escape_html_each;
 use escape_simd::simd::target::Target;
 use escape_simd::simd::util::escape_unchecked;
-use escape_simd::{format_json_inner, format_script_inner};
 use escape_stream::Mode;
 use std::process::Abort;
 use std::test::Fail;
@@ -152,115 +148,37 @@ const SCRIPT_LITERALS: [(Parts, Parts); 15] = [
     (&[(1, "&")], &[(1, "\"\\u0026\"")]),
 ];
 
-/// All kernels write the output for the text, in each way.
-fn kernels_write(
+/// All that writes in this mode writes the outputs for the texts.
+fn all_write(
     rt: &(impl Abort + AllocGlobal),
     mode: Mode,
-    text: &str,
-    output: &[u8],
+    rows: &[(Parts, Parts)],
 ) -> Result<(), Fail> {
-    for kernel in KERNELS {
-        for way in WAYS {
-            let mut target = vec![in rt.alloc(); 0xee; room(mode, text)?]?;
-            let count = format(way, kernel, mode, text, &mut target);
-            assert_eq!(rt;
-                &target[..count],
-                output,
-                "{way:?} {kernel:?} {mode:?} {text}"
-            );
-        }
-        if mode != Mode::Html {
-            let mut target = vec![in rt.alloc(); 0xee; room(mode, text)?]?;
-            let count = if mode == Mode::Json {
-                format_json_inner(kernel, text, &mut target)
-            } else {
-                format_script_inner(kernel, text, &mut target)
-            };
-            assert_eq!(rt;
-                target.get(..count),
-                output.get(1..output.len().saturating_sub(1)),
-                "{kernel:?} {mode:?} {text}"
-            );
-        }
-    }
-    Ok(())
-}
-
-/// All kernels write the inner part of the text's literal.
-fn kernels_write_inner(
-    rt: &(impl Abort + AllocGlobal),
-    mode: Mode,
-    text: &str,
-    literal: &[u8],
-) -> Result<(), Fail> {
-    for kernel in KERNELS {
-        let mut target = vec![in rt.alloc(); 0xee; room(mode, text)?]?;
-        let count = match mode {
-            Mode::Script => format_script_inner(kernel, text, &mut target),
-            _ => format_json_inner(kernel, text, &mut target),
-        };
-        let mut whole = vec![in rt.alloc(); b'"']?;
-        whole.extend_from_slice(&target[..count])?;
-        whole.push(b'"')?;
-        assert_eq!(rt; whole.as_slice(), literal, "{kernel:?} {mode:?} {text}");
+    for (text, output) in rows {
+        let text = repeated(rt.alloc(), text)?;
+        let output = repeated(rt.alloc(), output)?;
+        assert_eq!(rt;
+            differing(rt.alloc(), mode, text.as_str(), output.as_bytes())?,
+            None,
+            "{mode:?} {text}"
+        );
     }
     Ok(())
 }
 
 #[test]
 fn literals(rt: HostRuntime) -> Result<(), Fail> {
-    for (text, literal) in LITERALS {
-        let text = repeated(rt.alloc(), text)?;
-        let literal = repeated(rt.alloc(), literal)?;
-        kernels_write(&rt, Mode::Json, text.as_str(), literal.as_bytes())?;
-        kernels_write_inner(&rt, Mode::Json, text.as_str(), literal.as_bytes())?;
-        let answered = escape(rt.alloc(), text.as_str())?;
-        assert_eq!(rt; answered.as_str(), literal.as_str());
-        let answered = escape_in(rt.alloc(), text.as_str())?;
-        assert_eq!(rt; answered.as_str(), literal.as_str());
-        let mut appended = vec![in rt.alloc(); 0xff]?;
-        escape_into(text.as_str(), &mut appended)?;
-        assert_eq!(rt; &appended[..1], [0xff].as_slice());
-        assert_eq!(rt; &appended[1..], literal.as_bytes());
-    }
-    Ok(())
+    all_write(&rt, Mode::Json, &LITERALS)
 }
 
 #[test]
 fn script_literals(rt: HostRuntime) -> Result<(), Fail> {
-    for (text, literal) in SCRIPT_LITERALS {
-        let text = repeated(rt.alloc(), text)?;
-        let literal = repeated(rt.alloc(), literal)?;
-        kernels_write(&rt, Mode::Script, text.as_str(), literal.as_bytes())?;
-        kernels_write_inner(&rt, Mode::Script, text.as_str(), literal.as_bytes())?;
-        let answered = escape_script(rt.alloc(), text.as_str())?;
-        assert_eq!(rt; answered.as_str(), literal.as_str());
-        let answered = escape_script_in(rt.alloc(), text.as_str())?;
-        assert_eq!(rt; answered.as_str(), literal.as_str());
-        let mut appended = vec![in rt.alloc(); 0xff]?;
-        escape_script_into(text.as_str(), &mut appended)?;
-        assert_eq!(rt; &appended[..1], [0xff].as_slice());
-        assert_eq!(rt; &appended[1..], literal.as_bytes());
-    }
-    Ok(())
+    all_write(&rt, Mode::Script, &SCRIPT_LITERALS)
 }
 
 #[test]
 fn markup_free(rt: HostRuntime) -> Result<(), Fail> {
-    for (text, html) in MARKUP_FREE {
-        let text = repeated(rt.alloc(), text)?;
-        let html = repeated(rt.alloc(), html)?;
-        kernels_write(&rt, Mode::Html, text.as_str(), html.as_bytes())?;
-        let answered = escape_html(rt.alloc(), text.as_str())?;
-        assert_eq!(rt; answered.as_str(), html.as_str());
-        let answered = escape_html_in(rt.alloc(), text.as_str())?;
-        assert_eq!(rt; answered.as_str(), html.as_str());
-        let mut appended = vec![in rt.alloc(); 0xff]?;
-        escape_html_into(text.as_str(), &mut appended)?;
-        assert_eq!(rt; &appended[..1], [0xff].as_slice());
-        assert_eq!(rt; &appended[1..], html.as_bytes());
-    }
-    Ok(())
+    all_write(&rt, Mode::Html, &MARKUP_FREE)
 }
 
 #[test]

@@ -186,7 +186,11 @@ fn refuses_what_is_not_utf8(rt: HostRuntime) -> Result<(), Fail> {
                 let mut output = vec![in rt.alloc(); 0xff]?;
                 let result = run(rt.alloc(), mode, kernel, &mut input, &mut output);
                 assert_eq!(rt; result, Err(ToolFault::NotUtf8), "{kernel:?} {bytes:?}");
-                assert_eq!(rt; output.as_slice(), [0xff].as_slice(), "{kernel:?} {bytes:?}");
+                assert_eq!(rt;
+                    output.as_slice(),
+                    [0xff].as_slice(),
+                    "{kernel:?} {bytes:?}"
+                );
             }
         }
     }

@@ -6,7 +6,8 @@ use escape_simd::html::{
     EscapeHtmlError, escape_html, escape_html_each, escape_html_in, escape_html_into,
 };
 use escape_simd::json::{
-    EscapeError, escape, escape_in, escape_into, escape_script, escape_script_in, escape_script_into,
+    EscapeError, escape, escape_in, escape_into, escape_script, escape_script_in,
+    escape_script_into,
 };
 use escape_stream::{Mode, ToolFault, run_in};
 use std::alloc::Global;

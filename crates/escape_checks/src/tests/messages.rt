@@ -7,10 +7,7 @@ use std::test::Fail;
 #[test]
 fn messages_of_refusals(rt: HostRuntime) -> Result<(), Fail> {
     for (error, text) in [
-        (
-            EscapeError::TooLarge,
-            "input is too large to JSON-escape",
-        ),
+        (EscapeError::TooLarge, "input is too large to JSON-escape"),
         (EscapeError::OutOfMemory, "out of memory"),
     ] {
         assert_eq!(rt; error.to_string(rt.alloc())?.as_str(), text);

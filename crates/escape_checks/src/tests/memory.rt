@@ -2,12 +2,9 @@
 
 use crate::routes::KERNELS;
 use crate::tests::rationed::{Rationed, Requests};
-use escape_simd::html::{
-    EscapeHtmlError, escape_html, escape_html_each, escape_html_in, escape_html_into,
-};
+use escape_simd::html::{EscapeHtmlError, escape_html_each, escape_html_in, escape_html_into};
 use escape_simd::json::{
-    EscapeError, escape, escape_in, escape_into, escape_script, escape_script_in,
-    escape_script_into,
+    EscapeError, escape_in, escape_into, escape_script_in, escape_script_into,
 };
 use escape_stream::{Mode, ToolFault, run_in};
 use std::alloc::Global;
@@ -86,29 +83,6 @@ fn one_request(size: usize) -> Requests {
         made: 1,
         last_size: size,
     }
-}
-
-// A body that always answers `OutOfMemory` keeps every clause. Here memory is at hand.
-#[test]
-fn always_out_of_memory(rt: HostRuntime) -> Result<(), Fail> {
-    let text = "\u{1d11e}<a href='/x'>\n";
-    let literal = "\"\u{1d11e}<a href='/x'>\\n\"";
-    let html = "\u{1d11e}&lt;a href=&#x27;&#x2f;x&#x27;&gt;\n";
-    let script = "\"\u{1d11e}\\u003ca href='/x'\\u003e\\n\"";
-    assert!(rt; escape(rt.alloc(), text).is_ok_and(|output| output.as_str() == literal));
-    assert!(rt; escape_html(rt.alloc(), text).is_ok_and(|output| output.as_str() == html));
-    assert!(rt; escape_script(rt.alloc(), text).is_ok_and(|output| output.as_str() == script));
-    let mut appended = Vec::new(rt.alloc());
-    assert_eq!(rt; escape_into(text, &mut appended), Ok(()));
-    assert_eq!(rt; escape_html_into(text, &mut appended), Ok(()));
-    assert_eq!(rt; escape_script_into(text, &mut appended), Ok(()));
-    assert_eq!(rt; escape_html_each(&[text, text], &mut appended), Ok(()));
-    let mut wanted = Vec::new(rt.alloc());
-    for part in [literal, html, script, html, html] {
-        wanted.extend_from_slice(part.as_bytes())?;
-    }
-    assert!(rt; appended == wanted);
-    Ok(())
 }
 
 #[test]

@@ -1,9 +1,11 @@
-//! What no clause says of a run: that it succeeds, and which calls it makes of its writer.
+//! What no clause says: that calls and runs succeed, and which calls a run makes of its writer.
 
 use crate::plain::plain;
 use crate::routes::{KERNELS, MODES};
 use crate::tests::texts::repeated;
 use escape_simd::Kernel;
+use escape_simd::html::{escape_html, escape_html_each, escape_html_into};
+use escape_simd::json::{escape, escape_into, escape_script, escape_script_into};
 use escape_stream::{Mode, ToolFault, run};
 use std::io;
 use std::io::Write;
@@ -45,6 +47,29 @@ impl Write for Counting {
         self.flushed = self.held.len();
         Ok(())
     }
+}
+
+// A body that always answers `OutOfMemory` keeps every clause. Here memory is at hand.
+#[test]
+fn always_out_of_memory(rt: HostRuntime) -> Result<(), Fail> {
+    let text = "\u{1d11e}<a href='/x'>\n";
+    let literal = "\"\u{1d11e}<a href='/x'>\\n\"";
+    let html = "\u{1d11e}&lt;a href=&#x27;&#x2f;x&#x27;&gt;\n";
+    let script = "\"\u{1d11e}\\u003ca href='/x'\\u003e\\n\"";
+    assert!(rt; escape(rt.alloc(), text).is_ok_and(|output| output.as_str() == literal));
+    assert!(rt; escape_html(rt.alloc(), text).is_ok_and(|output| output.as_str() == html));
+    assert!(rt; escape_script(rt.alloc(), text).is_ok_and(|output| output.as_str() == script));
+    let mut appended = Vec::new(rt.alloc());
+    assert_eq!(rt; escape_into(text, &mut appended), Ok(()));
+    assert_eq!(rt; escape_html_into(text, &mut appended), Ok(()));
+    assert_eq!(rt; escape_script_into(text, &mut appended), Ok(()));
+    assert_eq!(rt; escape_html_each(&[text, text], &mut appended), Ok(()));
+    let mut wanted = Vec::new(rt.alloc());
+    for part in [literal, html, script, html, html] {
+        wanted.extend_from_slice(part.as_bytes())?;
+    }
+    assert!(rt; appended == wanted);
+    Ok(())
 }
 
 // A body that always answers `ReadFailed`, `WriteFailed` or `OutOfMemory` keeps every clause. Here each

@@ -2,9 +2,11 @@
 mod borders;
 mod differential;
 mod memory;
+mod messages;
 mod numbers;
 mod pieces;
 mod rationed;
 mod rows;
+mod runs;
 mod targets;
 mod texts;

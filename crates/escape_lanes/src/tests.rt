@@ -1,4 +1,4 @@
-ghost use Rattle.std.specs.Prelude.{◌≡◌, ℕ, ◌+◌, ◌<◌, length, slice_set};
+ghost use Rattle.std.specs.Prelude.{◌≡◌, ℕ, ◌+◌, ◌<◌, ◌≤◌, length, slice_set};
 ghost use Rattle.escape_lanes.specs.Written.{bytes_of, quotes_of, IsSameSlice};
 
 mod script;
@@ -160,6 +160,34 @@ fn target_writes(rt: HostRuntime) {
             0xee,
         ]
     );
+}
+
+// What each call that takes bytes writes to a target of one width.
+fn written_to<const N: usize>() -> [u8; 80]
+    requires several { 2 ≤ N }
+    requires few { N ≤ 64 }
+{
+    let mut bytes = [0xee; 80];
+    let mut target = Target::<N>::new(&mut bytes);
+    target.quote(0);
+    target.escape(1, &[0x26, 0x6c, 0x74, 0x3b, 0, 0, 0, 0]);
+    target.put_front(9, &[7; N], 2);
+    target.put(12, &[9; N]);
+    target.quote(79);
+    bytes
+}
+
+#[test]
+fn targets_of_each_width(rt: HostRuntime) {
+    let mut expected = [0xee; 80];
+    expected[..11].copy_from_slice(&[0x22, 0x26, 0x6c, 0x74, 0x3b, 0, 0, 0, 0, 7, 7]);
+    expected[79] = 0x22;
+    expected[12..28].copy_from_slice(&[9; 16]);
+    assert!(rt; written_to::<16>() == expected);
+    expected[12..44].copy_from_slice(&[9; 32]);
+    assert!(rt; written_to::<32>() == expected);
+    expected[12..76].copy_from_slice(&[9; 64]);
+    assert!(rt; written_to::<64>() == expected);
 }
 
 fn quote_two<const N: usize>(target: &mut Target<'_, N>)

@@ -180,12 +180,18 @@ fn refuses_what_is_not_utf8(rt: HostRuntime) -> Result<(), Fail> {
         b"a\xe2\x80",
     ];
     for mode in MODES {
-        for bytes in rows {
-            let mut input = bytes;
-            let mut output = vec![in rt.alloc(); 0xff]?;
-            let result = run(rt.alloc(), mode, Kernel::Avx2, &mut input, &mut output);
-            assert_eq!(rt; result, Err(ToolFault::NotUtf8), "{bytes:?}");
-            assert_eq!(rt; output.as_slice(), [0xff].as_slice(), "{bytes:?}");
+        for kernel in KERNELS {
+            for bytes in rows {
+                let mut input = bytes;
+                let mut output = vec![in rt.alloc(); 0xff]?;
+                let result = run(rt.alloc(), mode, kernel, &mut input, &mut output);
+                assert_eq!(rt; result, Err(ToolFault::NotUtf8), "{kernel:?} {bytes:?}");
+                assert_eq!(rt;
+                    output.as_slice(),
+                    [0xff].as_slice(),
+                    "{kernel:?} {bytes:?}"
+                );
+            }
         }
     }
     Ok(())

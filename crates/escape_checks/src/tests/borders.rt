@@ -1,4 +1,4 @@
-//! Every border: of a vector, a chunk, the tail and the target.
+//! Every border: of a vector, a chunk, the rest and the target.
 
 use crate::plain::plain;
 use crate::routes::{KERNELS, MODES, WAYS, format, lanes, room};
@@ -125,10 +125,10 @@ fn a_quote_before_the_rest(rt: HostRuntime) -> Result<(), Fail> {
     Ok(())
 }
 
-// One letter is a tail. Four kernels store a whole vector for it, padded with zeros, and the widest just
-// the letter. So a loop over bytes shows, and so does a kernel of another width.
+// One letter is the last of a text. Four kernels store a whole vector for it, with zeros, and the widest
+// just the letter. So a loop over bytes shows, and so does a kernel of another width.
 #[test]
-fn one_letter_shows_the_kernel(rt: HostRuntime) {
+fn byte_loop_behind_kernel(rt: HostRuntime) {
     for kernel in KERNELS {
         for way in WAYS {
             let mut target = [UNTOUCHED; 100];

@@ -191,12 +191,25 @@ fn texts_one_after_another(rt: HostRuntime) -> Result<(), Fail> {
     Ok(())
 }
 
-#[test]
-fn a_run_of_escapes(rt: HostRuntime) {
+// A run of two by each width, in each mode: what stands for them, and no byte six or more past it.
+fn a_run_of_two<const N: usize>(rt: &impl Abort) {
     let mut dst = [0xee; 40];
-    let mut target = Target::<16>::new(&mut dst);
-    let places = escape_unchecked::<true, 16>(b"<&a", 0, &mut target, 0);
+    let mut target = Target::<N>::new(&mut dst);
+    let places = escape_unchecked::<true, N>(b"<&a", 0, &mut target, 0);
     assert_eq!(rt; places, (2, 9));
     assert_eq!(rt; &dst[..9], b"&lt;&amp;".as_slice());
     assert_eq!(rt; &dst[15..], [0xee; 25].as_slice());
+    let mut dst = [0xee; 40];
+    let mut target = Target::<N>::new(&mut dst);
+    let places = escape_unchecked::<false, N>(b"a\n\x01", 1, &mut target, 3);
+    assert_eq!(rt; places, (3, 11));
+    assert_eq!(rt; &dst[..11], b"\xee\xee\xee\\n\\u0001".as_slice());
+    assert_eq!(rt; &dst[17..], [0xee; 23].as_slice());
+}
+
+#[test]
+fn a_run_of_escapes(rt: HostRuntime) {
+    a_run_of_two::<16>(&rt);
+    a_run_of_two::<32>(&rt);
+    a_run_of_two::<64>(&rt);
 }

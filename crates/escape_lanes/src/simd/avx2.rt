@@ -161,8 +161,6 @@ impl Simd for Simd256u {
 
     ghost few = { lit≤ tt };
 
-    ghost several = { lit≤ tt };
-
     #[inline(always)]
     fn loadu(src: &[u8]) -> Self {
         Simd256u {

@@ -152,8 +152,6 @@ impl Simd for Simd512u {
 
     ghost few = { lit≤ tt };
 
-    ghost several = { lit≤ tt };
-
     #[inline(always)]
     fn loadu(src: &[u8]) -> Self {
         Simd512u {

@@ -149,8 +149,6 @@ impl Simd for Simd128u {
 
     ghost few = { lit≤ tt };
 
-    ghost several = { lit≤ tt };
-
     #[inline(always)]
     fn loadu(src: &[u8]) -> Self {
         Simd128u {

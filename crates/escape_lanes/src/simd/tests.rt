@@ -6,10 +6,20 @@ use crate::simd::{BitMask, Flags, LaneMask, Mask, Simd, avx2, avx512, neon, sse2
 use crate::tables::{HTML_CANDIDATE_TAB, HTML_HI_NIBBLE_TAB, HTML_LO_NIBBLE_TAB};
 use crate::tests::{needs_html, needs_json, needs_script};
 
-// The bytes that HTML escapes, some that the other modes do, and others.
+// The bytes that HTML escapes, others that share a half with one of them, and the ends.
 const ROW: [u8; 16] = [
-    0x22, 0x26, 0x27, 0x2f, 0x3c, 0x3e, 0x2c, 0x2e, 0xe3, 0x5c, 0xe2, 0x3f, 0x21, 0x00, 0x80, 0xff,
+    0x22, 0x26, 0x27, 0x2f, 0x3c, 0x3e, 0x2c, 0x2e, 0x32, 0x36, 0x37, 0x3f, 0x21, 0x00, 0x80, 0xff,
 ];
+
+// Its lanes that HTML, JSON and script literals flag.
+const ROW_LANES: [u64; 3] = [0x003f, 0x2001, 0x2033];
+
+// Bytes that JSON and script literals flag, and others that share a half with one of them.
+const OTHER_ROW: [u8; 16] = [
+    0xe2, 0xe3, 0x5c, 0x3c, 0xc2, 0xf2, 0x52, 0x26, 0x3e, 0x22, 0xe1, 0x12, 0x5e, 0xa8, 0x80, 0x1f,
+];
+
+const OTHER_ROW_LANES: [u64; 3] = [0x0388, 0x8a04, 0x8b8d];
 
 fn any_of<M: Mask>(a: M, b: M, c: M) -> M::BitMask {
     let mut mask = a | b;
@@ -126,52 +136,114 @@ fn html_candidates(rt: HostRuntime) {
     }
 }
 
-#[test]
-fn classified_lanes(rt: HostRuntime) {
-    let mut src = [0; 64];
-    for k in 0..64 {
-        src[k] = ROW[k % 16];
+// The lanes that the mask sets: the lowest bit is the first.
+fn lanes_of<M: LaneMask>(mask: &M) -> u64
+    requires { M.LEN ≤ 64 }
+{
+    let mut lanes = 0;
+    for lane in 0..M::LEN {
+        if mask.is_set(lane) {
+            lanes |= 1 << lane;
+        }
     }
-    let mut ticks = Ticks::new();
-    let v = v128::Simd128u::loadu(&src);
-    assert_eq!(rt; v128::escaped_mask::<true>(&v, &mut ticks), 0x003f);
-    assert_eq!(rt; v128::escaped_mask::<false>(&v, &mut ticks), 0x2201);
-    assert_eq!(rt; v128::script_mask(&v, &mut ticks), 0x2633);
-    let v = sse2::Simd128u::loadu(&src);
-    assert_eq!(rt; sse2::escaped_mask::<true>(&v, &mut ticks), 0x003f);
-    assert_eq!(rt; sse2::escaped_mask::<false>(&v, &mut ticks), 0x2201);
-    assert_eq!(rt; sse2::script_mask(&v, &mut ticks), 0x2633);
-    let v = avx2::Simd256u::loadu(&src);
-    assert_eq!(rt; avx2::escaped_mask::<true>(&v, &mut ticks), 0x003f_003f);
-    assert_eq!(rt; avx2::escaped_mask::<false>(&v, &mut ticks), 0x2201_2201);
-    assert_eq!(rt; avx2::script_mask(&v, &mut ticks), 0x2633_2633);
-    let v = avx512::Simd512u::loadu(&src);
-    assert_eq!(rt;
-        avx512::escaped_mask::<true>(&v, &mut ticks),
-        0x003f_003f_003f_003f
-    );
-    assert_eq!(rt;
-        avx512::escaped_mask::<false>(&v, &mut ticks),
-        0x2201_2201_2201_2201
-    );
-    assert_eq!(rt; avx512::script_mask(&v, &mut ticks), 0x2633_2633_2633_2633);
+    lanes
 }
 
-// A mask of four bits a lane shows its first lane alone, so each byte of the row goes in by itself.
-#[test]
-fn classified_lanes_of_neon(rt: HostRuntime) {
-    let mut ticks = Ticks::new();
-    for k in 0..16 {
-        let mut src = [b'a'; 16];
-        src[k] = ROW[k];
-        let v = neon::Simd128u::loadu(&src);
-        let html = if needs_html(ROW[k]) { k } else { 16 };
-        let json = if needs_json(ROW[k]) { k } else { 16 };
-        let in_html = neon::escaped_mask_vec::<true>(&v, &mut ticks).bitmask();
-        let in_json = neon::escaped_mask_vec::<false>(&v, &mut ticks).bitmask();
-        assert_eq!(rt; in_html.first_offset(), html, "lane {k}");
-        assert_eq!(rt; in_json.first_offset(), json, "lane {k}");
+// The row again in each block of sixteen lanes.
+fn blocks_of(row: &[u8; 16]) -> [u8; 64] {
+    let mut src = [0; 64];
+    for k in 0..64 {
+        src[k] = row[k % 16];
     }
+    src
+}
+
+#[test]
+fn classified_lanes(rt: HostRuntime) {
+    let mut ticks = Ticks::new();
+    for (row, [html, json, script]) in [(ROW, ROW_LANES), (OTHER_ROW, OTHER_ROW_LANES)] {
+        let src = blocks_of(&row);
+        let v = v128::Simd128u::loadu(&src);
+        assert_eq!(rt; lanes_of(&v128::escaped_mask::<true>(&v, &mut ticks)), html);
+        assert_eq!(rt;
+            lanes_of(&v128::escaped_mask::<false>(&v, &mut ticks)),
+            json
+        );
+        assert_eq!(rt; lanes_of(&v128::script_mask(&v, &mut ticks)), script);
+        let v = sse2::Simd128u::loadu(&src);
+        assert_eq!(rt; lanes_of(&sse2::escaped_mask::<true>(&v, &mut ticks)), html);
+        assert_eq!(rt;
+            lanes_of(&sse2::escaped_mask::<false>(&v, &mut ticks)),
+            json
+        );
+        assert_eq!(rt; lanes_of(&sse2::script_mask(&v, &mut ticks)), script);
+        let v = neon::Simd128u::loadu(&src);
+        assert_eq!(rt; lanes_of(&neon::escaped_mask::<true>(&v, &mut ticks)), html);
+        assert_eq!(rt;
+            lanes_of(&neon::escaped_mask::<false>(&v, &mut ticks)),
+            json
+        );
+        assert_eq!(rt; lanes_of(&neon::script_mask(&v, &mut ticks)), script);
+        let of_vector = neon::escaped_mask_vec::<true>(&v, &mut ticks).bitmask();
+        assert_eq!(rt; lanes_of(&of_vector), html);
+        let of_vector = neon::escaped_mask_vec::<false>(&v, &mut ticks).bitmask();
+        assert_eq!(rt; lanes_of(&of_vector), json);
+        let twice = 0x0001_0001;
+        let v = avx2::Simd256u::loadu(&src);
+        assert_eq!(rt;
+            lanes_of(&avx2::escaped_mask::<true>(&v, &mut ticks)),
+            html.wrapping_mul(twice)
+        );
+        assert_eq!(rt;
+            lanes_of(&avx2::escaped_mask::<false>(&v, &mut ticks)),
+            json.wrapping_mul(twice)
+        );
+        assert_eq!(rt;
+            lanes_of(&avx2::script_mask(&v, &mut ticks)),
+            script.wrapping_mul(twice)
+        );
+        let four_times = 0x0001_0001_0001_0001;
+        let v = avx512::Simd512u::loadu(&src);
+        assert_eq!(rt;
+            lanes_of(&avx512::escaped_mask::<true>(&v, &mut ticks)),
+            html.wrapping_mul(four_times)
+        );
+        assert_eq!(rt;
+            lanes_of(&avx512::escaped_mask::<false>(&v, &mut ticks)),
+            json.wrapping_mul(four_times)
+        );
+        assert_eq!(rt;
+            lanes_of(&avx512::script_mask(&v, &mut ticks)),
+            script.wrapping_mul(four_times)
+        );
+    }
+}
+
+// The first lane that is set of all, and of all but the last `n`, and whether none of these is.
+fn front_of<M: BitMask>(mask: &M, n: usize) -> (usize, usize, bool)
+    requires { n ≤ M.LEN }
+{
+    let front = mask.clear_high_bits(n);
+    let first = mask.as_little_endian().first_offset();
+    (first, front.first_offset(), front.all_zero())
+}
+
+#[test]
+fn masks_that_are_cut(rt: HostRuntime) {
+    assert_eq!(rt; front_of(&0x8400_u16, 5), (10, 10, false));
+    assert_eq!(rt; front_of(&0x8400_u16, 6), (10, 16, true));
+    assert_eq!(rt; front_of(&0x8040_0000_u32, 9), (22, 22, false));
+    assert_eq!(rt; front_of(&0x8040_0000_u32, 10), (22, 32, true));
+    assert_eq!(rt; front_of(&0x8000_0000_0000_0400_u64, 53), (10, 10, false));
+    assert_eq!(rt; front_of(&0x8000_0000_0000_0400_u64, 54), (10, 64, true));
+    assert_eq!(rt;
+        front_of(&NeonBits::new(0x8000_0000_0000_0400), 13),
+        (2, 2, false)
+    );
+    assert_eq!(rt;
+        front_of(&NeonBits::new(0x8000_0000_0000_0400), 14),
+        (2, 16, true)
+    );
 }
 
 // How often the mask's lanes are set before `at`, at it, and from it on.

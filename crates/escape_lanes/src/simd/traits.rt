@@ -133,8 +133,6 @@ pub trait Simd: Sized + Drop {
     // A comparison answers a truth value for each lane.
     ghost mask_width: { Self.Mask.BitMask.LEN ≡ LANES };
 
-    // 16 lanes or more, and 64 at most.
+    // So few that an array of them fits in memory, and that two pieces of 32 copy any front.
     ghost few: { LANES ≤ 64 };
-
-    ghost several: { 16 ≤ LANES };
 }

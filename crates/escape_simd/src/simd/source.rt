@@ -3,8 +3,8 @@ ghost use Rattle.std.specs.Prelude.{◌≡◌, ℕ, ◌+◌, ◌<◌, ◌≤◌,
 
 use escape_lanes::simd::Simd;
 
-/// The bytes of a text from a place on, with zeros after them where they were copied: so vectors can
-/// be loaded that go on past the text's end.
+/// The bytes of a text from a place on, with zeros after them where they are its last ones: so vectors
+/// can be loaded that go on past the text's end.
 #[derive(Clone, Copy)]
 pub(crate) struct Source<'a> {
     pub text: &'a [u8],
@@ -29,7 +29,7 @@ impl<'a> Source<'a> {
         }
     }
 
-    /// The text's bytes from `base` on, as they were copied to `bytes`, with zeros after them.
+    /// The text's bytes from `base` on, as vectors put them into `bytes`, with zeros after them.
     #[inline(always)]
     pub(crate) fn padded(text: &'a [u8], base: usize, bytes: &'a [u8]) -> Source<'a>
         requires { (k : ℕ)

@@ -1,7 +1,7 @@
 ghost use Rattle.std.specs.Prelude.{◌≡◌, ◌≤◌};
 
 use crate::simd::target::Target;
-use crate::simd::{Simd, avx2, avx512, sse2};
+use crate::simd::{Simd, avx2, avx512, neon, sse2, v128};
 
 // Whether exactly the first `k` lanes are written, between two bytes that stay.
 fn writes_front<const N: usize, S: Simd<Element = u8>>(k: usize) -> bool
@@ -34,11 +34,13 @@ fn writes_front<const N: usize, S: Simd<Element = u8>>(k: usize) -> bool
 fn fronts_of_every_count(rt: HostRuntime) {
     for k in 0..65 {
         if k <= 16 {
-            assert!(rt; writes_front::<16, sse2::Simd128u>(k), "16 lanes: {k}");
+            assert!(rt; writes_front::<16, v128::Simd128u>(k), "v128: {k}");
+            assert!(rt; writes_front::<16, sse2::Simd128u>(k), "sse2: {k}");
+            assert!(rt; writes_front::<16, neon::Simd128u>(k), "neon: {k}");
         }
         if k <= 32 {
-            assert!(rt; writes_front::<32, avx2::Simd256u>(k), "32 lanes: {k}");
+            assert!(rt; writes_front::<32, avx2::Simd256u>(k), "avx2: {k}");
         }
-        assert!(rt; writes_front::<64, avx512::Simd512u>(k), "64 lanes: {k}");
+        assert!(rt; writes_front::<64, avx512::Simd512u>(k), "avx512: {k}");
     }
 }

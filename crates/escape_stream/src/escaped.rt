@@ -44,24 +44,26 @@ pub(crate) fn write_escaped<A: Allocator, W: Write>(
     ensures faults { IfErr result (λ fault. (fault ≡ ToolFault.TooLarge)
         ⊎ ((fault ≡ ToolFault.OutOfMemory) ⊎ (fault ≡ ToolFault.WriteFailed))) }
 {
-    check_bound(mode, text.len())?;
+    // The whole has to fit a `usize`, though it is never held.
+    capacity(mode, text.len())?;
     let mut room = zeros(alloc, 6 * PIECE.min(text.len()) + 32)?;
     write_whole(mode, kernel, text, room.as_mut_slice(), output)
 }
 
-/// Refuses a text of `len` bytes whose output may take more than `usize::MAX` bytes.
-fn check_bound(mode: Mode, len: usize) -> Result<(), ToolFault>
+/// How many bytes the output of a text of `len` bytes may take.
+fn capacity(mode: Mode, len: usize) -> Result<usize, ToolFault>
+    ensures room { IfOk result (λ room. room ≡ bound (escaping mode) len) }
     ensures too_large { IsErrOf result ToolFault.TooLarge
         ↔ (usize.MAX < bound (escaping mode) len) }
     ensures fault { IfErr result (λ fault. fault ≡ ToolFault.TooLarge) }
 {
     match mode {
         Mode::Json | Mode::Script => match json_capacity(len) {
-            Ok(_) => Ok(()),
+            Ok(room) => Ok(room),
             Err(_) => Err(ToolFault::TooLarge),
         },
         Mode::Html => match html_capacity(len) {
-            Ok(_) => Ok(()),
+            Ok(room) => Ok(room),
             Err(_) => Err(ToolFault::TooLarge),
         },
     }

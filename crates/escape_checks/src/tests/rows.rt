@@ -8,7 +8,6 @@ use escape_simd::json::{
 };
 use escape_simd::simd::target::Target;
 use escape_simd::simd::util::escape_unchecked;
-use escape_simd::{format_json_inner, format_script_inner};
 use escape_stream::Mode;
 use std::process::Abort;
 use std::test::Fail;
@@ -173,34 +172,12 @@ fn kernels_write(
     Ok(())
 }
 
-/// All kernels write the inner part of the text's literal.
-fn kernels_write_inner(
-    rt: &(impl Abort + AllocGlobal),
-    mode: Mode,
-    text: &str,
-    literal: &[u8],
-) -> Result<(), Fail> {
-    for kernel in KERNELS {
-        let mut target = vec![in rt.alloc(); 0xee; room(mode, text)?]?;
-        let count = match mode {
-            Mode::Script => format_script_inner(kernel, text, &mut target),
-            _ => format_json_inner(kernel, text, &mut target),
-        };
-        let mut whole = vec![in rt.alloc(); b'"']?;
-        whole.extend_from_slice(&target[..count])?;
-        whole.push(b'"')?;
-        assert_eq!(rt; whole.as_slice(), literal, "{kernel:?} {mode:?} {text}");
-    }
-    Ok(())
-}
-
 #[test]
 fn literals(rt: HostRuntime) -> Result<(), Fail> {
     for (text, literal) in LITERALS {
         let text = repeated(rt.alloc(), text)?;
         let literal = repeated(rt.alloc(), literal)?;
         kernels_write(&rt, Mode::Json, text.as_str(), literal.as_bytes())?;
-        kernels_write_inner(&rt, Mode::Json, text.as_str(), literal.as_bytes())?;
         let answered = escape(rt.alloc(), text.as_str())?;
         assert_eq!(rt; answered.as_str(), literal.as_str());
         let answered = escape_in(rt.alloc(), text.as_str())?;
@@ -219,7 +196,6 @@ fn script_literals(rt: HostRuntime) -> Result<(), Fail> {
         let text = repeated(rt.alloc(), text)?;
         let literal = repeated(rt.alloc(), literal)?;
         kernels_write(&rt, Mode::Script, text.as_str(), literal.as_bytes())?;
-        kernels_write_inner(&rt, Mode::Script, text.as_str(), literal.as_bytes())?;
         let answered = escape_script(rt.alloc(), text.as_str())?;
         assert_eq!(rt; answered.as_str(), literal.as_str());
         let answered = escape_script_in(rt.alloc(), text.as_str())?;

@@ -30,10 +30,10 @@ fn main(rt: HostRuntime) -> Result<(), Fail> {
     let mut words = env::args(&rt)?;
     let _program = words.next();
     let word = words.next();
-    if matches!(&word, Some(word) if word.as_str() == "calls") {
+    if is_word(&word, "calls") {
         return each_call(&rt);
     }
-    let measures = matches!(word, Some(word) if word.as_str() == "measure");
+    let measures = is_word(&word, "measure");
     if measures {
         println!(rt; "mode corpus      bytes   GB/s    {COLUMNS}")?;
     }
@@ -45,6 +45,10 @@ fn main(rt: HostRuntime) -> Result<(), Fail> {
         println!(rt; "usage: escape_bench measure|calls")?;
     }
     Ok(())
+}
+
+fn is_word(word: &Option<String>, name: &str) -> bool {
+    matches!(word, Some(word) if word.as_str() == name)
 }
 
 fn longest_of(measures: bool) -> usize

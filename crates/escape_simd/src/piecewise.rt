@@ -10,11 +10,11 @@ use crate::simd::avx2::Simd256u;
 use crate::simd::escape_at;
 
 /// How many bytes of a text are escaped at a time.
-const PIECE: usize = 336;
+const PIECE: usize = 256;
 
 /// How many bytes the array has that a piece is escaped in: six for each byte of it, two quotation
 /// marks, and a vector.
-pub(crate) const ROOM: usize = 2050;
+pub(crate) const ROOM: usize = 1570;
 
 /// A text, and how far the output for it was made.
 #[derive(Drop)]

@@ -18,7 +18,7 @@ use std::test::Fail;
 
 /// Pieces of an output are cut at some hundreds of bytes: a text that ends near each cut, with a
 /// character of three bytes across it.
-const LENGTHS: [usize; 9] = [0, 1, 110, 111, 112, 113, 335, 336, 1009];
+const LENGTHS: [usize; 9] = [0, 1, 84, 85, 86, 87, 255, 256, 1009];
 
 fn into_string(mode: Mode, text: &str, dst: &mut String) -> bool {
     match mode {

@@ -5,7 +5,7 @@ use std::fmt;
 
 /// A text as HTML for `write!`, `print!` and `format!`.
 ///
-/// `{}` writes what [`escape_html`](crate::html::escape_html) answers, through an array of two KiB: no
+/// `{}` writes what [`escape_html`](crate::html::escape_html) answers, through an array of 1.5 KiB: no
 /// memory is asked for, and no text is too large. Width and fill are not applied.
 ///
 /// ```text

@@ -5,7 +5,7 @@ use std::fmt;
 
 /// The JSON string literal of a text for `write!`, `print!` and `format!`, quotation marks included.
 ///
-/// `{}` writes what [`escape`](crate::json::escape) answers, through an array of two KiB: no memory is
+/// `{}` writes what [`escape`](crate::json::escape) answers, through an array of 1.5 KiB: no memory is
 /// asked for, and no text is too large. Width and fill are not applied.
 ///
 /// ```text

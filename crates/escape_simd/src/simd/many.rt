@@ -13,8 +13,10 @@ use escape_lanes::simd::target::{Target, Ticks};
 
 /// Escapes the bytes to the target from `to` on, and answers the place reached.
 ///
+/// One function for all that calls it: the compiler gives up its inlining in what would be too large.
+///
 /// `CHUNK` is 4 where four vectors are classified at once, and 1 where none are.
-#[inline(always)]
+#[inline(never)]
 pub(crate) fn escape_many<
     V: Vector<N>,
     const MODE: u8,

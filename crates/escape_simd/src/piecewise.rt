@@ -5,9 +5,8 @@ ghost use Rattle.escape_simd.specs.Modes.{mode_numbered};
 ghost use Rattle.escape_simd.specs.Output.{plain, inner};
 ghost use Rattle.escape_simd.specs.ToWrite.{quote_if, to_write, pieces_left};
 
-use crate::simd::HTML_MODE;
 use crate::simd::avx2::Simd256u;
-use crate::simd::escape_at;
+use crate::simd::{HTML_MODE, escape_at};
 
 /// How many bytes of a text are escaped at a time.
 const PIECE: usize = 256;

@@ -382,7 +382,10 @@ fn a_write_that_fails_in_a_later_piece(rt: HostRuntime) -> Result<(), Fail> {
             &mut output,
         );
         assert_eq!(rt; result, FAILED, "{room}");
-        assert!(rt; Some(output.held.as_slice()) == letters.get(..room), "{room}");
+        assert!(rt;
+            Some(output.held.as_slice()) == letters.get(..room),
+            "{room}"
+        );
     }
     Ok(())
 }

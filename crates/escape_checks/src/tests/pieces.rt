@@ -40,7 +40,11 @@ fn calls_are_right(
         }
     };
     assert_eq!(rt; appended.first(), Some(&0xff));
-    assert!(rt; appended.get(1..) == Some(wanted), "{mode:?} {}", text.len());
+    assert!(rt;
+        appended.get(1..) == Some(wanted),
+        "{mode:?} {}",
+        text.len()
+    );
     assert!(rt; answered.as_bytes() == wanted, "{mode:?} {}", text.len());
     if mode == Mode::Html {
         let mut appended = vec![in rt.alloc(); 0xff]?;

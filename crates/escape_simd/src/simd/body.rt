@@ -172,13 +172,10 @@ fn quoted_string<
 
 /// As [`format_in_mode`], in a function of its own, so that a short text waits for no loop's frame.
 #[inline(never)]
-fn format_many<
-    V: Vector<N>,
-    const MODE: u8,
-    const N: usize,
-    const CHUNK: usize,
-    const EXACT: bool,
->(value: &str, dst: &mut [u8]) -> usize
+fn format_many<V: Vector<N>, const MODE: u8, const N: usize, const CHUNK: usize, const EXACT: bool>(
+    value: &str,
+    dst: &mut [u8],
+) -> usize
     requires narrow { EXACT ≡ false → N ≤ 32 }
     requires room { bound (mode_numbered MODE) (length value.now) ≤ length dst.old }
     ensures written { IsWritten N (mode_numbered MODE) value.now dst.old dst.new result }

@@ -10,8 +10,8 @@ ghost use Rattle.escape_simd.specs.Stretch.{Stretch, Paid, room_from};
 use crate::simd::classify::{Vector, store};
 use crate::simd::flagged::{four_with_runs, vector_with_runs};
 use crate::simd::source::Source;
-use escape_lanes::simd::target::{Target, Ticks};
 use escape_lanes::simd::Flags;
+use escape_lanes::simd::target::{Target, Ticks};
 
 /// Stores a vector of clean bytes.
 #[inline(always)]

@@ -13,7 +13,12 @@ use escape_lanes::simd::target::{Target, Ticks};
 
 /// Escapes the bytes to the target from `to` on, and answers the place reached.
 #[inline(always)]
-pub(crate) fn escape_few<V: Vector<N>, const MODE: u8, const N: usize, const EXACT: bool>(src: &[u8], target: &mut Target<'_, N>, to: usize, ticks: &mut Ticks) -> usize
+pub(crate) fn escape_few<V: Vector<N>, const MODE: u8, const N: usize, const EXACT: bool>(
+    src: &[u8],
+    target: &mut Target<'_, N>,
+    to: usize,
+    ticks: &mut Ticks,
+) -> usize
     requires few { length src.now < 3 * N }
     requires narrow { EXACT ≡ false → N ≤ 32 }
     requires room { to + room_from (mode_numbered MODE) src.now 0 ≤ length (bytes_of target.old) }

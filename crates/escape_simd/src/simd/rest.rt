@@ -41,10 +41,7 @@ fn last_vector<V: Vector<N>, const MODE: u8, const N: usize, const EXACT: bool>(
         let mut held = [[0u8; N]; 3];
         v.put(&mut held[0]);
         let source = Source::padded(src, at, held.as_flattened());
-        return vector_apart::<V, MODE, N, EXACT>(
-            &source, at, left, at, target, to, mask, ticks,
-        )
-        .1;
+        return vector_apart::<V, MODE, N, EXACT>(&source, at, left, at, target, to, mask, ticks).1;
     }
     store::<V, N>(&v, src, at, left, EXACT, target, to);
     to + left

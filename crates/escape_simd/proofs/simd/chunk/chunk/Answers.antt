@@ -17,16 +17,19 @@ four_with_runs-requires g c =
         omega (arith, r.inside),
         (
           held-cut mode src (lanes c.load-v1.result) at n n at (width c.load-v1.result) (omega arith) (omega (arith, r.inside)) (c.load-v1.ensures n (omega arith) (omega (arith, r.inside))) (bits c.bitmask.result)
-          (c.bitmask.ensures ∙ c.flags-flags1.ensures.lanes ∙ clear_none (map (needs_escape mode) (lanes c.load-v1.result)) n),
+              (c.bitmask.ensures ∙ c.flags-flags1.ensures.lanes ∙ clear_none (map (needs_escape mode) (lanes c.load-v1.result)) n),
           (
-          held-cut mode src (lanes c.load-v2.result) (at + n) n n (at + n) (width c.load-v2.result) (omega arith) (omega (arith, r.inside)) (c.load-v2.ensures n (omega arith) (omega (arith, r.inside))) (bits c.bitmask-then-not-none.result)
-          (c.bitmask-then-not-none.ensures ∙ c.flags-flags2.ensures.lanes ∙ clear_none (map (needs_escape mode) (lanes c.load-v2.result)) n),
-          (
-          held-cut mode src (lanes c.load-v3.result) (at + 2 * n) n n (at + 2 * n) (width c.load-v3.result) (omega arith) (omega (arith, r.inside)) (c.load-v3.ensures n (omega arith) (omega (arith, r.inside))) (bits c.bitmask-then-not-none-2.result)
-          (c.bitmask-then-not-none-2.ensures ∙ c.flags-flags3.ensures.lanes ∙ clear_none (map (needs_escape mode) (lanes c.load-v3.result)) n),
-          (held-cut mode src (lanes c.load-v4.result) (at + 3 * n) n n (at + 3 * n) (width c.load-v4.result) (omega arith) (omega (arith, r.inside)) (c.load-v4.ensures n (omega arith) (omega (arith, r.inside))) (bits c.bitmask-then-not-none-3.result)
-          (c.bitmask-then-not-none-3.ensures ∙ c.flags-flags4.ensures.lanes ∙ clear_none (map (needs_escape mode) (lanes c.load-v4.result)) n), r.room),
-          ),
+            held-cut mode src (lanes c.load-v2.result) (at + n) n n (at + n) (width c.load-v2.result) (omega arith) (omega (arith, r.inside)) (c.load-v2.ensures n (omega arith) (omega (arith, r.inside))) (bits c.bitmask-then-not-none.result)
+                (c.bitmask-then-not-none.ensures ∙ c.flags-flags2.ensures.lanes ∙ clear_none (map (needs_escape mode) (lanes c.load-v2.result)) n),
+            (
+              held-cut mode src (lanes c.load-v3.result) (at + 2 * n) n n (at + 2 * n) (width c.load-v3.result) (omega arith) (omega (arith, r.inside)) (c.load-v3.ensures n (omega arith) (omega (arith, r.inside))) (bits c.bitmask-then-not-none-2.result)
+                  (c.bitmask-then-not-none-2.ensures ∙ c.flags-flags3.ensures.lanes ∙ clear_none (map (needs_escape mode) (lanes c.load-v3.result)) n),
+              (
+                held-cut mode src (lanes c.load-v4.result) (at + 3 * n) n n (at + 3 * n) (width c.load-v4.result) (omega arith) (omega (arith, r.inside)) (c.load-v4.ensures n (omega arith) (omega (arith, r.inside))) (bits c.bitmask-then-not-none-3.result)
+                    (c.bitmask-then-not-none-3.ensures ∙ c.flags-flags4.ensures.lanes ∙ clear_none (map (needs_escape mode) (lanes c.load-v4.result)) n),
+                r.room,
+              ),
+            ),
           ),
         ),
       ),

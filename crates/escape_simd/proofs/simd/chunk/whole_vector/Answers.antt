@@ -16,7 +16,7 @@ vector_with_runs-requires g c =
         omega (arith, r.inside),
         (
           held-cut mode src lanes c.args.at n n c.args.at (g.met.V.Vector.width c.load-v.result) (omega arith) (omega (arith, r.inside)) (c.load-v.ensures n (omega arith) (omega (arith, r.inside))) bits
-          (c.bitmask-mask.ensures ∙ c.flags-flags.ensures.lanes ∙ clear_none (map (needs_escape mode) lanes) n),
+              (c.bitmask-mask.ensures ∙ c.flags-flags.ensures.lanes ∙ clear_none (map (needs_escape mode) lanes) n),
           r.room,
         ),
       ),

@@ -61,10 +61,10 @@ returns-clause-stored g c =
     let before : stored_of c.if-src.target + runs c.if-src.at ≤ stored_of c.args.target.now + runs 0 + c.if-src.at / n =
     elim c.if-src.branch [
       | then-src w ↦
-        let next : ℕ = w.whole_vector-next.result.0 in
-        let p = subst (λ xs. Paid n mode xs 0 next (stored_of c.args.target.now) (stored_of w.whole_vector-next.new.target) c.args.ticks.now w.whole_vector-next.new.ticks) w.whole-source.ensures.text w.whole_vector-next.ensures.paid in
-        let e : next - 0 ≡ c.if-src.at = omega (arith, w.at-is) in
-        omega (arith, p.stored, ap stored_of w.target-is, ap runs w.at-is, ap (λ k. k / n) e)
+          let next : ℕ = w.whole_vector-next.result.0 in
+          let p = subst (λ xs. Paid n mode xs 0 next (stored_of c.args.target.now) (stored_of w.whole_vector-next.new.target) c.args.ticks.now w.whole_vector-next.new.ticks) w.whole-source.ensures.text w.whole_vector-next.ensures.paid in
+          let e : next - 0 ≡ c.if-src.at = omega (arith, w.at-is) in
+          omega (arith, p.stored, ap stored_of w.target-is, ap runs w.at-is, ap (λ k. k / n) e)
       | else-src w ↦ omega (arith, ap stored_of w.target-is, ap runs w.at-is)
     ] in
     let v = whole-vectors n (omega (arith, several)) c.if-src.at (length src - c.if-src.at) in

@@ -29,8 +29,8 @@ last_two-requires g c =
             c.requires.narrow,
             (
               held-cut mode src lanes c.args.at n n c.args.at (g.met.V.Vector.width c.load-v.result) (omega arith) (omega (arith, c.if-src-at.true, c.requires.inside))
-              (c.load-v.ensures n (omega arith) (omega (arith, t, c.if-src-at.true, c.requires.inside)) ∙ ap (λ xs. take n (drop c.args.at xs)) w.text) (g.V.Flags.BitMask.BitMask.bits c.bitmask.result)
-              (c.bitmask.ensures ∙ c.flags-flags.ensures.lanes ∙ clear_none (map (needs_escape mode) lanes) n),
+                  (c.load-v.ensures n (omega arith) (omega (arith, t, c.if-src-at.true, c.requires.inside)) ∙ ap (λ xs. take n (drop c.args.at xs)) w.text) (g.V.Flags.BitMask.BitMask.bits c.bitmask.result)
+                  (c.bitmask.ensures ∙ c.flags-flags.ensures.lanes ∙ clear_none (map (needs_escape mode) lanes) n),
               c.requires.room,
             ),
           ),

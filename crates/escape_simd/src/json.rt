@@ -4,6 +4,7 @@ ghost use Rattle.escape_lanes.specs.Mode.{json, script};
 ghost use Rattle.escape_simd.specs.Output.{plain, bound};
 ghost use Rattle.escape_simd.specs.Escaping.{IsEscaping};
 ghost use Rattle.escape_simd.specs.Laws.{appended};
+ghost use Rattle.escape_simd.specs.Script.{IsSafeInScript};
 
 mod display;
 mod error;
@@ -139,6 +140,7 @@ pub fn escape_into<A: Allocator>(value: &str, dst: &mut Vec<u8, A>) -> Result<()
 /// ```
 pub fn escape_script(alloc: Global, value: &str) -> Result<String, EscapeError>
     ensures output { IfOk result (λ output. IsEscaping script value.now (string_bytes output)) }
+    ensures safe { IfOk result (λ output. IsSafeInScript (string_bytes output)) }
     ensures too_large { (result ≡ Err EscapeError.TooLarge)
         ↔ (usize.MAX < bound script (length value.now)) }
 {
@@ -157,6 +159,7 @@ pub fn escape_script(alloc: Global, value: &str) -> Result<String, EscapeError>
 /// ```
 pub fn escape_script_in<A: Allocator>(alloc: A, value: &str) -> Result<String<A>, EscapeError>
     ensures output { IfOk result (λ output. IsEscaping script value.now (string_bytes output)) }
+    ensures safe { IfOk result (λ output. IsSafeInScript (string_bytes output)) }
     ensures too_large { (result ≡ Err EscapeError.TooLarge)
         ↔ (usize.MAX < bound script (length value.now)) }
 {
@@ -186,6 +189,7 @@ pub fn escape_script_into<A: Allocator>(
     ensures exact { OnOk result (dst.new.items ≡ dst.old.items ++ plain script value.now) }
     ensures output { OnOk result (IsEscaping script value.now
         (appended dst.old.items dst.new.items)) }
+    ensures safe { OnOk result (IsSafeInScript (appended dst.old.items dst.new.items)) }
     ensures unchanged { OnErr result (dst.new.items ≡ dst.old.items) }
     ensures too_large { (result ≡ Err EscapeError.TooLarge)
         ↔ (usize.MAX < bound script (length value.now)) }

@@ -4,3 +4,6 @@ use Rattle.escape_simd.proofs.json.escape_script_into.Goals as goal
 
 pub returns-clause-output : goal.returns-clause-output
 returns-clause-output g c = IsEscaping-appended script _ _ _ c.in_ok-append.ensures.exact c.utf8.value
+
+pub returns-clause-safe : goal.returns-clause-safe
+returns-clause-safe g c = (IsEscaping-appended script _ _ _ c.in_ok-append.ensures.exact c.utf8.value).harmless.safe

@@ -261,25 +261,23 @@ fn a_long_text_asks_once_for_the_bound(rt: HostRuntime) -> Result<(), Fail> {
 #[test]
 fn a_long_run_asks_at_last_for_a_piece(rt: HostRuntime) -> Result<(), Fail> {
     let text = repeated(rt.alloc(), &[(2 * escape_stream::PIECE, "<")])?;
-    let mut granted = 0;
-    let mut refused = true;
-    while refused && granted < 20 {
+    let mut needed = 0;
+    for granted in 0..20 {
         let heap = Rationed::new(rt.alloc());
         heap.ration(granted);
         let mut input = text.as_bytes();
         let mut output = vec![in rt.alloc(); 0xff]?;
         let result = run_in(&heap, Mode::Html, KERNELS[3], &mut input, &mut output);
         if result == Ok(()) {
-            refused = false;
             assert_eq!(rt; output.len(), 1 + 8 * escape_stream::PIECE);
             assert_eq!(rt; heap.requests().made, granted);
             assert_eq!(rt; heap.requests().last_size, 6 * escape_stream::PIECE + 32);
-        } else {
-            assert_eq!(rt; result, Err(ToolFault::OutOfMemory), "{granted}");
-            assert_eq!(rt; output.as_slice(), [0xff].as_slice(), "{granted}");
+            needed = granted;
+            break;
         }
-        granted += 1;
+        assert_eq!(rt; result, Err(ToolFault::OutOfMemory), "{granted}");
+        assert_eq!(rt; output.as_slice(), [0xff].as_slice(), "{granted}");
     }
-    assert!(rt; !refused && 2 < granted);
+    assert!(rt; 2 <= needed);
     Ok(())
 }

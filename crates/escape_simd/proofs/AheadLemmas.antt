@@ -13,7 +13,7 @@ use Rattle.escape_simd.specs.Ahead.{IsCleanBetween}
 use Rattle.escape_simd.specs.Output.{inner, passed, first_replacement, begins_separator, script_inner_after}
 use Rattle.escape_simd.specs.Stretch.{rest_length}
 use Rattle.escape_simd.proofs.Lanes.{first_set-before, none_set-at}
-use Rattle.escape_simd.proofs.ReplacementLemmas.{replacement-clean, length-replacement}
+use Rattle.escape_simd.proofs.ReplacementLemmas.{replacement-clean, length-replacement, inner-nil}
 use Rattle.escape_simd.proofs.Stretches.{rest-is}
 use Rattle.escape_simd.proofs.Texts.{inner-clean, length-separator, no_separator}
 
@@ -130,6 +130,41 @@ module _ (f : ℕ → Bool) (src : List ℕ) (at : ℕ) where
     where
       add-zero : (k : ℕ) → k + 0 ≡ k
       add-zero k = omega arith
+
+-- bytes that need no escape stand for themselves
+standing : (mode : Mode) (bs : List ℕ) → ((k : ℕ) → k < length bs → needs_escape mode (get_or bs k 0) ≡ false) → inner mode bs ≡ bs
+standing mode bs clean = ap (inner mode) (sym (append-nil bs)) ∙ inner-clean mode [] bs clean ∙ ap (λ xs. bs ++ xs) (inner-nil mode) ∙ append-nil bs
+
+-- where none is counted, none needs an escape
+none-counted : (f : ℕ → Bool) (xs : List ℕ) → count_by f xs ≡ 0 → (k : ℕ) → k < length xs → f (get_or xs k 0) ≡ false
+none-counted f [] none k h = absurd (omega (arith, h))
+none-counted f (x ∷ xs) none zero h =
+    let one : f x ≡ true → cond (f x) 1 0 ≡ 1 = λ is. ap {B = ℕ} (λ (b : Bool). cond b 1 0) is in
+    elim (cases_Bool (f x)) [
+      | inl is ↦ let s = count-step f x xs in let o = one is in absurd (omega (arith, s, o, none))
+      | inr clear ↦ clear
+    ]
+none-counted f (x ∷ xs) none (suc k) h = let s = count-step f x xs in none-counted f xs (omega (arith, s, none)) k (omega (arith, h))
+
+pub uncounted : (mode : Mode) (bs : List ℕ) → count_by (needs_escape mode) bs ≡ 0 → inner mode bs ≡ bs
+uncounted mode bs none = standing mode bs (none-counted (needs_escape mode) bs none)
+
+-- a mask of all the bytes
+module _ (src : List ℕ) (f : ℕ → Bool) (n : ℕ) (bits : List Bool) (is : bits ≡ map f (drop (length src - length src) src) ++ replicate n false) where
+  -- counts them
+  pub count-all : count_by f src ≡ count_by (λ b. b) bits
+  count-all =
+      let e : length src ≡ length src - 0 = omega arith in
+      let c = count-last f src 0 n bits (omega arith) (is ∙ ap (λ k. map f (drop (length src - k) src) ++ replicate n false) e) in
+      omega (arith, c)
+
+-- and where no lane of it is set, they stand for themselves
+pub unmasked : (mode : Mode) (src : List ℕ) (n : ℕ) (bits : List Bool) → bits ≡ map (needs_escape mode) (drop (length src - length src) src) ++ replicate n false → none_set bits ≡ true → inner mode src ≡ src
+unmasked mode src n bits is none =
+    let e : length src - length src ≡ 0 = omega arith in
+    let all = is ∙ ap (λ xs. map (needs_escape mode) xs ++ replicate n false) (ap (λ k. drop k src) e ∙ sym (take_all (length src) src (omega arith))) in
+    let clean = clean-none mode src 0 (length src) bits (replicate n false) (omega arith) all none in
+    standing mode src (λ k h. clean k (omega arith) (omega (arith, h)))
 
 -- what stands for a byte is five bytes longer at most, and no longer where it needs no escape
 replacement-most : (mode : Mode) (b : ℕ) → length (replacement mode b) ≤ 1 + 5 * cond (needs_escape mode b) 1 0

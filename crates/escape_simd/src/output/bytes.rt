@@ -3,11 +3,14 @@
 //! The bytes before the first that needs an escape are appended as they are. What comes after them is
 //! escaped in place: so the vector is filled with zeros first, but only with as many as the output may
 //! take, which counting tells.
-ghost use Rattle.std.specs.Prelude.{◌≡◌, ◌+◌, ◌*◌, ◌≤◌, ◌++◌, false, length, take, vec_len, vec_capacity};
+ghost use Rattle.std.specs.Prelude.{◌≡◌, ◌+◌, ◌*◌, ◌<◌, ◌≤◌, ◌++◌, false, length, take, vec_len, vec_capacity};
+ghost use Rattle.std.specs.List.{count_by};
+ghost use Rattle.escape_lanes.specs.Replacement.{needs_escape};
 ghost use Rattle.escape_simd.specs.Modes.{mode_numbered};
 ghost use Rattle.escape_simd.specs.Output.{inner};
 
-use crate::simd::{Vector, clean_front, count_flagged, escape_at};
+use crate::simd::{Vector, clean_front, count_flagged, escape_at, escape_few_at, load_masked};
+use escape_lanes::simd::{BitMask, LaneMask};
 use std::alloc::Allocator;
 
 /// How many bytes of a text the calls that append escape at a time, at most.
@@ -78,6 +81,102 @@ fn append_pieces<
     dst.truncate(end);
 }
 
+/// Appends the first `count` lanes of the vector.
+#[inline(always)]
+fn push_front<V: Vector<N>, A: Allocator, const N: usize>(dst: &mut Vec<u8, A>, v: &V, count: usize)
+    requires few { count ≤ N }
+    requires room { vec_len dst.old + N ≤ vec_capacity dst.old }
+    ensures items { dst.new.items ≡ dst.old.items ++ take count (V.lanes v.now) }
+    ensures capacity { vec_capacity dst.old ≤ vec_capacity dst.new }
+{
+    let end = dst.len() + count;
+    let mut lanes = [0u8; N];
+    v.put(&mut lanes);
+    push_all(dst, &lanes);
+    dst.truncate(end);
+}
+
+/// Appends what stands for the bytes of a text shorter than three vectors, of which `count` need an
+/// escape.
+#[inline(never)]
+fn append_flagged<V: Vector<N>, A: Allocator, const MODE: u8, const N: usize, const EXACT: bool>(
+    bytes: &[u8],
+    count: usize,
+    dst: &mut Vec<u8, A>,
+)
+    requires few { length bytes.now < 3 * N }
+    requires counted { count ≡ count_by (needs_escape (mode_numbered MODE)) bytes.now }
+    requires narrow { N ≤ 32 }
+    requires room { vec_len dst.old + 6 * length bytes.now + 32 ≤ vec_capacity dst.old }
+    ensures items { dst.new.items ≡ dst.old.items ++ inner (mode_numbered MODE) bytes.now }
+    ensures room { vec_len dst.new + 32 ≤ vec_capacity dst.new }
+{
+    let old = dst.len();
+    // A byte is written by six bytes at most.
+    fill(dst, old + bytes.len() + 5 * count + 32);
+    let end = escape_few_at::<V, MODE, N, EXACT>(bytes, dst, old);
+    dst.truncate(end);
+}
+
+/// Appends what stands for the bytes of a text shorter than three vectors.
+#[inline(always)]
+fn append_few<V: Vector<N>, A: Allocator, const MODE: u8, const N: usize, const EXACT: bool>(
+    bytes: &[u8],
+    dst: &mut Vec<u8, A>,
+)
+    requires few { length bytes.now < 3 * N }
+    requires narrow { N ≤ 32 }
+    requires room { vec_len dst.old + 6 * length bytes.now + 32 ≤ vec_capacity dst.old }
+    ensures items { dst.new.items ≡ dst.old.items ++ inner (mode_numbered MODE) bytes.now }
+    ensures room { vec_len dst.new + 32 ≤ vec_capacity dst.new }
+{
+    let count = count_flagged::<V, MODE, N>(bytes);
+    if count != 0 {
+        return append_flagged::<V, A, MODE, N, EXACT>(bytes, count, dst);
+    }
+    push_all(dst, bytes);
+}
+
+/// Appends what stands for the bytes of a text shorter than a vector: with no call where none needs an
+/// escape.
+#[inline(always)]
+fn append_last<V: Vector<N>, A: Allocator, const MODE: u8, const N: usize, const EXACT: bool>(
+    bytes: &[u8],
+    dst: &mut Vec<u8, A>,
+)
+    requires few { length bytes.now < N }
+    requires narrow { N ≤ 32 }
+    requires room { vec_len dst.old + 6 * length bytes.now + 32 ≤ vec_capacity dst.old }
+    ensures items { dst.new.items ≡ dst.old.items ++ inner (mode_numbered MODE) bytes.now }
+    ensures room { vec_len dst.new + 32 ≤ vec_capacity dst.new }
+{
+    let (v, mask) = load_masked::<V, MODE, N>(bytes, bytes.len());
+    if !mask.all_zero() {
+        return append_flagged::<V, A, MODE, N, EXACT>(bytes, mask.count_set(), dst);
+    }
+    push_front::<V, A, N>(dst, &v, bytes.len());
+}
+
+/// Appends what stands for the bytes of a text of any length.
+fn append_many<
+    V: Vector<N>,
+    A: Allocator,
+    const MODE: u8,
+    const N: usize,
+    const CHUNK: usize,
+    const EXACT: bool,
+>(value: &str, dst: &mut Vec<u8, A>)
+    requires narrow { N ≤ 32 }
+    requires room { vec_len dst.old + 6 * length value.now + 32 ≤ vec_capacity dst.old }
+    ensures items { dst.new.items ≡ dst.old.items ++ inner (mode_numbered MODE) value.now }
+    ensures room { vec_len dst.new + 32 ≤ vec_capacity dst.new }
+{
+    let front = clean_front::<V, MODE, N>(value.as_bytes());
+    let (clean, rest) = value.split_at(value.floor_char_boundary(front));
+    push_all(dst, clean.as_bytes());
+    append_pieces::<V, A, MODE, N, CHUNK, EXACT>(rest, dst);
+}
+
 /// Appends what stands for the text's bytes.
 pub(crate) fn append_bytes<
     V: Vector<N>,
@@ -87,13 +186,17 @@ pub(crate) fn append_bytes<
     const CHUNK: usize,
     const EXACT: bool,
 >(value: &str, dst: &mut Vec<u8, A>)
-    requires narrow { EXACT ≡ false → N ≤ 32 }
+    requires narrow { N ≤ 32 }
     requires room { vec_len dst.old + 6 * length value.now + 32 ≤ vec_capacity dst.old }
     ensures items { dst.new.items ≡ dst.old.items ++ inner (mode_numbered MODE) value.now }
     ensures room { vec_len dst.new + 32 ≤ vec_capacity dst.new }
 {
-    let front = clean_front::<V, MODE, N>(value.as_bytes());
-    let (clean, rest) = value.split_at(value.floor_char_boundary(front));
-    push_all(dst, clean.as_bytes());
-    append_pieces::<V, A, MODE, N, CHUNK, EXACT>(rest, dst);
+    let bytes = value.as_bytes();
+    if bytes.len() < N {
+        return append_last::<V, A, MODE, N, EXACT>(bytes, dst);
+    }
+    if bytes.len() < 3 * N {
+        return append_few::<V, A, MODE, N, EXACT>(bytes, dst);
+    }
+    append_many::<V, A, MODE, N, CHUNK, EXACT>(value, dst);
 }

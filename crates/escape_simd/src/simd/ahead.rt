@@ -21,22 +21,22 @@ fn flags_at<V: Vector<N>, const MODE: u8, const N: usize>(src: &[u8], at: usize)
     V::load(&Source::whole(src), at).flags(MODE, &mut Ticks::new())
 }
 
-/// Which of the text's last `left` bytes need an escape, fewer than a vector has.
+/// The text's last `left` bytes, fewer than a vector has, and which of them need an escape.
 #[inline(always)]
-fn last_mask<V: Vector<N>, const MODE: u8, const N: usize>(
+pub(crate) fn load_masked<V: Vector<N>, const MODE: u8, const N: usize>(
     src: &[u8],
     left: usize,
-) -> <V::Flags as Flags>::BitMask
+) -> (V, <V::Flags as Flags>::BitMask)
     requires few { left < N }
     requires inside { left ≤ length src.now }
-    ensures { V.Flags.BitMask.bits result
+    ensures loaded { take left (V.lanes result.0) ≡ drop (length src.now - left) src.now }
+    ensures masked { V.Flags.BitMask.bits result.1
         ≡ map (needs_escape (mode_numbered MODE)) (drop (length src.now - left) src.now)
         ++ replicate (N - left) false }
 {
-    V::load_last(src, left)
-        .flags(MODE, &mut Ticks::new())
-        .bitmask()
-        .clear_high_bits(N - left)
+    let v = V::load_last(src, left);
+    let mask = v.flags(MODE, &mut Ticks::new()).bitmask();
+    (v, mask.clear_high_bits(N - left))
 }
 
 /// Whether no byte of four vectors of the text from `at` on needs an escape. They are asked at once.
@@ -86,7 +86,7 @@ pub(crate) fn clean_front<V: Vector<N>, const MODE: u8, const N: usize>(src: &[u
     if left == 0 {
         return at;
     }
-    at + left.min(last_mask::<V, MODE, N>(src, left).first_offset())
+    at + left.min(load_masked::<V, MODE, N>(src, left).1.first_offset())
 }
 
 /// How many bytes of the text need an escape.
@@ -101,5 +101,5 @@ pub(crate) fn count_flagged<V: Vector<N>, const MODE: u8, const N: usize>(src: &
         at += N;
     }
     let left = src.len() - at;
-    count + last_mask::<V, MODE, N>(src, left).count_set()
+    count + load_masked::<V, MODE, N>(src, left).1.count_set()
 }

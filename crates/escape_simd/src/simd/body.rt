@@ -62,6 +62,24 @@ pub(crate) fn escape_at<
     escape_many::<V, MODE, N, CHUNK, EXACT>(src, &mut target, to, &mut ticks)
 }
 
+/// As [`escape_at`], for fewer bytes than three vectors have.
+#[inline(always)]
+pub(crate) fn escape_few_at<V: Vector<N>, const MODE: u8, const N: usize, const EXACT: bool>(
+    src: &[u8],
+    dst: &mut [u8],
+    to: usize,
+) -> usize
+    requires few { length src.now < 3 * N }
+    requires narrow { EXACT ≡ false → N ≤ 32 }
+    requires room { to + room_from (mode_numbered MODE) src.now 0 ≤ length dst.old }
+    ensures end { result ≡ to + length (inner (mode_numbered MODE) src.now) }
+    ensures written { take result dst.new ≡ take to dst.old ++ inner (mode_numbered MODE) src.now }
+{
+    let mut target = Target::<N>::new(dst);
+    let mut ticks = Ticks::new();
+    escape_few::<V, MODE, N, EXACT>(src, &mut target, to, &mut ticks)
+}
+
 /// A quotation mark in JSON, also in script mode, nothing in HTML. Answers the place after it.
 #[inline(always)]
 fn quote<const MODE: u8, const N: usize>(target: &mut Target<'_, N>, to: usize) -> usize

@@ -39,6 +39,6 @@ vectors-preserved g c =
 pub returns-clause-clean : goal.returns-clause-clean
 returns-clause-clean g c =
     let mode = mode_numbered g.row.MODE in let src : List ℕ = c.args.src.now in let at : ℕ = c.vectors.at in let n : ℕ = g.row.N in
-    let bits = g.V.Flags.BitMask.BitMask.bits c.last_mask.result in
+    let bits = g.V.Flags.BitMask.BitMask.bits c.load_masked.result.1 in
     clean-on mode src 0 at (at + c.min.result) c.vectors.invariant.clean
-    (clean-last mode src at bits _ c.vectors.invariant.inside c.last_mask.ensures c.min.result (omega (arith, c.min.ensures)) (omega (arith, c.min.ensures, c.first_offset-2.ensures)))
+    (clean-last mode src at bits _ c.vectors.invariant.inside c.load_masked.ensures.masked c.min.result (omega (arith, c.min.ensures)) (omega (arith, c.min.ensures, c.first_offset-2.ensures)))

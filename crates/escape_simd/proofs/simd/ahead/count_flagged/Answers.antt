@@ -25,12 +25,12 @@ vectors-preserved g c =
 pub overflow_add-result : goal.overflow_add-result
 overflow_add-result g c =
     let need = needs_escape (mode_numbered g.row.MODE) in let src : List ℕ = c.args.src.now in
-    let last = count-last need src c.vectors.at _ (g.V.Flags.BitMask.BitMask.bits c.last_mask.result) c.vectors.invariant.inside c.last_mask.ensures in
+    let last = count-last need src c.vectors.at _ (g.V.Flags.BitMask.BitMask.bits c.load_masked.result.1) c.vectors.invariant.inside c.load_masked.ensures.masked in
     let most = count_by-le-length need src in
     omega (arith, last, most, c.vectors.invariant.counted, c.count_set.ensures)
 
 pub returns : goal.returns
 returns g c =
     let need = needs_escape (mode_numbered g.row.MODE) in let src : List ℕ = c.args.src.now in
-    let last = count-last need src c.vectors.at _ (g.V.Flags.BitMask.BitMask.bits c.last_mask.result) c.vectors.invariant.inside c.last_mask.ensures in
+    let last = count-last need src c.vectors.at _ (g.V.Flags.BitMask.BitMask.bits c.load_masked.result.1) c.vectors.invariant.inside c.load_masked.ensures.masked in
     omega (arith, last, c.vectors.invariant.counted, c.count_set.ensures)

@@ -3,7 +3,7 @@ use Rattle.escape_simd.specs.Ahead.{IsCleanBetween}
 use Rattle.escape_simd.specs.Modes.{mode_numbered}
 use Rattle.escape_simd.specs.Output.{inner}
 use Rattle.escape_simd.proofs.AheadLemmas.{clean-front}
-use Rattle.escape_simd.proofs.output.bytes.append_bytes.Goals as goal
+use Rattle.escape_simd.proofs.output.bytes.append_many.Goals as goal
 
 pub push_all-requires : goal.push_all-requires
 push_all-requires g c =
@@ -15,7 +15,7 @@ append_pieces-requires g c =
     let front = ap length c.as_bytes-2.ensures.value in let s = c.split_at.ensures in
     let pushed = ap length c.push_all.ensures.items ∙ length-append c.args.dst.now.items c.as_bytes-2.result.now in
     record {
-      narrow = c.requires.narrow;
+      narrow = λ _. c.requires.narrow;
       room = omega (arith, front, pushed, s.front_len, s.back_len, c.requires.room, c.push_all.ensures.capacity);
     }
 

@@ -1,11 +1,11 @@
 -- What masks tell of a text before it is written: its clean front, and how many bytes need an escape.
-use Rattle.std.proofs.Common.{◌≡◌, ℕ, zero, suc, ◌+◌, ◌-◌, ◌*◌, ◌<◌, ◌≤◌, Bool, true, false, cond, List, [], ◌∷◌, ◌++◌, length, take, drop, get_or, map, replicate, refl, sym, ap, ◌∙◌, arith, inl, inr, length-append, length-drop, length-take-le}
+use Rattle.std.proofs.Common.{◌≡◌, ℕ, zero, suc, ◌+◌, ◌-◌, ◌*◌, ◌<◌, ◌≤◌, Bool, true, false, cond, List, [], ◌∷◌, ◌++◌, length, take, drop, get_or, map, replicate, refl, sym, ap, ◌∙◌, arith, inl, inr, length-append, length-drop, length-take, length-take-le}
 use Rattle.std.specs.List.{count_by}
 use Rattle.std.proofs.Math.Seq.{take-add}
 use Rattle.std.proofs.lemmas.Bool.{cases_Bool}
 use Rattle.std.proofs.lemmas.Bool.Decides.{leb_tells}
 use Rattle.std.proofs.lemmas.List.{length-map, get_or-take, get_or-drop, get_or-map, get_or_append_left, take-append-drop, take_all, append-nil}
-use Rattle.std.proofs.lemmas.List.Sums.{sum_by-append}
+use Rattle.std.proofs.lemmas.List.Sums.{sum_by-append, count_by-le-length}
 use Rattle.escape_lanes.specs.Bits.{first_set, none_set}
 use Rattle.escape_lanes.specs.Mode.{Mode, json, html, script, mode_of}
 use Rattle.escape_lanes.specs.Replacement.{needs_escape, replacement}
@@ -42,29 +42,9 @@ module _ (mode : Mode) (src : List ℕ) (at n : ℕ) (bits more : List Bool) (in
   pub clean-none : none_set bits ≡ true → IsCleanBetween mode src at (at + n)
   clean-none none = clean-lanes n (omega arith) (λ k h. none_set-at bits k none)
 
-  -- those before the first that is
-  pub clean-first : (m : ℕ) → m ≤ n → m ≤ first_set bits → IsCleanBetween mode src at (at + m)
-  clean-first m few first = clean-lanes m few (λ k h. first_set-before bits k (omega arith))
-
--- a mask of a text's last bytes
-pub clean-last : (mode : Mode) (src : List ℕ) (at : ℕ) (bits more : List Bool) → at ≤ length src → bits ≡ map (needs_escape mode) (drop (length src - (length src - at)) src) ++ more
-    → (m : ℕ) → m ≤ length src - at → m ≤ first_set bits → IsCleanBetween mode src at (at + m)
-clean-last mode src at bits more inside is =
-    let e : length src - (length src - at) ≡ at = omega arith in
-    let l = length-drop at src in
-    let all : drop (length src - (length src - at)) src ≡ take (length src - at) (drop at src) = ap (λ k. drop k src) e ∙ sym (take_all (length src - at) (drop at src) (omega (arith, l))) in
-    clean-first mode src at (length src - at) bits more (omega arith) (is ∙ ap (λ xs. map (needs_escape mode) xs ++ more) all)
-
 -- a mask of a whole vector has no other lanes
 pub no-more : (xs bits : List Bool) → bits ≡ xs → bits ≡ xs ++ []
 no-more xs bits e = e ∙ sym (append-nil xs)
-
--- the first set lane is a lane, or as many as there are
-pub first_set-most : (bits : List Bool) → first_set bits ≤ length bits
-unfolding first_set
-first_set-most [] = omega arith
-first_set-most (true ∷ bs) = omega arith
-first_set-most (false ∷ bs) = let m = first_set-most bs in omega (arith, m)
 
 -- clean bytes, and then more of them
 pub clean-on : (mode : Mode) (src : List ℕ) (at i next : ℕ) → IsCleanBetween mode src at i → IsCleanBetween mode src i next → IsCleanBetween mode src at next
@@ -82,12 +62,12 @@ clean-four mode src at n a b c d =
     (clean-on mode src (at + n + n) (at + 2 * n + n) (at + 4 * n) (λ k after before. c k (omega (arith, after)) before)
     (λ k after before. d k (omega (arith, after)) (omega (arith, before)))))
 
--- clean bytes at the front stand for themselves
-pub clean-front : (mode : Mode) (src : List ℕ) (front n : ℕ) → front ≤ n → n ≤ length src → IsCleanBetween mode src 0 n → inner mode src ≡ take front src ++ inner mode (drop front src)
-clean-front mode src front n few inside clean =
-    let l = length-take-le front src (omega arith) in
-    ap (inner mode) (sym (take-append-drop front src))
-    ∙ inner-clean mode (drop front src) (take front src) (λ k h. ap (needs_escape mode) (get_or-take front src k 0 (omega (arith, l))) ∙ clean k (omega arith) (omega (arith, l)))
+-- three vectors that overlap
+pub clean-three : (mode : Mode) (src : List ℕ) (middle last n : ℕ) → middle ≤ n → last ≤ middle + n → last + n ≡ length src → IsCleanBetween mode src 0 (0 + n) → IsCleanBetween mode src middle (middle + n) → IsCleanBetween mode src last (last + n)
+    → IsCleanBetween mode src 0 (length src)
+clean-three mode src middle last n near far whole a b c =
+    clean-on mode src 0 n (length src) (λ k after before. a k after (omega (arith, before)))
+    (λ k after before. clean-on mode src middle (middle + n) (length src) b (λ i on under. c i (omega (arith, on)) (omega (arith, under))) k (omega (arith, after)) before)
 
 -- How many bytes need an escape
 
@@ -132,8 +112,17 @@ module _ (f : ℕ → Bool) (src : List ℕ) (at : ℕ) where
       add-zero k = omega arith
 
 -- bytes that need no escape stand for themselves
-standing : (mode : Mode) (bs : List ℕ) → ((k : ℕ) → k < length bs → needs_escape mode (get_or bs k 0) ≡ false) → inner mode bs ≡ bs
+pub standing : (mode : Mode) (bs : List ℕ) → ((k : ℕ) → k < length bs → needs_escape mode (get_or bs k 0) ≡ false) → inner mode bs ≡ bs
 standing mode bs clean = ap (inner mode) (sym (append-nil bs)) ∙ inner-clean mode [] bs clean ∙ ap (λ xs. bs ++ xs) (inner-nil mode) ∙ append-nil bs
+
+-- where none needs an escape, none is counted
+count-none : (f : ℕ → Bool) (xs : List ℕ) → ((k : ℕ) → k < length xs → f (get_or xs k 0) ≡ false) → count_by f xs ≡ 0
+count-none f [] none = refl
+count-none f (x ∷ xs) none =
+    let s = count-step f x xs in
+    let o : cond (f x) 1 0 ≡ 0 = ap {B = ℕ} (λ (b : Bool). cond b 1 0) (none 0 (omega arith)) in
+    let r = count-none f xs (λ k h. none (suc k) (omega (arith, h))) in
+    omega (arith, s, o, r)
 
 -- where none is counted, none needs an escape
 none-counted : (f : ℕ → Bool) (xs : List ℕ) → count_by f xs ≡ 0 → (k : ℕ) → k < length xs → f (get_or xs k 0) ≡ false
@@ -165,6 +154,23 @@ unmasked mode src n bits is none =
     let all = is ∙ ap (λ xs. map (needs_escape mode) xs ++ replicate n false) (ap (λ k. drop k src) e ∙ sym (take_all (length src) src (omega arith))) in
     let clean = clean-none mode src 0 (length src) bits (replicate n false) (omega arith) all none in
     standing mode src (λ k h. clean k (omega arith) (omega (arith, h)))
+
+-- no more than there are bytes
+pub count-few : (f : ℕ → Bool) (xs : List ℕ) (n : ℕ) → count_by f (take n xs) ≤ length xs
+count-few f xs n = let c = count_by-le-length f (take n xs) in let l = length-take n xs in omega (arith, c, l)
+
+-- clean bytes add nothing
+pub count-clean : (mode : Mode) (src : List ℕ) (at next : ℕ) → at ≤ next → IsCleanBetween mode src at next → next ≤ length src → count_by (needs_escape mode) (take next src) ≡ count_by (needs_escape mode) (take at src)
+count-clean mode src at next forward clean inside =
+    let n : ℕ = next - at in
+    let e : at + n ≡ next = omega arith in
+    let d = length-drop at src in
+    let l = length-take-le n (drop at src) (omega (arith, d)) in
+    let more = sum_by-append (λ y. cond (needs_escape mode y) 1 0) (take at src) (take n (drop at src)) in
+    let parts = ap (λ k. count_by (needs_escape mode) (take k src)) (sym e) ∙ ap (count_by (needs_escape mode)) (take-add at n src) ∙ more in
+    let none = count-none (needs_escape mode) (take n (drop at src)) (λ k h.
+    ap (needs_escape mode) (get_or-take n (drop at src) k 0 (omega (arith, l)) ∙ get_or-drop at src k 0) ∙ clean (at + k) (omega arith) (omega (arith, l))) in
+    omega (arith, parts, none)
 
 -- what stands for a byte is five bytes longer at most, and no longer where it needs no escape
 replacement-most : (mode : Mode) (b : ℕ) → length (replacement mode b) ≤ 1 + 5 * cond (needs_escape mode b) 1 0

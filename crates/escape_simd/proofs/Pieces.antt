@@ -2,7 +2,7 @@
 use Rattle.std.proofs.Common.{◌≡◌, ℕ, ◌+◌, ◌-◌, ◌<◌, ◌≤◌, List, [], ◌∷◌, ◌++◌, length, length-drop, take, drop, slice_range, IsUtf8, chars, encode_utf8_all, sym, ap, ◌∙◌, append_assoc, arith, inl, inr}
 use Rattle.std.specs.Str.{IsCharBoundary}
 use Rattle.std.specs.Char.{len_utf8}
-use Rattle.std.proofs.Math.Seq.{take-add}
+use Rattle.std.proofs.Math.Seq.{take-add, take-append-add}
 use Rattle.std.proofs.lemmas.Bool.{cases_lt}
 use Rattle.std.proofs.lemmas.List.{take-take}
 use Rattle.std.proofs.lemmas.Str.{IsUtf8-take, IsUtf8-drop, IsCharBoundary-past_char, encodes-chars, len_utf8_bounds}
@@ -43,14 +43,21 @@ pub inner-piece : (mode : Mode) (bytes : List ℕ) (at next : ℕ) → IsUtf8 by
 inner-piece mode bytes at next utf8 here forward =
     inner-append mode (take next bytes) (take at bytes) (slice_range bytes at next) (passed bytes at next forward) (cut-text mode (take at bytes) (IsUtf8-take bytes at utf8 here))
 
--- what stands after a piece: the vector was filled up, and the piece escaped at its end
-pub piece-written : (mode : Mode) (bytes old before filled new : List ℕ) (at next end len last : ℕ) → IsUtf8 bytes → IsCharBoundary bytes at → at ≤ next → end ≤ len
+-- what stands after a piece
+pub piece-written : (mode : Mode) (bytes old before new : List ℕ) (at next end last : ℕ) → IsUtf8 bytes → IsCharBoundary bytes at → at ≤ next
     → take end before ≡ old ++ inner mode (take at bytes)
-    → take len filled ≡ before
-    → take last new ≡ take end filled ++ inner mode (slice_range bytes at next)
+    → take last new ≡ take end before ++ inner mode (slice_range bytes at next)
     → take last new ≡ old ++ inner mode (take next bytes)
-piece-written mode bytes old before filled new at next end len last utf8 here forward inside so_far front written =
-    let same : take end filled ≡ take end before = sym (take-take end len filled inside) ∙ ap (take end) front in
-    written ∙ ap (λ xs. xs ++ inner mode (slice_range bytes at next)) (same ∙ so_far)
+piece-written mode bytes old before new at next end last utf8 here forward so_far written =
+    written ∙ ap (λ xs. xs ++ inner mode (slice_range bytes at next)) so_far
     ∙ append_assoc old (inner mode (take at bytes)) (inner mode (slice_range bytes at next))
     ∙ ap (λ xs. old ++ xs) (sym (inner-piece mode bytes at next utf8 here forward))
+
+-- what stands after a vector of the text, which goes over the end of those before it
+pub vector-over : (old src before : List ℕ) (len at n e : ℕ) → len ≡ length old → at ≤ e → before ≡ old ++ take e src → take (len + at) before ++ take n (drop at src) ≡ old ++ take (at + n) src
+vector-over old src before len at n e is on so_far =
+    ap (λ k. take (k + at) before ++ take n (drop at src)) is
+    ∙ ap (λ xs. take (length old + at) xs ++ take n (drop at src)) so_far
+    ∙ ap (λ xs. xs ++ take n (drop at src)) (take-append-add old (take e src) at ∙ ap (λ xs. old ++ xs) (take-take at e src on))
+    ∙ append_assoc old (take at src) (take n (drop at src))
+    ∙ ap (λ xs. old ++ xs) (sym (take-add at n src))

@@ -18,7 +18,7 @@ pub mod util;
 pub mod v128;
 mod vector;
 
-pub(crate) use ahead::{clean_front, count_flagged, load_masked};
+pub(crate) use ahead::{are_three_clean, count_flagged, load_at, load_masked};
 pub(crate) use body::{escape_at, escape_few_at};
 pub(crate) use classify::{HTML_MODE, JSON_MODE, SCRIPT_MODE, Vector};
 pub use escape_lanes::simd::{BitMask, Flags, LaneMask, LoadLast, Mask, Simd, bits, target};

@@ -1,15 +1,16 @@
 //! Appending what stands for a text's bytes to a vector that has room for it.
 //!
-//! The bytes before the first that needs an escape are appended as they are. What comes after them is
-//! escaped in place: so the vector is filled with zeros first, but only with as many as the output may
-//! take, which counting tells.
-ghost use Rattle.std.specs.Prelude.{◌≡◌, ◌+◌, ◌*◌, ◌<◌, ◌≤◌, ◌++◌, false, length, take, vec_len, vec_capacity};
+//! Bytes none of which needs an escape are appended as they are. Others are escaped in place: so the
+//! vector is filled with zeros first, but only with as many as the output may take, which counting tells.
+ghost use Rattle.std.specs.Prelude.{◌≡◌, ◌+◌, ◌*◌, ◌<◌, ◌≤◌, ◌++◌, false, length, take, drop, vec_len, vec_capacity};
 ghost use Rattle.std.specs.List.{count_by};
 ghost use Rattle.escape_lanes.specs.Replacement.{needs_escape};
 ghost use Rattle.escape_simd.specs.Modes.{mode_numbered};
 ghost use Rattle.escape_simd.specs.Output.{inner};
 
-use crate::simd::{Vector, clean_front, count_flagged, escape_at, escape_few_at, load_masked};
+use crate::simd::{
+    Vector, are_three_clean, count_flagged, escape_at, escape_few_at, load_at, load_masked,
+};
 use escape_lanes::simd::{BitMask, LaneMask};
 use std::alloc::Allocator;
 
@@ -51,6 +52,36 @@ fn fill<A: Allocator>(dst: &mut Vec<u8, A>, len: usize)
     };
 }
 
+/// Appends what stands for the bytes of a piece after the first `end` of the vector, and answers the
+/// place after it. What the vector holds past that place is no part of the output.
+#[inline(always)]
+fn append_piece<
+    V: Vector<N>,
+    A: Allocator,
+    const MODE: u8,
+    const N: usize,
+    const CHUNK: usize,
+    const EXACT: bool,
+>(bytes: &[u8], dst: &mut Vec<u8, A>, end: usize) -> usize
+    requires narrow { N ≤ 32 }
+    requires inside { end ≤ vec_len dst.old }
+    requires room { end + 6 * length bytes.now + 32 ≤ vec_capacity dst.old }
+    ensures end { result ≡ end + length (inner (mode_numbered MODE) bytes.now) }
+    ensures fits { result ≤ vec_len dst.new }
+    ensures written { take result dst.new.items
+        ≡ take end dst.old.items ++ inner (mode_numbered MODE) bytes.now }
+    ensures capacity { vec_capacity dst.old ≤ vec_capacity dst.new }
+{
+    let count = count_flagged::<V, MODE, N>(bytes);
+    if count == 0 && end == dst.len() {
+        push_all(dst, bytes);
+        return end + bytes.len();
+    }
+    // A byte is written by six bytes at most.
+    fill(dst, end + bytes.len() + 5 * count + 32);
+    escape_at::<V, MODE, N, CHUNK, EXACT>(bytes, dst, end)
+}
+
 /// Appends what stands for the text's bytes, piece by piece.
 ///
 /// The pieces are texts: what stands for a separator in a script literal stands for all its bytes.
@@ -62,7 +93,7 @@ fn append_pieces<
     const CHUNK: usize,
     const EXACT: bool,
 >(value: &str, dst: &mut Vec<u8, A>)
-    requires narrow { EXACT ≡ false → N ≤ 32 }
+    requires narrow { N ≤ 32 }
     requires room { vec_len dst.old + 6 * length value.now + 32 ≤ vec_capacity dst.old }
     ensures items { dst.new.items ≡ dst.old.items ++ inner (mode_numbered MODE) value.now }
     ensures room { vec_len dst.new + 32 ≤ vec_capacity dst.new }
@@ -72,10 +103,7 @@ fn append_pieces<
     'pieces: while at < value.len() {
         let next = value.floor_char_boundary(at + PIECE.min(value.len() - at));
         let piece = &value.as_bytes()[at..next];
-        // A byte is written by six bytes at most.
-        let most = piece.len() + 5 * count_flagged::<V, MODE, N>(piece);
-        fill(dst, end + most + 32);
-        end = escape_at::<V, MODE, N, CHUNK, EXACT>(piece, dst, end);
+        end = append_piece::<V, A, MODE, N, CHUNK, EXACT>(piece, dst, end);
         at = next;
     }
     dst.truncate(end);
@@ -118,23 +146,51 @@ fn append_flagged<V: Vector<N>, A: Allocator, const MODE: u8, const N: usize, co
     dst.truncate(end);
 }
 
-/// Appends what stands for the bytes of a text shorter than three vectors.
+/// Cuts `dst` to `len` bytes, and appends the vector of the text at `at`.
+#[inline(always)]
+fn push_vector<V: Vector<N>, A: Allocator, const N: usize>(
+    dst: &mut Vec<u8, A>,
+    len: usize,
+    src: &[u8],
+    at: usize,
+)
+    requires inside { at + N ≤ length src.now }
+    requires shorter { len ≤ vec_len dst.old }
+    requires room { len + N ≤ vec_capacity dst.old }
+    ensures items { dst.new.items ≡ take len dst.old.items ++ take N (drop at src.now) }
+    ensures capacity { vec_capacity dst.old ≤ vec_capacity dst.new }
+{
+    let mut lanes = [0u8; N];
+    load_at::<V, N>(src, at).put(&mut lanes);
+    dst.truncate(len);
+    push_all(dst, &lanes);
+}
+
+/// Appends what stands for the bytes of a text shorter than three vectors, and no shorter than one: with
+/// no loop and no call where none needs an escape.
 #[inline(always)]
 fn append_few<V: Vector<N>, A: Allocator, const MODE: u8, const N: usize, const EXACT: bool>(
     bytes: &[u8],
     dst: &mut Vec<u8, A>,
 )
+    requires some { N ≤ length bytes.now }
     requires few { length bytes.now < 3 * N }
     requires narrow { N ≤ 32 }
     requires room { vec_len dst.old + 6 * length bytes.now + 32 ≤ vec_capacity dst.old }
     ensures items { dst.new.items ≡ dst.old.items ++ inner (mode_numbered MODE) bytes.now }
     ensures room { vec_len dst.new + 32 ≤ vec_capacity dst.new }
 {
-    let count = count_flagged::<V, MODE, N>(bytes);
-    if count != 0 {
+    let last = bytes.len() - N;
+    let middle = N.min(last);
+    if !are_three_clean::<V, MODE, N>(bytes, middle, last) {
+        let count = count_flagged::<V, MODE, N>(bytes);
         return append_flagged::<V, A, MODE, N, EXACT>(bytes, count, dst);
     }
-    push_all(dst, bytes);
+    // Each vector goes over what the one before it has of the same bytes.
+    let old = dst.len();
+    push_vector::<V, A, N>(dst, old, bytes, 0);
+    push_vector::<V, A, N>(dst, old + middle, bytes, middle);
+    push_vector::<V, A, N>(dst, old + last, bytes, last);
 }
 
 /// Appends what stands for the bytes of a text shorter than a vector: with no call where none needs an
@@ -155,26 +211,6 @@ fn append_last<V: Vector<N>, A: Allocator, const MODE: u8, const N: usize, const
         return append_flagged::<V, A, MODE, N, EXACT>(bytes, mask.count_set(), dst);
     }
     push_front::<V, A, N>(dst, &v, bytes.len());
-}
-
-/// Appends what stands for the bytes of a text of any length.
-fn append_many<
-    V: Vector<N>,
-    A: Allocator,
-    const MODE: u8,
-    const N: usize,
-    const CHUNK: usize,
-    const EXACT: bool,
->(value: &str, dst: &mut Vec<u8, A>)
-    requires narrow { N ≤ 32 }
-    requires room { vec_len dst.old + 6 * length value.now + 32 ≤ vec_capacity dst.old }
-    ensures items { dst.new.items ≡ dst.old.items ++ inner (mode_numbered MODE) value.now }
-    ensures room { vec_len dst.new + 32 ≤ vec_capacity dst.new }
-{
-    let front = clean_front::<V, MODE, N>(value.as_bytes());
-    let (clean, rest) = value.split_at(value.floor_char_boundary(front));
-    push_all(dst, clean.as_bytes());
-    append_pieces::<V, A, MODE, N, CHUNK, EXACT>(rest, dst);
 }
 
 /// Appends what stands for the text's bytes.
@@ -198,5 +234,5 @@ pub(crate) fn append_bytes<
     if bytes.len() < 3 * N {
         return append_few::<V, A, MODE, N, EXACT>(bytes, dst);
     }
-    append_many::<V, A, MODE, N, CHUNK, EXACT>(value, dst);
+    append_pieces::<V, A, MODE, N, CHUNK, EXACT>(value, dst);
 }

@@ -1,5 +1,4 @@
-//! Classifying ahead of what is written: how many bytes at a text's front stand for themselves, and how
-//! many bytes need an escape.
+//! Classifying ahead of what is written: whether any byte needs an escape, and how many do.
 ghost use Rattle.std.specs.Prelude.{◌≡◌, ◌+◌, ◌-◌, ◌*◌, ◌<◌, ◌≤◌, ◌++◌, true, false, length, take, drop, replicate, map};
 ghost use Rattle.std.specs.List.{count_by};
 ghost use Rattle.escape_lanes.specs.Replacement.{needs_escape};
@@ -11,6 +10,15 @@ use crate::simd::source::Source;
 use escape_lanes::simd::target::Ticks;
 use escape_lanes::simd::{BitMask, Flags, LaneMask};
 
+/// The vector of the text at `at`.
+#[inline(always)]
+pub(crate) fn load_at<V: Vector<N>, const N: usize>(src: &[u8], at: usize) -> V
+    requires { at + N ≤ length src.now }
+    ensures { V.lanes result ≡ take N (drop at src.now) }
+{
+    V::load(&Source::whole(src), at)
+}
+
 /// Which bytes of the vector of the text at `at` need an escape.
 #[inline(always)]
 fn flags_at<V: Vector<N>, const MODE: u8, const N: usize>(src: &[u8], at: usize) -> V::Flags
@@ -18,7 +26,7 @@ fn flags_at<V: Vector<N>, const MODE: u8, const N: usize>(src: &[u8], at: usize)
     ensures { V.Flags.truths result
         ≡ map (needs_escape (mode_numbered MODE)) (take N (drop at src.now)) }
 {
-    V::load(&Source::whole(src), at).flags(MODE, &mut Ticks::new())
+    load_at::<V, N>(src, at).flags(MODE, &mut Ticks::new())
 }
 
 /// The text's last `left` bytes, fewer than a vector has, and which of them need an escape.
@@ -52,41 +60,50 @@ fn are_clean<V: Vector<N>, const MODE: u8, const N: usize>(src: &[u8], at: usize
     flags1.join(&flags2).join(&flags3.join(&flags4)).none()
 }
 
-/// How many bytes at the text's front need no escape, as far as four vectors at once tell.
+/// Whether no byte of a text shorter than three vectors needs an escape: of its first vector, that at
+/// `middle` and that at `last`, which are all of it. They are asked at once.
 #[inline(always)]
-fn clean_chunks<V: Vector<N>, const MODE: u8, const N: usize>(src: &[u8]) -> usize
-    ensures inside { result ≤ length src.now }
-    ensures clean { IsCleanBetween (mode_numbered MODE) src.now 0 result }
+pub(crate) fn are_three_clean<V: Vector<N>, const MODE: u8, const N: usize>(
+    src: &[u8],
+    middle: usize,
+    last: usize,
+) -> bool
+    requires whole { last + N ≡ length src.now }
+    requires on { (middle ≤ N) × (last ≤ middle + N) }
+    requires inside { middle ≤ last }
+    ensures { result ≡ true → IsCleanBetween (mode_numbered MODE) src.now 0 (length src.now) }
 {
-    let mut at = 0;
-    'chunks: while 4 * N <= src.len() - at {
-        if !are_clean::<V, MODE, N>(src, at) {
-            return at;
-        }
-        at += 4 * N;
-    }
-    at
+    let flags1 = flags_at::<V, MODE, N>(src, 0);
+    let flags2 = flags_at::<V, MODE, N>(src, middle);
+    let flags3 = flags_at::<V, MODE, N>(src, last);
+    flags1.join(&flags2).join(&flags3).none()
 }
 
-/// How many bytes stand at the text's front before the first that needs an escape.
+/// How many bytes of the vector of the text at `at` need an escape.
 #[inline(always)]
-pub(crate) fn clean_front<V: Vector<N>, const MODE: u8, const N: usize>(src: &[u8]) -> usize
-    ensures inside { result ≤ length src.now }
-    ensures clean { IsCleanBetween (mode_numbered MODE) src.now 0 result }
+fn count_at<V: Vector<N>, const MODE: u8, const N: usize>(src: &[u8], at: usize) -> usize
+    requires { at + N ≤ length src.now }
+    ensures few { result ≤ N }
+    ensures counted { count_by (needs_escape (mode_numbered MODE)) (take (at + N) src.now)
+        ≡ count_by (needs_escape (mode_numbered MODE)) (take at src.now) + result }
 {
-    let mut at = clean_chunks::<V, MODE, N>(src);
-    'vectors: while N <= src.len() - at {
-        let mask = flags_at::<V, MODE, N>(src, at).bitmask();
-        if !mask.all_zero() {
-            return at + mask.first_offset();
-        }
-        at += N;
+    flags_at::<V, MODE, N>(src, at).bitmask().count_set()
+}
+
+/// How many bytes of four vectors of the text from `at` on need an escape. Whether any does is asked
+/// first.
+#[inline(always)]
+fn count_four<V: Vector<N>, const MODE: u8, const N: usize>(src: &[u8], at: usize) -> usize
+    requires { at + 4 * N ≤ length src.now }
+    ensures { count_by (needs_escape (mode_numbered MODE)) (take (at + 4 * N) src.now)
+        ≡ count_by (needs_escape (mode_numbered MODE)) (take at src.now) + result }
+{
+    if are_clean::<V, MODE, N>(src, at) {
+        return 0;
     }
-    let left = src.len() - at;
-    if left == 0 {
-        return at;
-    }
-    at + left.min(load_masked::<V, MODE, N>(src, left).1.first_offset())
+    let first = count_at::<V, MODE, N>(src, at) + count_at::<V, MODE, N>(src, at + N);
+    let (third, fourth) = (at + 2 * N, at + 3 * N);
+    first + count_at::<V, MODE, N>(src, third) + count_at::<V, MODE, N>(src, fourth)
 }
 
 /// How many bytes of the text need an escape.
@@ -96,8 +113,12 @@ pub(crate) fn count_flagged<V: Vector<N>, const MODE: u8, const N: usize>(src: &
 {
     let mut at = 0;
     let mut count = 0;
+    'chunks: while 4 * N <= src.len() - at {
+        count += count_four::<V, MODE, N>(src, at);
+        at += 4 * N;
+    }
     'vectors: while N <= src.len() - at {
-        count += flags_at::<V, MODE, N>(src, at).bitmask().count_set();
+        count += count_at::<V, MODE, N>(src, at);
         at += N;
     }
     let left = src.len() - at;

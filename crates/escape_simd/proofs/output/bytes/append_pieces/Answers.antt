@@ -23,22 +23,16 @@ pieces-init g c =
       written = take_all _ items (omega arith) ∙ sym (append-nil items) ∙ ap (λ xs. items ++ xs) (sym (inner-nil mode));
     }
 
-pub fill-requires : goal.fill-requires
-fill-requires g c =
+pub append_piece-end-requires : goal.append_piece-end-requires
+append_piece-end-requires g c =
     let bytes : List ℕ = c.as_bytes.result.now in let inv = c.pieces.invariant in
     let cut = c.floor_char_boundary-next.ensures.boundary in
     let same = ap length c.as_bytes.ensures.value in
     let len = length-between bytes c.pieces.at c.floor_char_boundary-next.result (omega (arith, cut.0, same)) in
-    let few = count_by-le-length (needs_escape (mode_numbered g.row.MODE)) (slice_range bytes c.pieces.at c.floor_char_boundary-next.result) in
-    omega (arith, len, few, c.count_flagged.ensures, inv.room, cut.0)
-
-pub escape_at-end-requires : goal.escape_at-end-requires
-escape_at-end-requires g c =
-    let piece = slice_range c.as_bytes.result.now c.pieces.at c.floor_char_boundary-next.result in
-    let most = counted-room (mode_numbered g.row.MODE) piece in
     record {
       narrow = c.requires.narrow;
-      room = omega (arith, most, c.count_flagged.ensures, c.fill.ensures.filled, c.deref_mut.ensures.len);
+      inside = inv.fits;
+      room = omega (arith, len, inv.room, cut.0);
     }
 
 pub pieces-smaller : goal.pieces-smaller
@@ -48,27 +42,20 @@ pieces-smaller g c =
 
 pub pieces-preserved : goal.pieces-preserved
 pieces-preserved g c =
-    let inv = c.pieces.invariant in
+    let inv = c.pieces.invariant in let piece = c.append_piece-end.ensures in
     let mode = mode_numbered g.row.MODE in
     let text : List ℕ = c.args.value.now in
     let bytes : List ℕ = c.as_bytes.result.now in
     let next : ℕ = c.floor_char_boundary-next.result in
     let cut = c.floor_char_boundary-next.ensures.boundary in
-    let piece : List ℕ = slice_range text c.pieces.at next in
     let forward = cut-forward text c.pieces.at _ next c.utf8.value inv.cut c.pieces-test.true (λ n few within. omega (arith, few, within)) c.floor_char_boundary-next.ensures.nearest in
     let len = length-between text c.pieces.at next cut.0 in
-    let same : slice_range bytes c.pieces.at next ≡ piece = ap (λ xs. slice_range xs c.pieces.at next) c.as_bytes.ensures.value in
-    let most = (length-inner mode piece).1 in
-    let room = counted-most mode piece in
-    let count = c.count_flagged.ensures ∙ ap (count_by (needs_escape mode)) same in
-    let long = ap length same in
-    let whole : length c.escape_at-end.new.dst ≡ c.fill.new.dst.len = omega arith in
-    let ends : c.escape_at-end.result ≡ c.pieces.end + length (inner mode piece) = c.escape_at-end.ensures.end ∙ ap (λ xs. c.pieces.end + length (inner mode xs)) same in
+    let same : slice_range bytes c.pieces.at next ≡ slice_range text c.pieces.at next = ap (λ xs. slice_range xs c.pieces.at next) c.as_bytes.ensures.value in
+    let most = (length-inner mode (slice_range text c.pieces.at next)).1 in
+    let ends = piece.end ∙ ap (λ xs. c.pieces.end + length (inner mode xs)) same in
     record {
       cut = cut;
-      fits = omega (arith, ends, room, count, long, c.fill.ensures.filled);
-      room = omega (arith, ends, most, len, forward, cut.0, inv.room, c.fill.ensures.capacity);
-      written =
-          ap (take c.escape_at-end.result) (take_at c.escape_at-end.new.dst (drop (length c.escape_at-end.new.dst) c.fill.new.dst.items) c.fill.new.dst.len whole)
-          ∙ piece-written mode text c.args.dst.now.items c.pieces.dst.items c.fill.new.dst.items c.escape_at-end.new.dst c.pieces.at next c.pieces.end _ c.escape_at-end.result c.utf8.value inv.cut (omega (arith, forward)) inv.fits inv.written c.fill.ensures.front (c.escape_at-end.ensures.written ∙ ap (λ xs. take c.pieces.end xs ++ inner mode (slice_range bytes c.pieces.at next)) c.deref_mut.ensures.value ∙ ap (λ xs. take c.pieces.end c.fill.new.dst.items ++ inner mode xs) same);
+      fits = piece.fits;
+      room = omega (arith, ends, most, len, forward, cut.0, inv.room, piece.capacity);
+      written = piece-written mode text c.args.dst.now.items c.pieces.dst.items c.append_piece-end.new.dst.items c.pieces.at next c.pieces.end c.append_piece-end.result c.utf8.value inv.cut (omega (arith, forward)) inv.written (piece.written ∙ ap (λ xs. take c.pieces.end c.pieces.dst.items ++ inner mode xs) same);
     }

@@ -1,26 +1,19 @@
-use Rattle.std.proofs.Common.{ℕ, ◌+◌, List, take, ◌∙◌, arith, length-take-le}
+use Rattle.std.proofs.Common.{ℕ, ◌+◌, ◌*◌, List, take, ◌∙◌, arith}
 use Rattle.std.proofs.lemmas.List.Sums.{count_by-le-length}
 use Rattle.escape_lanes.specs.Replacement.{needs_escape}
 use Rattle.escape_simd.specs.Modes.{mode_numbered}
-use Rattle.escape_simd.proofs.AheadLemmas.{count-more, count-last}
+use Rattle.escape_simd.proofs.AheadLemmas.{count-last, count-few}
 use Rattle.escape_simd.proofs.simd.ahead.count_flagged.Goals as goal
 
 pub overflow_add-count : goal.overflow_add-count
 overflow_add-count g c =
-    let need = needs_escape (mode_numbered g.row.MODE) in let src : List ℕ = c.args.src.now in let at : ℕ = c.vectors.at in
-    let more = count-more need src at g.row.N (g.V.Flags.BitMask.BitMask.bits c.bitmask.result) (c.bitmask.ensures ∙ c.flags_at.ensures) in
-    let most = count_by-le-length need (take (at + g.row.N) src) in
-    let short = length-take-le (at + g.row.N) src (omega (arith, c.vectors-test.true, c.vectors.invariant.inside)) in
-    omega (arith, more, most, short, c.vectors.invariant.counted, c.count_set-count.ensures, c.vectors-test.true, c.vectors.invariant.inside)
+    let few = count-few (needs_escape (mode_numbered g.row.MODE)) c.args.src.now (c.chunks.at + 4 * g.row.N) in
+    omega (arith, few, c.count_four-count.ensures, c.chunks.invariant.counted)
 
-pub vectors-preserved : goal.vectors-preserved
-vectors-preserved g c =
-    let need = needs_escape (mode_numbered g.row.MODE) in let src : List ℕ = c.args.src.now in let at : ℕ = c.vectors.at in
-    let more = count-more need src at g.row.N (g.V.Flags.BitMask.BitMask.bits c.bitmask.result) (c.bitmask.ensures ∙ c.flags_at.ensures) in
-    record {
-      inside = omega (arith, c.vectors-test.true, c.vectors.invariant.inside);
-      counted = omega (arith, more, c.vectors.invariant.counted, c.count_set-count.ensures);
-    }
+pub overflow_add-count-in-vectors : goal.overflow_add-count-in-vectors
+overflow_add-count-in-vectors g c =
+    let few = count-few (needs_escape (mode_numbered g.row.MODE)) c.args.src.now (c.vectors.at + g.row.N) in
+    omega (arith, few, c.count_at-count.ensures.counted, c.vectors.invariant.counted)
 
 pub overflow_add-result : goal.overflow_add-result
 overflow_add-result g c =

@@ -122,5 +122,8 @@ pub(crate) fn count_flagged<V: Vector<N>, const MODE: u8, const N: usize>(src: &
         at += N;
     }
     let left = src.len() - at;
+    if left == 0 {
+        return count;
+    }
     count + load_masked::<V, MODE, N>(src, left).1.count_set()
 }

@@ -20,5 +20,6 @@ mod vector;
 
 pub(crate) use ahead::{clean_front, count_flagged};
 pub(crate) use body::escape_at;
-pub(crate) use classify::{HTML_MODE, JSON_MODE, SCRIPT_MODE, Vector};
+pub(crate) use classify::Vector;
+pub use classify::{HTML_MODE, JSON_MODE, SCRIPT_MODE};
 pub use escape_lanes::simd::{BitMask, Flags, LaneMask, LoadLast, Mask, Simd, bits, target};

@@ -6,7 +6,6 @@ use Rattle.escape_simd.specs.Output.{inner, plain, quote_of, bound}
 use Rattle.escape_text.specs.ToWrite.{quote_if, rest_to_write}
 use Rattle.escape_simd.proofs.OutputLemmas.{IsUtf8-inner, IsUtf8-quote, inner-append, HasOutputLength-output}
 use Rattle.escape_simd.proofs.Pieces.{cut-text}
-use Rattle.escape_simd.proofs.ReplacementLemmas.{inner-nil}
 
 -- at first that is the whole output
 pub rest_to_write-whole : (mode : Mode) (text : List ℕ) → rest_to_write mode false text ≡ plain mode text

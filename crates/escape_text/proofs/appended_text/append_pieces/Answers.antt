@@ -1,4 +1,4 @@
-use Rattle.std.proofs.Common.{◌++◌, List, ℕ, length, string_bytes, ap, arith}
+use Rattle.std.proofs.Common.{◌++◌, length, string_bytes, ap, arith}
 use Rattle.escape_simd.specs.Modes.{mode_numbered}
 use Rattle.escape_text.proofs.ToWrite.{length-plain}
 use Rattle.escape_text.proofs.appended_text.append_pieces.Goals as goal

@@ -1,5 +1,5 @@
 -- What was appended, and what is left to append, is the whole output, and there is room for it.
-use Rattle.std.proofs.Common.{◌≡◌, ◌+◌, ◌≤◌, ℕ, List, ◌++◌, length, string_bytes, string_len, string_capacity}
+use Rattle.std.proofs.Common.{◌≡◌, ◌+◌, ◌≤◌, ◌++◌, length, string_bytes, string_len, string_capacity}
 use Rattle.escape_simd.specs.Modes.{mode_numbered}
 use Rattle.escape_simd.specs.Output.{plain}
 use Rattle.escape_text.specs.ToWrite.{to_write, pieces_left}

@@ -1,4 +1,4 @@
-use Rattle.std.proofs.Common.{List, ℕ, length, IsUtf8, ap, sym, subst, arith}
+use Rattle.std.proofs.Common.{IsUtf8, sym, subst, arith}
 use Rattle.escape_simd.specs.Modes.{mode_numbered}
 use Rattle.escape_simd.proofs.Texts.{length-inner}
 use Rattle.escape_text.proofs.ToWrite.{IsUtf8-piece, length-quote_if, piece-whole}

@@ -2,7 +2,6 @@ use Rattle.std.proofs.Common.{List, ℕ, ◌++◌, append_assoc, sym, ap, ◌∙
 use Rattle.std.proofs.KnownBytes.{Appends-trans}
 use Rattle.escape_simd.specs.Modes.{mode_numbered}
 use Rattle.escape_simd.specs.Output.{plain}
-use Rattle.escape_text.specs.ToWrite.{to_write}
 use Rattle.escape_text.proofs.WriterLemmas.{beginning-after, after_error}
 use Rattle.escape_text.proofs.writer.write_output.Goals as goal
 

@@ -1,6 +1,8 @@
 //! The calls that append, beside those that make the output in an array.
 use crate::texts::{CORPORA, Corpus, pieces, text_of};
-use escape_simd::{html, json};
+use escape_simd::html::escape_html_into;
+use escape_simd::json::escape_into;
+use escape_text::{html, json};
 use std::fmt::Write;
 use std::test::Fail;
 use std::time::{Clock, Instant};
@@ -108,7 +110,7 @@ fn pass(call: Call, is_html: bool, texts: &[&str], targets: &mut Targets) -> Res
 #[inline(always)]
 fn json_by(call: Call, text: &str, targets: &mut Targets) -> bool {
     match call {
-        Call::Into => json::escape_into(text, &mut targets.bytes).is_ok(),
+        Call::Into => escape_into(text, &mut targets.bytes).is_ok(),
         Call::IntoString => json::escape_into_string(text, &mut targets.text).is_ok(),
         Call::Display => write!(targets.text, "{}", json::Escaped(text)).is_ok(),
         Call::ToWriter => json::escape_to_writer(text, &mut targets.bytes).is_ok(),
@@ -119,7 +121,7 @@ fn json_by(call: Call, text: &str, targets: &mut Targets) -> bool {
 #[inline(always)]
 fn html_by(call: Call, text: &str, targets: &mut Targets) -> bool {
     match call {
-        Call::Into => html::escape_html_into(text, &mut targets.bytes).is_ok(),
+        Call::Into => escape_html_into(text, &mut targets.bytes).is_ok(),
         Call::IntoString => html::escape_html_into_string(text, &mut targets.text).is_ok(),
         Call::Display => write!(targets.text, "{}", html::Escaped(text)).is_ok(),
         Call::ToWriter => html::escape_html_to_writer(text, &mut targets.bytes).is_ok(),

@@ -1,4 +1,4 @@
-//! Callers of `escape_simd`, one for each kind of user, and a program over them.
+//! Callers of `escape_simd` and `escape_text`, one for each kind of user, and a program over them.
 #![tactic(auto)]
 
 mod entries;

@@ -5,7 +5,7 @@ ghost use Rattle.escape_simd.specs.Html.{IsMarkupFree};
 ghost use Rattle.escape_simd.specs.Output.{plain};
 ghost use Rattle.escape_callers.specs.Written.{heading_of, item_of, row_of};
 
-use escape_simd::html::Escaped;
+use escape_text::html::Escaped;
 use std::alloc::{AllocError, Allocator};
 
 /// A row of the page's table: a name, and a note that shows where one points at it.

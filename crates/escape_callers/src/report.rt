@@ -4,7 +4,7 @@ ghost use Rattle.std.specs.Io.KnownBytes.{Appends};
 ghost use Rattle.escape_callers.specs.Written.{line_of};
 
 use crate::entries::Entry;
-use escape_simd::json::escape_to_writer;
+use escape_text::json::escape_to_writer;
 use std::io::{Result, Write};
 
 /// Writes each entry on a line of JSON of its own, and flushes.

@@ -1,11 +1,12 @@
 //! A page with data in a script element.
 ghost use Rattle.std.specs.Prelude.{◌≡◌, ◌++◌, OnOk, codes};
 ghost use Rattle.escape_lanes.specs.Mode.{script};
-ghost use Rattle.escape_simd.specs.Lists.{array_of};
+ghost use Rattle.escape_text.specs.Lists.{array_of};
 ghost use Rattle.escape_simd.specs.Output.{plain};
 ghost use Rattle.escape_simd.specs.Script.{IsSafeInScript};
 
-use escape_simd::json::{EscapeError, escape_script_array_into, escape_script_into};
+use escape_simd::json::{EscapeError, escape_script_into};
+use escape_text::json::escape_script_array_into;
 use std::alloc::Allocator;
 
 /// Appends a script element that holds a user's name and tags. Nothing in them can end the element.

@@ -2,7 +2,7 @@
 #![tactic(auto)]
 
 use anyhow::Result;
-use escape_simd::{html, json};
+use escape_text::{html, json};
 
 fn main(rt: HostRuntime) -> Result<()> {
     for name in rt.lines(rt.alloc()) {

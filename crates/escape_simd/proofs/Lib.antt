@@ -18,6 +18,4 @@ pub mod Examples
 pub mod AheadLemmas
 pub mod InnerLemmas
 pub mod Pieces
-pub mod ToWrite
-pub mod WriterLemmas
 pub mod JoinedLemmas

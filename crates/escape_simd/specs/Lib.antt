@@ -15,8 +15,5 @@ pub mod Script
 pub mod Headline
 pub mod Laws
 pub mod Escaping
-pub mod ToWrite
-pub mod Lists
-pub mod Writers
 pub mod Messages
 pub mod Ahead

@@ -5,22 +5,14 @@ ghost use Rattle.escape_simd.specs.Output.{plain, bound};
 ghost use Rattle.escape_simd.specs.Escaping.{IsEscaping};
 ghost use Rattle.escape_simd.specs.Laws.{appended};
 
-mod display;
 mod each;
 mod error;
-mod into_string;
-mod joined;
-mod to_writer;
 
 use crate::output::{append, scratch_bound, text};
 use crate::simd::HTML_MODE;
-pub use display::Escaped;
 pub use each::escape_html_each;
 pub use error::{EscapeHtmlError, InputTooLarge};
-pub use into_string::escape_html_into_string;
-pub use joined::escape_html_joined_into;
 use std::alloc::{Allocator, Global};
-pub use to_writer::escape_html_to_writer;
 
 /// How many bytes of a target each byte of a text may need in HTML.
 ///

@@ -6,20 +6,12 @@ ghost use Rattle.escape_simd.specs.Escaping.{IsEscaping};
 ghost use Rattle.escape_simd.specs.Laws.{appended};
 ghost use Rattle.escape_simd.specs.Script.{IsSafeInScript};
 
-mod display;
 mod error;
-mod into_string;
-mod list;
-mod to_writer;
 
 use crate::output::{append, scratch_bound, text};
 use crate::simd::{JSON_MODE, SCRIPT_MODE};
-pub use display::{Escaped, EscapedScript};
 pub use error::EscapeError;
-pub use into_string::{escape_into_string, escape_script_into_string};
-pub use list::{escape_array_into, escape_joined_into, escape_script_array_into};
 use std::alloc::{Allocator, Global};
-pub use to_writer::{escape_script_to_writer, escape_to_writer};
 
 /// How many bytes of a target each byte of a text may need, in JSON and script literals.
 ///

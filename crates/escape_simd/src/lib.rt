@@ -11,10 +11,8 @@
 //! [`format_script_inner`] write what stands between the quotation marks, and [`format_json_str`] and
 //! its kin answer the output there as text.
 //!
-//! [`json::Escaped`], [`json::EscapedScript`] and [`html::Escaped`] are for `write!`, `print!` and
-//! `format!`; [`json::escape_to_writer`] and its kin write to an `io::Write`,
-//! [`json::escape_into_string`] and its kin append to a `String`. [`json::escape_array_into`] and
-//! [`json::escape_joined_into`] take many texts.
+//! `escape_text` has what stands over these: adapters for `write!`, calls to writers and `String`s, and
+//! lists. What it is built on, in any mode, is [`output`].
 //!
 //! ```text
 //! escape(alloc, "a\n")? == "\"a\\n\""
@@ -23,17 +21,12 @@
 //! ```
 #![tactic(auto)]
 
-mod adapter;
-mod appended_text;
 mod format;
 pub mod html;
 pub mod json;
 mod kernel;
-mod list;
-mod output;
-mod piecewise;
+pub mod output;
 pub mod simd;
-mod writer;
 
 pub use escape_lanes::tables;
 pub use format::{
@@ -41,5 +34,4 @@ pub use format::{
     format_script_inner, format_script_str, format_script_string,
 };
 pub use kernel::Kernel;
-pub use list::ListError;
 pub use output::PIECE;

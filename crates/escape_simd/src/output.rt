@@ -1,4 +1,8 @@
 //! The output for a whole text: its refusals, its one reservation and its bytes, for each mode.
+//!
+//! Further calls are built on this. Each function serves every mode, by the mode's number:
+//! [`JSON_MODE`](crate::simd::JSON_MODE), [`HTML_MODE`] or [`SCRIPT_MODE`](crate::simd::SCRIPT_MODE).
+//! Greater numbers are script too.
 ghost use Rattle.std.specs.Prelude.{◌≡◌, ◌+◌, ◌*◌, ◌<◌, ◌≤◌, ◌↔◌, ◌++◌, length, take, chars, string_bytes, vec_len, vec_capacity, Err, IsOk, IfOk, OnOk, OnErr, IfSome, IsNone};
 ghost use Rattle.escape_simd.specs.Modes.{mode_numbered};
 ghost use Rattle.escape_simd.specs.Output.{plain, inner, quote_of, bound};
@@ -7,18 +11,22 @@ ghost use Rattle.escape_simd.specs.Headline.{IsOnlyOutput};
 ghost use Rattle.escape_simd.specs.Laws.{JoinsTexts, IsOfOneText, HasOutputLength};
 
 mod bytes;
+mod inner;
 
 use crate::simd::HTML_MODE;
 use crate::simd::avx2::Simd256u;
 use crate::{html, json};
 pub use bytes::PIECE;
 use bytes::append_bytes;
+pub use inner::write_inner;
 use std::alloc::{AllocError, Allocator};
 
 /// Why a text was not escaped.
 #[derive(Debug, Clone, Copy, PartialEq, Eq)]
-pub(crate) enum Refusal {
+pub enum Refusal {
+    /// The scratch bound of the text passes `usize::MAX`.
     TooLarge,
+    /// The reservation of the scratch bound was refused.
     OutOfMemory,
 }
 
@@ -34,7 +42,7 @@ impl From<AllocError> for Refusal {
 }
 
 /// How many bytes a target must have for a text of `len` bytes, where a `usize` can tell.
-pub(crate) fn scratch_bound<const MODE: u8>(len: usize) -> Option<usize>
+pub fn scratch_bound<const MODE: u8>(len: usize) -> Option<usize>
     ensures fits { IfSome result (λ n. n ≡ bound (mode_numbered MODE) len) }
     ensures passes { IsNone result ↔ (usize.MAX < bound (mode_numbered MODE) len) }
 {
@@ -61,8 +69,18 @@ fn push_quote<const MODE: u8, A: Allocator>(dst: &mut Vec<u8, A>)
     };
 }
 
-/// Appends the output for the text.
-pub(crate) fn append<const MODE: u8, A: Allocator>(
+/// Appends the output for the text to `dst`, whatever bytes `dst` holds.
+///
+/// It asks the allocator of `dst` for room for [`scratch_bound`] bytes past those of `dst` where `dst` has
+/// less, and for no memory where it has that.
+///
+/// # Errors
+///
+/// - [`Refusal::TooLarge`]: the scratch bound passes `usize::MAX`.
+/// - [`Refusal::OutOfMemory`]: the request was refused.
+///
+/// `dst` then holds its old bytes.
+pub fn append<const MODE: u8, A: Allocator>(
     value: &str,
     dst: &mut Vec<u8, A>,
 ) -> Result<(), Refusal>

@@ -20,5 +20,6 @@ mod vector;
 
 pub(crate) use ahead::{are_three_clean, count_flagged, load_at, load_masked};
 pub(crate) use body::{escape_at, escape_few_at};
-pub(crate) use classify::{HTML_MODE, JSON_MODE, SCRIPT_MODE, Vector};
+pub(crate) use classify::Vector;
+pub use classify::{HTML_MODE, JSON_MODE, SCRIPT_MODE};
 pub use escape_lanes::simd::{BitMask, Flags, LaneMask, LoadLast, Mask, Simd, bits, target};

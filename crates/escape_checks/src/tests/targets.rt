@@ -4,15 +4,18 @@
 use crate::plain::plain;
 use crate::tests::rationed::Rationed;
 use crate::tests::texts::repeated;
-use escape_simd::html::{
-    self, EscapeHtmlError, escape_html_into_string, escape_html_joined_into, escape_html_to_writer,
-};
-use escape_simd::json::{
-    self, EscapeError, escape_array_into, escape_into_string, escape_joined_into,
-    escape_script_array_into, escape_script_into_string, escape_script_to_writer, escape_to_writer,
-};
-use escape_simd::{Kernel, ListError, format_html_str, format_json_str, format_script_str};
+use escape_simd::html::EscapeHtmlError;
+use escape_simd::json::EscapeError;
+use escape_simd::{Kernel, format_html_str, format_json_str, format_script_str};
 use escape_stream::Mode;
+use escape_text::ListError;
+use escape_text::html::{
+    self, escape_html_into_string, escape_html_joined_into, escape_html_to_writer,
+};
+use escape_text::json::{
+    self, escape_array_into, escape_into_string, escape_joined_into, escape_script_array_into,
+    escape_script_into_string, escape_script_to_writer, escape_to_writer,
+};
 use std::alloc::Global;
 use std::test::Fail;
 

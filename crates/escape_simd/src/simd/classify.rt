@@ -10,13 +10,13 @@ use escape_lanes::simd::Flags;
 use escape_lanes::simd::target::{Target, Ticks};
 
 /// The body's number for a JSON string literal.
-pub(crate) const JSON_MODE: u8 = 0;
+pub const JSON_MODE: u8 = 0;
 
 /// The body's number for HTML.
-pub(crate) const HTML_MODE: u8 = 1;
+pub const HTML_MODE: u8 = 1;
 
 /// The body's number for a JSON string literal that can stand in a script element.
-pub(crate) const SCRIPT_MODE: u8 = 2;
+pub const SCRIPT_MODE: u8 = 2;
 
 /// A vector of `N` bytes, as the body loads, classifies and stores it.
 ///

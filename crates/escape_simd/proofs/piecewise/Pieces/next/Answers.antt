@@ -1,8 +1,0 @@
-use Rattle.std.proofs.Common.{rules}
-use Rattle.escape_simd.specs.Modes.{mode_numbered}
-use Rattle.escape_simd.proofs.ToWrite.{rest_to_write-piece}
-use Rattle.escape_simd.proofs.piecewise.Pieces.next.Goals as goal
-
-pub returns-clause-piece : goal.returns-clause-piece
-returns-clause-piece g c =
-    rw c.if-self.false (rest_to_write-piece (mode_numbered g.row.MODE) c.args.self.now.begun c.is_empty-last.result _ _ _ _ c.escape_piece.ensures c.split_piece.ensures.joined c.split_piece.ensures.cut (λ last. search rules))

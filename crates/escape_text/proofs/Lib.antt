@@ -1,0 +1,2 @@
+pub mod ToWrite
+pub mod WriterLemmas

@@ -1,0 +1,27 @@
+//! HTML to a formatter.
+use crate::adapter::display;
+use escape_simd::simd::HTML_MODE;
+use std::fmt;
+
+/// A text as HTML for `write!`, `print!` and `format!`.
+///
+/// `{}` writes what [`escape_html`](escape_simd::html::escape_html) answers, through an array of 1.5
+/// KiB: no memory is asked for, and no text is too large. Width and fill are not applied.
+///
+/// ```text
+/// write!(page, "<p title=\"{}\">", Escaped("a \"b\""))?; // <p title="a &quot;b&quot;">
+/// ```
+#[derive(Debug, Clone, Copy, PartialEq, Eq)]
+pub struct Escaped<'a>(pub &'a str);
+
+impl fmt::Display for Escaped<'_> {
+    ghost use Rattle.std.specs.Prelude.{Some};
+    ghost use Rattle.escape_lanes.specs.Mode.{html};
+    ghost use Rattle.escape_simd.specs.Output.{plain};
+
+    ghost output = { λ escaped. Some (plain html escaped.0.now) };
+
+    fn fmt<W: fmt::Write>(&self, f: &mut fmt::Formatter<W>) -> fmt::Result {
+        display::<{ HTML_MODE }, W>(self.0, f)
+    }
+}

@@ -1,0 +1,25 @@
+//! Escaped text where it goes: to `write!` and `format!`, to writers, onto `String`s, and many texts at
+//! once.
+//!
+//! [`json::Escaped`], [`json::EscapedScript`] and [`html::Escaped`] are for `write!`, `print!` and
+//! `format!`; [`json::escape_to_writer`] and its kin write to an `io::Write`. Both ask for no memory:
+//! the output is made in an array, piece by piece. [`json::escape_into_string`] and its kin append to
+//! a `String`. [`json::escape_array_into`] and [`json::escape_joined_into`] append many texts to a
+//! vector. What each output is, `escape_simd` says.
+//!
+//! ```text
+//! write!(page, "<p title=\"{}\">", html::Escaped("a \"b\""))?; // <p title="a &quot;b&quot;">
+//! json::escape_to_writer("a\"b", &mut socket)?;                 // "a\"b"
+//! json::escape_array_into(&["a", "\n"], &mut dst)?;             // ["a","\n"]
+//! ```
+#![tactic(auto)]
+
+mod adapter;
+mod appended_text;
+pub mod html;
+pub mod json;
+mod list;
+mod piecewise;
+mod writer;
+
+pub use list::ListError;

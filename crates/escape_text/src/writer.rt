@@ -1,0 +1,51 @@
+//! The output for a text to a writer.
+ghost use Rattle.std.specs.Prelude.{OnOk, OnErr};
+ghost use Rattle.std.specs.Io.KnownBytes.{Appends};
+ghost use Rattle.escape_simd.specs.Modes.{mode_numbered};
+ghost use Rattle.escape_simd.specs.Output.{plain};
+ghost use Rattle.escape_text.specs.Writers.{AppendsBeginning};
+
+use crate::piecewise::{Pieces, ROOM};
+use std::io::{ErrorKind, Result, Write};
+
+/// Writes the output for the text, and does not flush.
+pub(crate) fn write_output<const MODE: u8, W: Write>(value: &str, writer: &mut W) -> Result<()>
+    ensures whole { OnOk result (Appends (W.contents writer.old) (W.contents writer.new)
+        (plain (mode_numbered MODE) value.now)) }
+    ensures beginning { OnErr result (AppendsBeginning (W.contents writer.old)
+        (W.contents writer.new) (plain (mode_numbered MODE) value.now)) }
+{
+    let mut room = [0; ROOM];
+    let mut pieces = Pieces::of(value);
+    'pieces: while let Some(piece) = pieces.next::<MODE>(&mut room) {
+        write_whole(piece.as_bytes(), writer)?;
+    }
+    Ok(())
+}
+
+/// Writes all the bytes. A write that was interrupted is tried again.
+///
+/// `Write::write_all` says nothing of the writer after an error.
+fn write_whole<W: Write>(bytes: &[u8], writer: &mut W) -> Result<()>
+    ensures whole { OnOk result
+        (Appends (W.contents writer.old) (W.contents writer.new) bytes.now) }
+    ensures beginning { OnErr result
+        (AppendsBeginning (W.contents writer.old) (W.contents writer.new) bytes.now) }
+{
+    let mut written = 0;
+    'writes: for _try in 0..u64::MAX {
+        if written >= bytes.len() {
+            return Ok(());
+        }
+        match writer.write(&bytes[written..]) {
+            Ok(0) => return Err(ErrorKind::WriteZero.into()),
+            Ok(count) => written += count,
+            Err(error) => {
+                if error.kind() != ErrorKind::Interrupted {
+                    return Err(error);
+                }
+            }
+        }
+    }
+    Err(ErrorKind::Interrupted.into())
+}

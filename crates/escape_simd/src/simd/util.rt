@@ -1,111 +1,18 @@
 //! The run of escapes.
-ghost use Rattle.std.specs.Prelude.{◌≡◌, ℕ, ◌+◌, ◌-◌, ◌*◌, ◌<◌, ◌≤◌, ◌++◌, Bool, true, false, ◌&&◌, nat_lt, IsTrue, ◌==◌, codes, if◌then◌else◌, length, take, drop, slice_index, slice_index_or, slice_range};
-ghost use Rattle.escape_lanes.specs.Mode.{mode_of, script};
+ghost use Rattle.std.specs.Prelude.{◌≡◌, ℕ, ◌+◌, ◌-◌, ◌*◌, ◌<◌, ◌≤◌, ◌++◌, true, false, IsTrue, length, take, drop, slice_index, slice_range};
+ghost use Rattle.escape_lanes.specs.Mode.{mode_of};
 ghost use Rattle.escape_lanes.specs.Replacement.{needs_escape};
-ghost use Rattle.escape_lanes.specs.Entry.{entry_count, entry_bytes, padded};
 ghost use Rattle.escape_lanes.specs.Written.{bytes_of, stored_of, escaped_of, quotes_of, IsSameSlice};
 ghost use Rattle.escape_simd.specs.Modes.{mode_numbered};
-ghost use Rattle.escape_simd.specs.Output.{inner, passed, begins_separator};
+ghost use Rattle.escape_simd.specs.Output.{inner, passed};
 ghost use Rattle.escape_simd.specs.Runs.{run_count, run_count_after};
 ghost use Rattle.escape_simd.specs.Stretch.{Stretch, run_end, rest_length, IsByteWise, CanRun, look_ahead, run_reach};
 
 use crate::simd::classify::{HTML_MODE, JSON_MODE, SCRIPT_MODE};
+use crate::simd::entry::{entry, is_separator, separator_entry};
+use crate::simd::places::{ByTable, Flagged};
 use crate::simd::source::Source;
-use escape_lanes::simd::LaneMask;
 use escape_lanes::simd::target::Target;
-use escape_lanes::tables::{
-    LINE_SEPARATOR, PARAGRAPH_SEPARATOR, html_entry, json_entry, script_entry,
-};
-
-/// Says at which places of a text a run of escapes goes on.
-pub(crate) trait Flagged {
-    ghost flagged: { Self → ℕ → Bool };
-
-    // Where it may be asked.
-    ghost asks: { Self → ℕ → Type 0 };
-
-    fn is_flagged(&self, at: usize) -> bool
-        requires { asks self.now at }
-        ensures { result ≡ flagged self.now at };
-}
-
-/// By a bit mask, whose first lane is that of the place `first`.
-#[derive(Drop)]
-pub(crate) struct ByMask<'a, M> {
-    pub mask: &'a M,
-    pub first: usize,
-}
-
-impl<M: LaneMask> Flagged for ByMask<'_, M> {
-    ghost flagged = { λ m at. slice_index_or (M.bits m.mask.now) (at - m.first) false };
-
-    ghost asks = { λ m at. (m.first ≤ at) × (at < m.first + 2 * M.LEN) };
-
-    #[inline(always)]
-    fn is_flagged(&self, at: usize) -> bool {
-        self.mask.is_set(at - self.first)
-    }
-}
-
-/// By the table of the mode numbered `MODE`.
-#[derive(Drop)]
-pub(crate) struct ByTable<'a, const MODE: u8> {
-    pub text: &'a [u8],
-}
-
-impl<const MODE: u8> Flagged for ByTable<'_, MODE> {
-    ghost flagged = { λ t at. nat_lt at (length t.text.now) && needs_escape (mode_numbered MODE) (slice_index t.text.now at) };
-
-    ghost asks = { λ t at. Unit {0} };
-
-    #[inline(always)]
-    fn is_flagged(&self, at: usize) -> bool {
-        at < self.text.len() && entry::<MODE>(self.text[at]).0 != 0
-    }
-}
-
-/// How many bytes stand for the byte, 0 where it stands for itself, and these bytes with zeros
-/// after them.
-#[inline(always)]
-fn entry<const MODE: u8>(b: u8) -> &'static (u8, [u8; 8])
-    ensures count { result.now.0 ≡ entry_count (mode_numbered MODE) b }
-    ensures bytes { result.now.1 ≡ entry_bytes (mode_numbered MODE) b }
-{
-    if MODE == JSON_MODE {
-        json_entry(b)
-    } else if MODE == HTML_MODE {
-        html_entry(b)
-    } else {
-        script_entry(b)
-    }
-}
-
-/// Whether a separator begins at `at`: e2 80 a8 or e2 80 a9.
-#[inline(always)]
-fn is_separator(source: &Source<'_>, at: usize) -> bool
-    requires after { source.now.base ≤ at }
-    requires held { at + 2 < source.now.base + length source.now.bytes.now }
-    ensures { result ≡ begins_separator (drop at source.now.text.now) }
-{
-    if source.byte(at) != 0xe2 {
-        return false;
-    }
-    let (second, third) = (source.byte(at + 1), source.byte(at + 2));
-    second == 0x80 && (third == 0xa8 || third == 0xa9)
-}
-
-/// What stands for the separator with this third byte.
-#[inline(always)]
-fn separator_entry(third: u8) -> &'static [u8; 8]
-    ensures { result.now
-        ≡ padded (if third == 0xa8 then codes "\\u2028" else codes "\\u2029") }
-{
-    if third == 0xa8 {
-        &LINE_SEPARATOR
-    } else {
-        &PARAGRAPH_SEPARATOR
-    }
-}
 
 /// Writes what stands for the byte at `at`, or for the separator that begins with it. Answers the
 /// places after both.

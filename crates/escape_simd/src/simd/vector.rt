@@ -6,8 +6,9 @@ ghost use Rattle.escape_simd.specs.Runs.{run_count};
 ghost use Rattle.escape_simd.specs.Stretch.{Stretch, IsVectorAt, Turned, Passed};
 
 use crate::simd::classify::{Vector, store};
+use crate::simd::places::ByMask;
 use crate::simd::source::Source;
-use crate::simd::util::{ByMask, run};
+use crate::simd::util::run;
 use escape_lanes::simd::target::{Target, Ticks};
 use escape_lanes::simd::{BitMask, Flags, LaneMask};
 

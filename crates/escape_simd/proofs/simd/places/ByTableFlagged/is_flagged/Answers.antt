@@ -6,7 +6,7 @@ use Rattle.escape_lanes.specs.Replacement.{needs_escape}
 use Rattle.escape_lanes.specs.Entry.{entry_count}
 use Rattle.escape_lanes.proofs.EntryLemmas.{entry_count-clean, clean_from_count, fewest, one≤fewest, fewest≤entry_count}
 use Rattle.escape_simd.specs.Modes.{mode_numbered}
-use Rattle.escape_simd.proofs.simd.util.ByTableFlagged.is_flagged.Goals as goal
+use Rattle.escape_simd.proofs.simd.places.ByTableFlagged.is_flagged.Goals as goal
 
 -- an entry has a count exactly where the byte needs an escape
 counted : (mode : Mode) (b count at n : ℕ) → at < n → count ≡ entry_count mode b → not (nat_eq count 0) ≡ nat_lt at n && needs_escape mode b

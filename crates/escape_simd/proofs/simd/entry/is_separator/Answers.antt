@@ -1,7 +1,7 @@
 use Rattle.std.proofs.Common.{◌≡◌, ◌+◌, Bool, true, false, ◌&&◌, ◌||◌, ◌==◌, arith, sym, ap, ◌∙◌}
 use Rattle.std.proofs.lemmas.Bool.Decides.{nat_tests}
 use Rattle.escape_simd.proofs.Escapes.{begins-at}
-use Rattle.escape_simd.proofs.simd.util.is_separator.Goals as goal
+use Rattle.escape_simd.proofs.simd.entry.is_separator.Goals as goal
 
 pub returns-then-byte : goal.returns-then-byte
 returns-then-byte c = let e = begins-at c.args.source.now.text.now c.args.at in grind (arith, nat_tests, e, c.byte.ensures)

@@ -4,10 +4,14 @@ use Rattle.escape_lanes.specs.Mode.{Mode}
 use Rattle.escape_lanes.specs.Written.{bytes_of}
 use Rattle.escape_lanes.specs.declared.simd.target.Target.{Target}
 use Rattle.escape_simd.specs.Formatted.{IsInnerWritten}
-use Rattle.escape_simd.specs.Stretch.{Stretch, rest_length, rest_slack}
-use Rattle.escape_simd.proofs.Stretches.{drop_further, rest-is}
+use Rattle.escape_simd.specs.Stretch.{Stretch, rest_length, room_from, rest_slack}
+use Rattle.escape_simd.proofs.Stretches.{drop_further, rest-is, rest-bounds}
 use Rattle.escape_simd.proofs.Texts.{length-inner}
 use Rattle.escape_simd.proofs.Whole.{all-written, all-end, slack-most}
+
+-- the room that it may need
+pub inner_room : (mode : Mode) (text : List ℕ) (to n : ℕ) → to + 6 * length text + 32 ≤ n → to + room_from mode text 0 ≤ n
+inner_room mode text to n room = let most = (rest-bounds mode text 0).1 in omega (arith, most, room)
 
 -- a stretch of the whole text from the target's front on
 pub inner_written : {N : ℕ} {mode : Mode} {exact : Bool} {text : List ℕ} {old new : Target N} {count : ℕ} → Stretch mode (rest_slack exact N) text old new 0 (length text) 0 count → (exact ≡ false → N ≤ 32) → 8 ≤ N

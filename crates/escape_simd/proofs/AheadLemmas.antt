@@ -1,5 +1,5 @@
 -- What masks tell of a text before it is written: its clean front, and how many bytes need an escape.
-use Rattle.std.proofs.Common.{◌≡◌, ℕ, zero, suc, ◌+◌, ◌-◌, ◌*◌, ◌<◌, ◌≤◌, Bool, true, false, cond, List, [], ◌∷◌, ◌++◌, length, take, drop, get_or, map, replicate, refl, sym, ap, ◌∙◌, arith, inl, inr, length-append, length-drop, length-take, length-take-le}
+use Rattle.std.proofs.Common.{◌≡◌, ℕ, zero, suc, ◌+◌, ◌-◌, ◌*◌, ◌<◌, ◌≤◌, Bool, true, false, cond, List, [], ◌∷◌, ◌++◌, length, take, drop, slice_range, get_or, map, replicate, refl, sym, ap, ◌∙◌, arith, inl, inr, length-append, length-drop, length-take, length-take-le}
 use Rattle.std.specs.List.{count_by}
 use Rattle.std.proofs.Math.Seq.{take-add}
 use Rattle.std.proofs.lemmas.Bool.{cases_Bool}
@@ -158,6 +158,15 @@ unmasked mode src n bits is none =
 -- no more than there are bytes
 pub count-few : (f : ℕ → Bool) (xs : List ℕ) (n : ℕ) → count_by f (take n xs) ≤ length xs
 count-few f xs n = let c = count_by-le-length f (take n xs) in let l = length-take n xs in omega (arith, c, l)
+
+-- those of a text are those of its front and of what is left
+pub count-front : (f : ℕ → Bool) (xs : List ℕ) (n : ℕ) → count_by f xs ≡ count_by f (take n xs) + count_by f (slice_range xs n (length xs))
+count-front f xs n =
+    let l = length-drop n xs in
+    let rest : slice_range xs n (length xs) ≡ drop n xs = take_all (length xs - n) (drop n xs) (omega (arith, l)) in
+    ap (count_by f) (sym (take-append-drop n xs))
+    ∙ sum_by-append (λ y. cond (f y) 1 0) (take n xs) (drop n xs)
+    ∙ ap (λ ys. count_by f (take n xs) + count_by f ys) (sym rest)
 
 -- clean bytes add nothing
 pub count-clean : (mode : Mode) (src : List ℕ) (at next : ℕ) → at ≤ next → IsCleanBetween mode src at next → next ≤ length src → count_by (needs_escape mode) (take next src) ≡ count_by (needs_escape mode) (take at src)

@@ -2,6 +2,9 @@
 use Rattle.std.proofs.Common.{◌≡◌, ℕ, ◌+◌, List, ◌++◌, Option, Result, Ok, Err, OnErr, take, drop, subst, sym, ap, ◌∙◌, take-add, take-append-drop, append_assoc}
 use Rattle.std.specs.Io.KnownBytes.{Appends}
 use Rattle.std.proofs.KnownBytes.{Appends-trans}
+use Rattle.escape_lanes.specs.Mode.{Mode}
+use Rattle.escape_simd.specs.Output.{plain, inner, quote_of}
+use Rattle.escape_simd.proofs.Whole.{plain-parts}
 use Rattle.escape_text.specs.Writers.{AppendsBeginning}
 
 -- the first of the bytes were written
@@ -13,6 +16,16 @@ pub Appends-more : (a b c : Option (List ℕ)) (bytes : List ℕ) (f n : ℕ)
     → Appends a b (take f bytes) → Appends b c (take n (drop f bytes)) → Appends a c (take (f + n) bytes)
 Appends-more a b c bytes f n before write =
     subst (Appends a c) (sym (take-add f n bytes)) (Appends-trans a b c (take f bytes) (take n (drop f bytes)) before write)
+
+-- a beginning of the first piece
+pub beginning-first : (a b : Option (List ℕ)) (all piece more : List ℕ) → piece ++ more ≡ all → AppendsBeginning a b piece → AppendsBeginning a b all
+beginning-first a b all piece more same first =
+    record {
+      written = first.written;
+      lost = first.lost ++ more;
+      whole = sym same ∙ ap (λ xs. xs ++ more) first.whole ∙ append_assoc first.written first.lost more;
+      appended = first.appended;
+    }
 
 -- what was written before, and a beginning of a piece
 pub beginning-after : (a b c : Option (List ℕ)) (all done piece more : List ℕ) → done ++ (piece ++ more) ≡ all
@@ -30,3 +43,13 @@ beginning-after a b c all done piece more same before piece_written =
 pub after_error : {T E : Type 0} (r : Result T E) (P : Type 0) → P → OnErr r P
 after_error (Ok _) P p = tt
 after_error (Err _) P p = p
+
+-- what follows from what holds after an error
+pub after_error-map : {T E : Type 0} (r : Result T E) (P Q : Type 0) → (P → Q) → OnErr r P → OnErr r Q
+after_error-map (Ok _) P Q f p = tt
+after_error-map (Err _) P Q f p = f p
+
+-- the output for a text that stands for itself
+pub plain-itself : (mode : Mode) (text : List ℕ) → inner mode text ≡ text → quote_of mode ++ (text ++ quote_of mode) ≡ plain mode text
+plain-itself mode text same =
+    sym (plain-parts mode text ∙ ap (λ xs. (quote_of mode ++ xs) ++ quote_of mode) same ∙ append_assoc (quote_of mode) text (quote_of mode))

@@ -3,8 +3,8 @@ ghost use Rattle.std.specs.Prelude.{◌≡◌, ◌+◌, ◌<◌, ◌≤◌, ◌�
 ghost use Rattle.escape_simd.specs.Modes.{mode_numbered};
 ghost use Rattle.escape_simd.specs.Output.{plain, bound};
 
-use crate::piecewise::{Pieces, ROOM};
-use escape_simd::output::{Refusal, scratch_bound};
+use crate::piecewise::{Pieces, ROOM, quote};
+use escape_simd::output::{Refusal, scratch_bound, stands_for_itself};
 use std::alloc::Allocator;
 
 /// Appends the output for the text.
@@ -24,11 +24,38 @@ pub(crate) fn append_text<const MODE: u8, A: Allocator>(
         return Err(Refusal::TooLarge);
     };
     dst.reserve(scratch)?;
-    append_pieces::<MODE, A>(value, dst);
+    append_output::<MODE, A>(value, dst);
     Ok(())
 }
 
-/// Appends the output for the text to a string that has room for it.
+/// Appends the text to a string that has room for it.
+fn push_text<A: Allocator>(text: &str, dst: &mut String<A>)
+    requires { string_len dst.old + length text.now ≤ string_capacity dst.old }
+    ensures text { string_bytes dst.new ≡ string_bytes dst.old ++ text.now }
+    ensures capacity { string_capacity dst.old ≤ string_capacity dst.new }
+{
+    let Ok(()) = dst.push_str(text) else {
+        unreachable!()
+    };
+}
+
+/// Appends the output for the text to a string that has room for it. A text that stands for itself takes
+/// no array.
+fn append_output<const MODE: u8, A: Allocator>(value: &str, dst: &mut String<A>)
+    requires { string_len dst.old + bound (mode_numbered MODE) (length value.now)
+        ≤ string_capacity dst.old }
+    ensures { string_bytes dst.new
+        ≡ string_bytes dst.old ++ plain (mode_numbered MODE) value.now }
+{
+    if !stands_for_itself::<MODE>(value) {
+        return append_pieces::<MODE, A>(value, dst);
+    }
+    push_text(quote::<MODE>(), dst);
+    push_text(value, dst);
+    push_text(quote::<MODE>(), dst);
+}
+
+/// The same piece by piece, each made in an array.
 fn append_pieces<const MODE: u8, A: Allocator>(value: &str, dst: &mut String<A>)
     requires { string_len dst.old + bound (mode_numbered MODE) (length value.now)
         ≤ string_capacity dst.old }
@@ -38,8 +65,6 @@ fn append_pieces<const MODE: u8, A: Allocator>(value: &str, dst: &mut String<A>)
     let mut room = [0; ROOM];
     let mut pieces = Pieces::of(value);
     'pieces: while let Some(piece) = pieces.next::<MODE>(&mut room) {
-        let Ok(()) = dst.push_str(piece) else {
-            unreachable!()
-        };
+        push_text(piece, dst);
     }
 }

@@ -2,7 +2,7 @@
 ghost use Rattle.std.specs.Prelude.{◌≡◌, ◌+◌, ◌*◌, ◌<◌, ◌≤◌, ◌++◌, [], length, take, IsUtf8, IfSome, IsNone, IsSome};
 ghost use Rattle.escape_lanes.specs.Mode.{Mode};
 ghost use Rattle.escape_simd.specs.Modes.{mode_numbered};
-ghost use Rattle.escape_simd.specs.Output.{plain, inner};
+ghost use Rattle.escape_simd.specs.Output.{plain, inner, quote_of};
 ghost use Rattle.escape_text.specs.ToWrite.{quote_if, to_write, pieces_left};
 
 use escape_simd::output::write_inner;
@@ -84,6 +84,14 @@ fn escape_piece<'r, const MODE: u8>(
     let close = quote_at::<MODE>(last, room, end);
     // The output for a text is a text.
     unsafe { str::from_utf8_unchecked(&room[..close]) }
+}
+
+/// What stands before and after an output: a quotation mark in JSON, also in script mode, and nothing in
+/// HTML.
+pub(crate) fn quote<const MODE: u8>() -> &'static str
+    ensures { result.now ≡ quote_of (mode_numbered MODE) }
+{
+    if MODE == HTML_MODE { "" } else { "\"" }
 }
 
 /// Writes a quotation mark to `room` where one is wanted, and the mode has any. Answers the place after

@@ -5,11 +5,27 @@ ghost use Rattle.escape_simd.specs.Modes.{mode_numbered};
 ghost use Rattle.escape_simd.specs.Output.{plain};
 ghost use Rattle.escape_text.specs.Writers.{AppendsBeginning};
 
-use crate::piecewise::{Pieces, ROOM};
+use crate::piecewise::{Pieces, ROOM, quote};
+use escape_simd::output::stands_for_itself;
 use std::io::{ErrorKind, Result, Write};
 
-/// Writes the output for the text, and does not flush.
+/// Writes the output for the text, and does not flush. A text that stands for itself takes no array.
 pub(crate) fn write_output<const MODE: u8, W: Write>(value: &str, writer: &mut W) -> Result<()>
+    ensures whole { OnOk result (Appends (W.contents writer.old) (W.contents writer.new)
+        (plain (mode_numbered MODE) value.now)) }
+    ensures beginning { OnErr result (AppendsBeginning (W.contents writer.old)
+        (W.contents writer.new) (plain (mode_numbered MODE) value.now)) }
+{
+    if !stands_for_itself::<MODE>(value) {
+        return write_pieces::<MODE, W>(value, writer);
+    }
+    write_whole(quote::<MODE>().as_bytes(), writer)?;
+    write_whole(value.as_bytes(), writer)?;
+    write_whole(quote::<MODE>().as_bytes(), writer)
+}
+
+/// The same piece by piece, each made in an array.
+fn write_pieces<const MODE: u8, W: Write>(value: &str, writer: &mut W) -> Result<()>
     ensures whole { OnOk result (Appends (W.contents writer.old) (W.contents writer.new)
         (plain (mode_numbered MODE) value.now)) }
     ensures beginning { OnErr result (AppendsBeginning (W.contents writer.old)

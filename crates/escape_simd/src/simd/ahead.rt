@@ -127,3 +127,19 @@ pub(crate) fn count_flagged<V: Vector<N>, const MODE: u8, const N: usize>(src: &
     }
     count + load_masked::<V, MODE, N>(src, left).1.count_set()
 }
+
+/// Whether no byte of the text needs an escape. Where four vectors have one, the rest is not asked.
+#[inline(always)]
+pub(crate) fn is_clean<V: Vector<N>, const MODE: u8, const N: usize>(src: &[u8]) -> bool
+    ensures clean { result ≡ true → count_by (needs_escape (mode_numbered MODE)) src.now ≡ 0 }
+    ensures flagged { result ≡ false → 0 < count_by (needs_escape (mode_numbered MODE)) src.now }
+{
+    let mut at = 0;
+    'chunks: while 4 * N <= src.len() - at {
+        if count_four::<V, MODE, N>(src, at) != 0 {
+            return false;
+        }
+        at += 4 * N;
+    }
+    count_flagged::<V, MODE, N>(&src[at..]) == 0
+}

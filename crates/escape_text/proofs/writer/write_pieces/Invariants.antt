@@ -4,7 +4,7 @@ use Rattle.std.specs.Io.KnownBytes.{Appends}
 use Rattle.escape_simd.specs.Modes.{mode_numbered}
 use Rattle.escape_simd.specs.Output.{plain}
 use Rattle.escape_text.specs.ToWrite.{to_write, pieces_left}
-use Rattle.escape_text.proofs.writer.write_output.Given as goal
+use Rattle.escape_text.proofs.writer.write_pieces.Given as goal
 
 abbrev pub invariant-pieces : goal.invariant-pieces
 invariant-pieces g l = (done : List ℕ) × Appends (g.W.Write.contents l.initial.writer) (g.W.Write.contents l.writer) done

@@ -1,6 +1,6 @@
 use Rattle.std.proofs.Common.{◌++◌, List, ℕ, append_assoc, sym, ap, ◌∙◌, rules}
 use Rattle.std.proofs.Output.{has_written_append}
-use Rattle.escape_text.proofs.adapter.display.Goals as goal
+use Rattle.escape_text.proofs.adapter.display_pieces.Goals as goal
 
 pub pieces-preserved : goal.pieces-preserved
 pieces-preserved g c = λ plain.

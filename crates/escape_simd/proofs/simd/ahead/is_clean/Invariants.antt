@@ -1,0 +1,15 @@
+use Rattle.std.proofs.Common.{◌≡◌, ◌-◌, ◌≤◌, length, take}
+use Rattle.std.specs.List.{count_by}
+use Rattle.escape_lanes.specs.Replacement.{needs_escape}
+use Rattle.escape_simd.specs.Modes.{mode_numbered}
+use Rattle.escape_simd.proofs.simd.ahead.is_clean.Given as goal
+
+-- none was found
+abbrev pub invariant-chunks : goal.invariant-chunks
+invariant-chunks g l = record {
+  inside : l.at ≤ length l.src;
+  none : count_by (needs_escape (mode_numbered g.row.MODE)) (take l.at l.src) ≡ 0;
+}
+
+abbrev pub decreases-chunks : goal.decreases-chunks
+decreases-chunks g l = length l.src - l.at

@@ -6,13 +6,13 @@ use Rattle.std.proofs.lemmas.Bool.{cases_Bool}
 use Rattle.std.proofs.lemmas.Bool.Decides.{leb_tells}
 use Rattle.std.proofs.lemmas.List.{length-map, get_or-take, get_or-drop, get_or-map, get_or_append_left, take-append-drop, take_all, append-nil}
 use Rattle.std.proofs.lemmas.List.Sums.{sum_by-append, count_by-le-length}
-use Rattle.escape_lanes.specs.Bits.{first_set, none_set}
+use Rattle.escape_lanes.specs.Bits.{none_set}
 use Rattle.escape_lanes.specs.Mode.{Mode, json, html, script, mode_of}
 use Rattle.escape_lanes.specs.Replacement.{needs_escape, replacement}
 use Rattle.escape_simd.specs.Ahead.{IsCleanBetween}
 use Rattle.escape_simd.specs.Output.{inner, passed, first_replacement, begins_separator, script_inner_after}
 use Rattle.escape_simd.specs.Stretch.{rest_length}
-use Rattle.escape_simd.proofs.Lanes.{first_set-before, none_set-at}
+use Rattle.escape_simd.proofs.Lanes.{none_set-at}
 use Rattle.escape_simd.proofs.ReplacementLemmas.{replacement-clean, length-replacement, inner-nil}
 use Rattle.escape_simd.proofs.Stretches.{rest-is}
 use Rattle.escape_simd.proofs.Texts.{inner-clean, length-separator, no_separator}

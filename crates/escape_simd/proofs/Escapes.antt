@@ -1,11 +1,9 @@
 -- What one escape writes, and how far a run of escapes goes.
-use Rattle.std.proofs.Common.{◌≡◌, ℕ, zero, suc, ◌+◌, ◌-◌, ◌<◌, ◌≤◌, Bool, true, false, ◌&&◌, ◌||◌, ◌==◌, nat_lt, List, [], ◌∷◌, ◌++◌, length, take, drop, get_or, refl, sym, ap, ◌∙◌, arith, inl, inr}
-use Rattle.std.proofs.lemmas.Bool.{cases_Bool}
+use Rattle.std.proofs.Common.{◌≡◌, ℕ, zero, suc, ◌+◌, ◌<◌, ◌≤◌, false, ◌&&◌, ◌||◌, ◌==◌, List, drop, get_or, refl, ap, ◌∙◌, arith}
 use Rattle.std.proofs.lemmas.List.{get_or-drop}
 use Rattle.escape_lanes.specs.Mode.{Mode, json, html, script}
-use Rattle.escape_lanes.specs.Replacement.{needs_escape, replacement}
-use Rattle.escape_lanes.specs.Entry.{padded, entry_count, entry_bytes}
-use Rattle.escape_lanes.proofs.EntryLemmas.{fewest, fewest≤entry_count, entry_count≤six, take-entry_bytes}
+use Rattle.escape_lanes.specs.Replacement.{replacement}
+use Rattle.escape_lanes.proofs.EntryLemmas.{fewest}
 use Rattle.escape_simd.specs.Modes.{mode_numbered}
 use Rattle.escape_simd.specs.Output.{begins_separator, passed, first_replacement}
 use Rattle.escape_simd.specs.Stretch.{IsByteWise, run_reach}

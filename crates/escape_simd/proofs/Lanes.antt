@@ -1,8 +1,7 @@
 -- What a mask tells of the text that its vector holds.
-use Rattle.std.proofs.Common.{◌≡◌, ℕ, zero, suc, ◌+◌, ◌-◌, ◌*◌, ◌<◌, ◌≤◌, Bool, true, false, true≢false, ◌||◌, List, [], ◌∷◌, ◌++◌, length, take, drop, get_or, map, replicate, refl, sym, ap, ◌∙◌, arith, subst, length-take-le, length-drop, inl, inr}
-use Rattle.std.proofs.lemmas.Bool.{cases_Bool}
+use Rattle.std.proofs.Common.{◌≡◌, ℕ, zero, suc, ◌+◌, ◌-◌, ◌*◌, ◌<◌, ◌≤◌, Bool, true, false, true≢false, ◌||◌, List, [], ◌∷◌, length, take, drop, get_or, map, replicate, refl, sym, ap, ◌∙◌, arith, length-take-le, length-drop, inl, inr}
 use Rattle.std.proofs.lemmas.Bool.Decides.{leb_tells}
-use Rattle.std.proofs.lemmas.List.{length-map, get_or-take, get_or-drop, get_or-map, get_or_past, take-take, take_all, append-nil, get_or_append_left, get_or-append_right, get_or-replicate, length-replicate}
+use Rattle.std.proofs.lemmas.List.{length-map, get_or-take, get_or-drop, get_or-map, get_or_past, take_all, append-nil, get_or_append_left, get_or-append_right, get_or-replicate, length-replicate}
 use Rattle.std.specs.Simd.Lanes.{zip2}
 use Rattle.escape_lanes.specs.Bits.{first_set, none_set, clear_first, clear_last}
 use Rattle.escape_lanes.specs.Mode.{Mode, json, html, script}

@@ -1,15 +1,15 @@
 -- The laws as calls' clauses have them.
-use Rattle.std.proofs.Common.{◌≡◌, ℕ, zero, suc, ◌+◌, ◌-◌, ◌*◌, ◌<◌, ◌≤◌, true, List, [], ◌∷◌, ◌++◌, length, length-append, drop, IsUtf8, chars, encode_utf8, encode_utf8_all, flat_map, slice_index_or, codes, ◌==◌, append_assoc, refl, sym, ap, subst, ◌∙◌, arith, inl, inr}
+use Rattle.std.proofs.Common.{◌≡◌, ℕ, ◌<◌, true, List, [], ◌∷◌, ◌++◌, length, drop, IsUtf8, chars, encode_utf8, encode_utf8_all, flat_map, append_assoc, refl, sym, ap, subst, ◌∙◌, arith, inl, inr}
 use Rattle.std.specs.Str.{all_scalars}
 use Rattle.std.specs.Char.{IsScalar}
 use Rattle.std.proofs.Math.Utf8.{scalar}
 use Rattle.std.specs.List.{AllByRecursion}
-use Rattle.std.proofs.lemmas.Bool.{and_parts, cases_Bool, cond_both}
+use Rattle.std.proofs.lemmas.Bool.{and_parts, cases_Bool}
 use Rattle.std.proofs.lemmas.Bool.Decides.{nat_tests}
 use Rattle.std.proofs.lemmas.Str.{IsUtf8-append, IsUtf8-nil, IsUtf8-encode, encode_ascii, encodes-chars, scalars-chars}
 use Rattle.escape_lanes.specs.Mode.{Mode, json, html, script}
 use Rattle.escape_lanes.specs.Replacement.{replacement, needs_escape}
-use Rattle.escape_simd.specs.Output.{script_inner_after, first_replacement, passed, begins_separator, inner, plain, quoted, quote_of}
+use Rattle.escape_simd.specs.Output.{inner, plain, quoted, quote_of}
 use Rattle.escape_simd.specs.Html.{HtmlReads}
 use Rattle.escape_simd.specs.Json.{JsonDenotes}
 use Rattle.escape_simd.specs.Script.{is_script_marked}

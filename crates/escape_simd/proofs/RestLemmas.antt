@@ -1,8 +1,8 @@
 -- A text's last bytes: in a vector, and in memory with zeros after them.
-use Rattle.std.proofs.Common.{◌≡◌, ℕ, ◌+◌, ◌-◌, ◌*◌, ◌<◌, ◌≤◌, Bool, true, false, true≢false, List, [], ◌∷◌, ◌++◌, length, take, drop, get_or, replicate, refl, sym, ap, ◌∙◌, arith, inl, inr, length-append, length-drop}
+use Rattle.std.proofs.Common.{◌≡◌, ℕ, ◌+◌, ◌-◌, ◌<◌, ◌≤◌, Bool, true, false, true≢false, List, [], ◌++◌, length, take, drop, get_or, replicate, sym, ap, ◌∙◌, arith, inl, inr, length-drop}
 use Rattle.std.proofs.lemmas.Bool.Decides.{leb_tells}
 use Rattle.std.proofs.lemmas.List.{get_or_append_left, get_or-append_right, get_or-replicate, get_or_past, get_or-drop, length-replicate, take_at, take_all, append-nil}
-use Rattle.escape_simd.specs.Stretch.{rest_slack, stored_lanes}
+use Rattle.escape_simd.specs.Stretch.{rest_slack}
 
 -- n zeros
 abbrev pub zeros : ℕ → List ℕ

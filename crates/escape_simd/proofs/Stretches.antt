@@ -11,7 +11,7 @@ use Rattle.escape_lanes.specs.declared.simd.target.Target.{Target}
 use Rattle.escape_simd.specs.Output.{inner, passed, first_replacement}
 use Rattle.escape_simd.specs.Runs.{escaped_count, run_count}
 use Rattle.escape_simd.specs.Stretch.{Stretch, IsStored, IsByteWise, stored_lanes, rest_length}
-use Rattle.escape_simd.proofs.Texts.{IsClean, inner-clean, escaped_count-clean, run_count-clean, inner-here, escaped-here, length-inner, one≤passed, passed≤length, length-first}
+use Rattle.escape_simd.proofs.Texts.{IsClean, inner-clean, escaped_count-clean, run_count-clean, inner-here, escaped-here, length-inner, passed≤length, length-first}
 
 -- The rest of a text
 

@@ -1,8 +1,8 @@
 -- What a text still needs from a place on: its escaping, its escapes and its runs.
-use Rattle.std.proofs.Common.{◌≡◌, ℕ, zero, suc, ◌+◌, ◌-◌, ◌<◌, ◌≤◌, Bool, true, false, cond, ◌&&◌, ◌||◌, ◌==◌, not, List, [], ◌∷◌, ◌++◌, length, length-append, drop, get_or, slice_index_or, length-drop, ◌*◌, refl, sym, ap, ◌∙◌, arith, inl, inr, add-one, subst}
-use Rattle.std.proofs.lemmas.Bool.{cases_Bool, and_parts}
+use Rattle.std.proofs.Common.{◌≡◌, ℕ, zero, suc, ◌+◌, ◌-◌, ◌<◌, ◌≤◌, Bool, true, false, cond, ◌==◌, List, [], ◌∷◌, ◌++◌, length, length-append, drop, get_or, length-drop, ◌*◌, refl, sym, ap, ◌∙◌, arith, inl, inr, add-one}
+use Rattle.std.proofs.lemmas.Bool.{cases_Bool}
 use Rattle.std.proofs.lemmas.Bool.Decides.{nat_tests}
-use Rattle.std.proofs.lemmas.List.{drop-drop, drop_all, get_or_past}
+use Rattle.std.proofs.lemmas.List.{drop-drop, drop_all}
 use Rattle.std.proofs.lemmas.List.Sums.{sum_by-append, prefix_len-drop_yes, prefix_len-drop_no}
 use Rattle.std.proofs.Math.Seq.{drop-cons}
 use Rattle.escape_lanes.specs.Mode.{Mode, json, html, script}

@@ -1,5 +1,5 @@
 -- A whole text: its bytes between quotes.
-use Rattle.std.proofs.Common.{◌≡◌, ℕ, ◌+◌, ◌-◌, ◌*◌, ◌/◌, ◌<◌, ◌≤◌, Bool, true, false, List, [], ◌++◌, length, take, drop, refl, sym, ap, ◌∙◌, arith, length-append, length-take-le, le_refl}
+use Rattle.std.proofs.Common.{◌≡◌, ℕ, ◌+◌, ◌*◌, ◌/◌, ◌≤◌, Bool, true, false, List, [], ◌++◌, length, take, drop, refl, sym, ap, ◌∙◌, arith, length-append, length-take-le, le_refl}
 use Rattle.std.proofs.lemmas.List.{append-nil, drop_all}
 use Rattle.escape_lanes.specs.Mode.{Mode, json, html, script}
 use Rattle.escape_lanes.specs.Written.{bytes_of, stored_of, escaped_of, quotes_of, IsSameSlice}
@@ -8,7 +8,7 @@ use Rattle.escape_simd.specs.Output.{inner, plain, bound, quote_of, quote_count}
 use Rattle.escape_simd.specs.Runs.{escaped_count, run_count}
 use Rattle.escape_simd.specs.Stretch.{Stretch, rest_length, rest_slack}
 use Rattle.escape_simd.specs.Formatted.{IsWritten, IsFormatted}
-use Rattle.escape_simd.proofs.Stretches.{drop_further, rest-is, rest-bounds}
+use Rattle.escape_simd.proofs.Stretches.{drop_further, rest-is}
 use Rattle.escape_simd.proofs.ReplacementLemmas.{inner-nil}
 use Rattle.escape_simd.proofs.Texts.{escaped-empty, length-inner}
 

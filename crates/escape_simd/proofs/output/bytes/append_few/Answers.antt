@@ -1,5 +1,4 @@
-use Rattle.std.proofs.Common.{◌≡◌, ℕ, ◌+◌, ◌-◌, List, ◌++◌, length, take, drop, sym, ap, ◌∙◌, arith, take_all}
-use Rattle.std.proofs.lemmas.List.{append-nil}
+use Rattle.std.proofs.Common.{ℕ, ◌+◌, ◌-◌, List, ◌++◌, length, take, sym, ap, ◌∙◌, arith, take_all}
 use Rattle.escape_simd.specs.Modes.{mode_numbered}
 use Rattle.escape_simd.proofs.AheadLemmas.{standing}
 use Rattle.escape_simd.proofs.Pieces.{vector-over}

@@ -1,15 +1,11 @@
-use Rattle.std.proofs.Common.{◌≡◌, ◌+◌, ◌++◌, List, ℕ, length, take, drop, slice_range, ap, sym, ◌∙◌, arith, append-nil}
-use Rattle.std.proofs.lemmas.List.{take_at, take_all}
+use Rattle.std.proofs.Common.{◌≡◌, ◌+◌, ◌++◌, List, ℕ, length, take, slice_range, ap, sym, ◌∙◌, arith, append-nil}
+use Rattle.std.proofs.lemmas.List.{take_all}
 use Rattle.std.proofs.lemmas.List.Edits.{length-between}
 use Rattle.std.proofs.lemmas.Str.{IsCharBoundary-start}
-use Rattle.std.specs.List.{count_by}
-use Rattle.std.proofs.lemmas.List.Sums.{count_by-le-length}
-use Rattle.escape_lanes.specs.Replacement.{needs_escape}
 use Rattle.escape_simd.specs.Modes.{mode_numbered}
 use Rattle.escape_simd.specs.Output.{inner}
 use Rattle.escape_simd.proofs.ReplacementLemmas.{inner-nil}
 use Rattle.escape_simd.proofs.Texts.{length-inner}
-use Rattle.escape_simd.proofs.AheadLemmas.{counted-most, counted-room}
 use Rattle.escape_simd.proofs.Pieces.{cut-forward, piece-written}
 use Rattle.escape_simd.proofs.output.bytes.append_pieces.Goals as goal
 

@@ -1,4 +1,3 @@
-use Rattle.std.proofs.Common.{ap, ◌∙◌, sym}
 use Rattle.escape_simd.specs.Modes.{mode_numbered}
 use Rattle.escape_simd.proofs.AheadLemmas.{uncounted}
 use Rattle.escape_simd.proofs.output.inner.stands_for_itself.Goals as goal

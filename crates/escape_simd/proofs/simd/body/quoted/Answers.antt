@@ -1,11 +1,11 @@
-use Rattle.std.proofs.Common.{◌≡◌, ℕ, ◌+◌, ◌-◌, ◌*◌, ◌<◌, ◌≤◌, Bool, false, not, nat_eq, List, length, take, drop, refl, sym, ap, subst, ◌∙◌, arith}
+use Rattle.std.proofs.Common.{ℕ, ◌≤◌, not, nat_eq, List, length, sym, ap, subst, arith}
 use denote.Param.{number, value_of}
 use Rattle.escape_lanes.specs.Written.{bytes_of}
 use Rattle.escape_simd.specs.Modes.{mode_numbered}
 use Rattle.escape_simd.specs.Output.{bound}
 use Rattle.escape_simd.specs.Formatted.{IsFormatted}
 use Rattle.escape_simd.proofs.Stretches.{rest-bounds}
-use Rattle.escape_simd.proofs.Whole.{IsQuoted, whole_formatted, bound-quotes, quote-short, all-end}
+use Rattle.escape_simd.proofs.Whole.{IsQuoted, whole_formatted, bound-quotes, quote-short}
 use Rattle.escape_simd.proofs.simd.body.quoted.Goals as goal
 
 pub quote-open-requires : goal.quote-open-requires

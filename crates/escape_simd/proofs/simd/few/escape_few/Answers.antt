@@ -1,4 +1,4 @@
-use Rattle.std.proofs.Common.{◌≡◌, ℕ, ◌+◌, ◌-◌, ◌*◌, ◌/◌, ◌<◌, ◌≤◌, Bool, false, not, nat_eq, List, length, take, drop, refl, sym, ap, subst, ◌∙◌, arith}
+use Rattle.std.proofs.Common.{◌≡◌, ℕ, ◌+◌, ◌-◌, ◌*◌, ◌/◌, ◌<◌, ◌≤◌, not, nat_eq, List, length, drop, sym, ap, subst, arith}
 use denote.Param.{number, value_of}
 use Rattle.escape_lanes.specs.Written.{stored_of}
 use Rattle.escape_simd.specs.Modes.{mode_numbered}

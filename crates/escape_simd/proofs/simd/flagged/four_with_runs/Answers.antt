@@ -1,4 +1,4 @@
-use Rattle.std.proofs.Common.{◌≡◌, ℕ, ◌+◌, ◌-◌, ◌*◌, ◌≤◌, length, arith}
+use Rattle.std.proofs.Common.{arith}
 use Rattle.escape_simd.proofs.simd.flagged.four_with_runs.Goals as goal
 
 pub returns-clause-stored : goal.returns-clause-stored

@@ -1,4 +1,4 @@
-use Rattle.std.proofs.Common.{◌≡◌, ℕ, ◌+◌, ◌*◌, ◌≤◌, Bool, false, not, nat_eq, List, length, subst, ap, sym, ◌∙◌, arith}
+use Rattle.std.proofs.Common.{not, nat_eq, length, subst, ap, arith}
 use denote.Param.{number, value_of}
 use Rattle.escape_lanes.specs.Written.{bytes_of}
 use Rattle.escape_simd.specs.Formatted.{IsInnerWritten}

@@ -1,10 +1,10 @@
-use Rattle.std.proofs.Common.{◌≡◌, ℕ, ◌+◌, ◌-◌, ◌*◌, ◌/◌, ◌<◌, ◌≤◌, [], ◌++◌, Bool, true, false, not, nat_eq, List, length, take, drop, map, get_or, replicate, refl, sym, ap, ap₂, subst, ◌∙◌, arith}
+use Rattle.std.proofs.Common.{◌≡◌, ℕ, ◌+◌, ◌-◌, ◌<◌, ◌≤◌, [], ◌++◌, not, nat_eq, List, length, take, drop, get_or, refl, sym, ap, ap₂, subst, ◌∙◌, arith}
 use Rattle.std.proofs.lemmas.List.{append-nil, drop_all, length-replicate, get_or-take, get_or-drop}
 use denote.Param.{number, value_of}
 use Rattle.escape_lanes.specs.Written.{bytes_of, stored_of}
 use Rattle.escape_simd.specs.Modes.{mode_numbered}
 use Rattle.escape_simd.specs.Runs.{run_count}
-use Rattle.escape_simd.specs.Stretch.{Stretch, IsVectorAt, Passed, rest_length, rest_slack}
+use Rattle.escape_simd.specs.Stretch.{Stretch, IsVectorAt, rest_length, rest_slack}
 use Rattle.escape_simd.proofs.Stretches.{onward, ended}
 use Rattle.escape_simd.proofs.Costs.{vectors-least}
 use Rattle.escape_simd.proofs.RestLemmas.{zeros, last-loaded, last-lane, held-then, held-zeros, zeros-once, rest-narrow, rest-slack-some}

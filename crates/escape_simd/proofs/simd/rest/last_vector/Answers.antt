@@ -1,13 +1,13 @@
-use Rattle.std.proofs.Common.{◌≡◌, ℕ, ◌+◌, ◌-◌, ◌*◌, ◌<◌, ◌≤◌, [], ◌++◌, Bool, true, false, not, nat_eq, List, length, take, drop, map, get_or, replicate, refl, sym, ap, subst, ◌∙◌, arith}
+use Rattle.std.proofs.Common.{◌≡◌, ℕ, ◌+◌, ◌-◌, [], ◌++◌, not, nat_eq, List, length, take, drop, map, get_or, refl, sym, ap, subst, ◌∙◌, arith}
 use Rattle.std.proofs.lemmas.List.{append-nil, drop_all, length-replicate}
 use denote.Param.{number, value_of}
-use Rattle.escape_lanes.specs.Bits.{none_set, clear_last}
+use Rattle.escape_lanes.specs.Bits.{clear_last}
 use Rattle.escape_lanes.specs.Replacement.{needs_escape}
 use Rattle.escape_lanes.specs.Written.{bytes_of}
 use Rattle.escape_simd.specs.Modes.{mode_numbered}
 use Rattle.escape_simd.proofs.Texts.{IsClean}
-use Rattle.escape_simd.specs.Stretch.{Stretch, IsVectorAt, rest_length, rest_slack, stored_lanes}
-use Rattle.escape_simd.proofs.Stretches.{onward, ended, stored_ahead, clean_ahead, clean_runs, rest-bounds}
+use Rattle.escape_simd.specs.Stretch.{Stretch, IsVectorAt, rest_length, rest_slack}
+use Rattle.escape_simd.proofs.Stretches.{onward, ended, stored_ahead, clean_ahead, rest-bounds}
 use Rattle.escape_simd.proofs.Lanes.{held-cut, held-none, stored-low}
 use Rattle.escape_simd.proofs.RestLemmas.{zeros, last-loaded, last-lane, held-then, held-zeros, zeros-twice, rest-narrow, rest-slack-some}
 use Rattle.escape_simd.proofs.simd.rest.last_vector.Goals as goal

@@ -1,4 +1,4 @@
-use Rattle.std.proofs.Common.{◌≡◌, ℕ, ◌+◌, ◌-◌, ◌*◌, ◌/◌, ◌<◌, ◌≤◌, Bool, true, false, not, nat_eq, List, length, take, drop, map, refl, sym, ap, subst, ◌∙◌, arith}
+use Rattle.std.proofs.Common.{ℕ, not, nat_eq, List, length, take, drop, map, refl, sym, ap, subst, ◌∙◌, arith}
 use denote.Param.{number, value_of}
 use Rattle.escape_lanes.specs.Bits.{none_set}
 use Rattle.escape_lanes.specs.Replacement.{needs_escape}

@@ -1,12 +1,11 @@
-use Rattle.std.proofs.Common.{◌≡◌, ℕ, ◌+◌, ◌-◌, ◌*◌, ◌<◌, ◌≤◌, Bool, true, false, not, nat_eq, List, length, take, drop, map, get_or, refl, sym, ap, subst, ◌∙◌, arith}
+use Rattle.std.proofs.Common.{◌≡◌, ℕ, ◌+◌, ◌-◌, not, nat_eq, List, length, map, refl, ap, ◌∙◌, arith}
 use denote.Param.{number, value_of}
 use Rattle.escape_lanes.specs.Bits.{clear_last}
 use Rattle.escape_lanes.specs.Replacement.{needs_escape}
 use Rattle.escape_simd.specs.Modes.{mode_numbered}
-use Rattle.escape_simd.specs.Stretch.{Stretch, rest_length, rest_slack}
+use Rattle.escape_simd.specs.Stretch.{rest_slack}
 use Rattle.escape_simd.proofs.Stretches.{ended}
 use Rattle.escape_simd.proofs.Lanes.{held-cut, none-before}
-use Rattle.escape_simd.proofs.Escapes.{bytewise-below}
 use Rattle.escape_simd.proofs.RestLemmas.{rest-narrow, rest-slack-some}
 use Rattle.escape_simd.proofs.simd.rest.second_vector.Goals as goal
 

@@ -1,13 +1,12 @@
-use Rattle.std.proofs.Common.{◌≡◌, ℕ, ◌+◌, ◌-◌, ◌<◌, ◌≤◌, Bool, true, false, ◌==◌, List, ◌++◌, length, take, drop, get_or, codes, replicate, if◌then◌else◌, refl, sym, ap, subst, ◌∙◌, arith, inl, inr}
+use Rattle.std.proofs.Common.{◌≡◌, ℕ, ◌+◌, true, false, ◌==◌, List, length, take, drop, get_or, codes, if◌then◌else◌, refl, sym, ap, ◌∙◌, arith, inl, inr}
 use Rattle.std.proofs.lemmas.Bool.{cases_Bool}
-use Rattle.escape_lanes.specs.Mode.{Mode, script}
-use Rattle.escape_lanes.specs.Replacement.{needs_escape}
+use Rattle.escape_lanes.specs.Mode.{script}
 use Rattle.escape_lanes.specs.Entry.{padded, entry_count, entry_bytes}
 use Rattle.escape_lanes.specs.Written.{bytes_of}
 use Rattle.escape_lanes.proofs.EntryLemmas.{fewest≤entry_count, entry_count≤six, take-entry_bytes, length-entry_bytes}
 use Rattle.escape_simd.specs.Modes.{mode_numbered}
 use Rattle.escape_simd.specs.Output.{begins_separator, passed, first_replacement}
-use Rattle.escape_simd.specs.Stretch.{Stretch, run_reach}
+use Rattle.escape_simd.specs.Stretch.{run_reach}
 use Rattle.escape_simd.proofs.Stretches.{escaped_unit, rest-paste, ended}
 use Rattle.escape_simd.proofs.Escapes.{passed-alone, first-alone, reach-fewest, reach-six, is_script, not_script, third-at}
 use Rattle.escape_simd.proofs.simd.util.escape.Goals.{else-this-ge-SCRIPT_MODE-via-then-this-ge-SCRIPT_MODE+else-is_separator, else-this-ge-SCRIPT_MODE-via-else-this-ge-SCRIPT_MODE}

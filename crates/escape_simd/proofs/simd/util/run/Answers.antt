@@ -1,16 +1,14 @@
-use Rattle.std.proofs.Common.{◌≡◌, ℕ, ◌+◌, ◌-◌, ◌<◌, ◌≤◌, Bool, true, false, true≢false, List, length, drop, get_or, refl, sym, ap, ◌∙◌, arith, inl, inr}
+use Rattle.std.proofs.Common.{◌≡◌, ℕ, ◌+◌, ◌-◌, ◌<◌, ◌≤◌, Bool, true, true≢false, List, drop, get_or, refl, sym, ap, ◌∙◌, arith, inl, inr}
 use Rattle.std.proofs.lemmas.List.{get_or-drop}
-use Rattle.std.proofs.lemmas.Bool.{cases_Bool}
-use Rattle.std.proofs.lemmas.Bool.Decides.{leb_tells, nat_tests}
+use Rattle.std.proofs.lemmas.Bool.Decides.{leb_tells}
 use Rattle.escape_lanes.specs.Mode.{Mode}
 use Rattle.escape_lanes.specs.Replacement.{needs_escape}
-use Rattle.escape_lanes.specs.Written.{bytes_of, escaped_of}
-use Rattle.escape_lanes.specs.declared.simd.target.Target.{Target}
+use Rattle.escape_lanes.specs.Written.{bytes_of}
 use Rattle.escape_simd.specs.Modes.{mode_numbered}
 use Rattle.escape_simd.specs.Output.{passed}
-use Rattle.escape_simd.specs.Runs.{run_count, run_count_after}
-use Rattle.escape_simd.specs.Stretch.{Stretch, run_end, run_reach, IsByteWise}
-use Rattle.escape_simd.proofs.Texts.{first-here, next-here, run_end-here, runs_stop-here, runs_stop-end, one≤passed, passed≤length, passed-between}
+use Rattle.escape_simd.specs.Runs.{run_count_after}
+use Rattle.escape_simd.specs.Stretch.{run_end, run_reach}
+use Rattle.escape_simd.proofs.Texts.{first-here, next-here, run_end-here, one≤passed, passed-between}
 use Rattle.escape_simd.proofs.Stretches.{standing, onward, drop_further}
 use Rattle.escape_simd.proofs.simd.util.run.Goals as goal
 

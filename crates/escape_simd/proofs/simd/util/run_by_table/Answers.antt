@@ -1,11 +1,10 @@
-use Rattle.std.proofs.Common.{◌≡◌, ℕ, ◌+◌, ◌-◌, ◌*◌, ◌<◌, ◌≤◌, Bool, true, false, ◌&&◌, nat_lt, List, length, drop, get_or, sym, ap, subst, ◌∙◌, arith, inl, inr, refl}
-use Rattle.std.proofs.lemmas.Bool.{cases_Bool, and_parts}
+use Rattle.std.proofs.Common.{◌≡◌, ℕ, ◌+◌, ◌-◌, ◌<◌, ◌≤◌, Bool, true, false, ◌&&◌, nat_lt, List, length, get_or, sym, ap, subst, ◌∙◌, arith, inl, inr}
 use Rattle.std.proofs.lemmas.Bool.Decides.{leb_tells, nat_tests}
 use Rattle.escape_lanes.specs.Mode.{Mode}
 use Rattle.escape_lanes.specs.Replacement.{needs_escape}
 use Rattle.escape_lanes.specs.Written.{bytes_of}
 use Rattle.escape_simd.specs.Modes.{mode_numbered}
-use Rattle.escape_simd.specs.Stretch.{Stretch, CanRun, IsByteWise, look_ahead, rest_length, run_end}
+use Rattle.escape_simd.specs.Stretch.{Stretch, CanRun, look_ahead, rest_length, run_end}
 use Rattle.escape_simd.proofs.Texts.{run_end-stop, run_end-end}
 use Rattle.escape_simd.proofs.Stretches.{rest_steps}
 use Rattle.escape_simd.proofs.simd.util.run_by_table.Goals as goal

@@ -1,4 +1,4 @@
-use Rattle.std.proofs.Common.{◌≡◌, ℕ, ◌+◌, ◌-◌, ◌<◌, ◌≤◌, Bool, false, not, nat_eq, List, length, sym, ap, ◌∙◌, arith}
+use Rattle.std.proofs.Common.{ℕ, ◌+◌, ◌-◌, not, nat_eq, List, length, arith}
 use denote.Param.{number, value_of}
 use Rattle.escape_simd.specs.Modes.{mode_numbered}
 use Rattle.escape_simd.specs.Stretch.{rest_length}

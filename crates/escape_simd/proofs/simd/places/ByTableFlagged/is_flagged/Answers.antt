@@ -1,10 +1,10 @@
-use Rattle.std.proofs.Common.{◌≡◌, ℕ, ◌<◌, Bool, true, false, ◌&&◌, not, nat_eq, nat_lt, get_or, length, arith, refl, sym, ap, ◌∙◌, inl, inr}
+use Rattle.std.proofs.Common.{◌≡◌, ℕ, ◌<◌, ◌&&◌, not, nat_eq, nat_lt, get_or, length, arith, inl, inr}
 use Rattle.std.proofs.lemmas.Bool.{cases_Bool}
 use Rattle.std.proofs.lemmas.Bool.Decides.{nat_tests}
 use Rattle.escape_lanes.specs.Mode.{Mode}
 use Rattle.escape_lanes.specs.Replacement.{needs_escape}
 use Rattle.escape_lanes.specs.Entry.{entry_count}
-use Rattle.escape_lanes.proofs.EntryLemmas.{entry_count-clean, clean_from_count, fewest, one≤fewest, fewest≤entry_count}
+use Rattle.escape_lanes.proofs.EntryLemmas.{entry_count-clean, one≤fewest, fewest≤entry_count}
 use Rattle.escape_simd.specs.Modes.{mode_numbered}
 use Rattle.escape_simd.proofs.simd.places.ByTableFlagged.is_flagged.Goals as goal
 

@@ -3,7 +3,7 @@ ghost use Rattle.std.specs.Prelude.{◌≡◌, ◌+◌, ◌<◌, ◌≤◌, ◌�
 ghost use Rattle.escape_simd.specs.Modes.{mode_numbered};
 ghost use Rattle.escape_simd.specs.Output.{plain, bound};
 
-use crate::piecewise::{Pieces, ROOM, quote};
+use crate::piecewise::{Pieces, ROOM, SHORT, SHORT_ROOM, escape_short, quote};
 use escape_simd::output::{Refusal, scratch_bound, stands_for_itself};
 use std::alloc::Allocator;
 
@@ -48,14 +48,28 @@ fn append_output<const MODE: u8, A: Allocator>(value: &str, dst: &mut String<A>)
         ≡ string_bytes dst.old ++ plain (mode_numbered MODE) value.now }
 {
     if !stands_for_itself::<MODE>(value) {
-        return append_pieces::<MODE, A>(value, dst);
+        return append_escaped::<MODE, A>(value, dst);
     }
     push_text(quote::<MODE>(), dst);
     push_text(value, dst);
     push_text(quote::<MODE>(), dst);
 }
 
-/// The same piece by piece, each made in an array.
+/// The same, made in an array: a short text in a smaller one.
+fn append_escaped<const MODE: u8, A: Allocator>(value: &str, dst: &mut String<A>)
+    requires { string_len dst.old + bound (mode_numbered MODE) (length value.now)
+        ≤ string_capacity dst.old }
+    ensures { string_bytes dst.new
+        ≡ string_bytes dst.old ++ plain (mode_numbered MODE) value.now }
+{
+    if SHORT < value.len() {
+        return append_pieces::<MODE, A>(value, dst);
+    }
+    let mut room = [0; SHORT_ROOM];
+    push_text(escape_short::<MODE>(value, &mut room), dst);
+}
+
+/// The same piece by piece.
 fn append_pieces<const MODE: u8, A: Allocator>(value: &str, dst: &mut String<A>)
     requires { string_len dst.old + bound (mode_numbered MODE) (length value.now)
         ≤ string_capacity dst.old }

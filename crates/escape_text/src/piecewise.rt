@@ -15,6 +15,12 @@ const PIECE: usize = 256;
 /// marks, and a vector.
 pub(crate) const ROOM: usize = 1570;
 
+/// How many bytes a text has at most for which the smaller array will do.
+pub(crate) const SHORT: usize = 64;
+
+/// How many bytes that array has: six for each byte, two quotation marks, and a vector.
+pub(crate) const SHORT_ROOM: usize = 418;
+
 /// A text, and how far the output for it was made.
 #[derive(Drop)]
 pub(crate) struct Pieces<'a> {
@@ -65,6 +71,16 @@ fn split_piece(text: &str) -> (&str, &str)
     ensures shorter { 0 < length result.1.now → length result.1.now < length text.now }
 {
     text.split_at(text.floor_char_boundary(PIECE.min(text.len())))
+}
+
+/// The output for a short text in the mode numbered `MODE`, written in `room`.
+#[inline(always)]
+pub(crate) fn escape_short<'r, const MODE: u8>(text: &str, room: &'r mut [u8]) -> &'r str
+    requires short { length text.now ≤ SHORT }
+    requires room { SHORT_ROOM ≤ length room.old }
+    ensures { result.now ≡ plain (mode_numbered MODE) text.now }
+{
+    escape_piece::<MODE>(text, true, true, room)
 }
 
 /// What stands for a piece, with the quotation marks that are wanted before and after it.

@@ -5,7 +5,7 @@ ghost use Rattle.escape_simd.specs.Modes.{mode_numbered};
 ghost use Rattle.escape_simd.specs.Output.{plain};
 ghost use Rattle.escape_text.specs.Writers.{AppendsBeginning};
 
-use crate::piecewise::{Pieces, ROOM, quote};
+use crate::piecewise::{Pieces, ROOM, SHORT, SHORT_ROOM, escape_short, quote};
 use escape_simd::output::stands_for_itself;
 use std::io::{ErrorKind, Result, Write};
 
@@ -17,14 +17,28 @@ pub(crate) fn write_output<const MODE: u8, W: Write>(value: &str, writer: &mut W
         (W.contents writer.new) (plain (mode_numbered MODE) value.now)) }
 {
     if !stands_for_itself::<MODE>(value) {
-        return write_pieces::<MODE, W>(value, writer);
+        return write_escaped::<MODE, W>(value, writer);
     }
     write_whole(quote::<MODE>().as_bytes(), writer)?;
     write_whole(value.as_bytes(), writer)?;
     write_whole(quote::<MODE>().as_bytes(), writer)
 }
 
-/// The same piece by piece, each made in an array.
+/// The same, made in an array: a short text in a smaller one.
+fn write_escaped<const MODE: u8, W: Write>(value: &str, writer: &mut W) -> Result<()>
+    ensures whole { OnOk result (Appends (W.contents writer.old) (W.contents writer.new)
+        (plain (mode_numbered MODE) value.now)) }
+    ensures beginning { OnErr result (AppendsBeginning (W.contents writer.old)
+        (W.contents writer.new) (plain (mode_numbered MODE) value.now)) }
+{
+    if SHORT < value.len() {
+        return write_pieces::<MODE, W>(value, writer);
+    }
+    let mut room = [0; SHORT_ROOM];
+    write_whole(escape_short::<MODE>(value, &mut room).as_bytes(), writer)
+}
+
+/// The same piece by piece.
 fn write_pieces<const MODE: u8, W: Write>(value: &str, writer: &mut W) -> Result<()>
     ensures whole { OnOk result (Appends (W.contents writer.old) (W.contents writer.new)
         (plain (mode_numbered MODE) value.now)) }

@@ -12,7 +12,7 @@ use Rattle.escape_lanes.specs.Replacement.{needs_escape, replacement}
 use Rattle.escape_simd.specs.Ahead.{IsCleanBetween}
 use Rattle.escape_simd.specs.Output.{inner, passed, first_replacement, begins_separator, script_inner_after}
 use Rattle.escape_simd.specs.Stretch.{rest_length}
-use Rattle.escape_simd.proofs.Lanes.{none_set-at}
+use Rattle.escape_simd.proofs.Lanes.{lane-step, none_set-at}
 use Rattle.escape_simd.proofs.ReplacementLemmas.{replacement-clean, length-replacement, inner-nil}
 use Rattle.escape_simd.proofs.Stretches.{rest-is}
 use Rattle.escape_simd.proofs.Texts.{inner-clean, length-separator, no_separator}
@@ -74,10 +74,6 @@ clean-three mode src middle last n near far whole a b c =
 -- one byte more
 count-step : (f : ℕ → Bool) (x : ℕ) (xs : List ℕ) → count_by f (x ∷ xs) ≡ cond (f x) 1 0 + count_by f xs
 count-step f x xs = let a = sum_by-append (λ y. cond (f y) 1 0) (x ∷ []) xs in omega (arith, a)
-
--- one lane more
-lane-step : (x : Bool) (xs : List Bool) → count_by (λ b. b) (x ∷ xs) ≡ cond x 1 0 + count_by (λ b. b) xs
-lane-step x xs = let a = sum_by-append (λ (y : Bool). cond y 1 0) (x ∷ []) xs in omega (arith, a)
 
 -- a flag is set where its byte needs an escape
 count-map : (f : ℕ → Bool) (xs : List ℕ) → count_by (λ b. b) (map f xs) ≡ count_by f xs

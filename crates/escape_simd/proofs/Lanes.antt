@@ -1,7 +1,9 @@
 -- What a mask tells of the text that its vector holds.
-use Rattle.std.proofs.Common.{◌≡◌, ℕ, zero, suc, ◌+◌, ◌-◌, ◌*◌, ◌<◌, ◌≤◌, Bool, true, false, true≢false, ◌||◌, List, [], ◌∷◌, length, take, drop, get_or, map, replicate, refl, sym, ap, ◌∙◌, arith, length-take-le, length-drop, inl, inr}
+use Rattle.std.proofs.Common.{◌≡◌, ℕ, zero, suc, ◌+◌, ◌-◌, ◌*◌, ◌<◌, ◌≤◌, Bool, true, false, true≢false, cond, ◌||◌, List, [], ◌∷◌, length, take, drop, get_or, map, replicate, refl, sym, ap, ◌∙◌, arith, length-take-le, length-drop, inl, inr}
 use Rattle.std.proofs.lemmas.Bool.Decides.{leb_tells}
 use Rattle.std.proofs.lemmas.List.{length-map, get_or-take, get_or-drop, get_or-map, get_or_past, take_all, append-nil, get_or_append_left, get_or-append_right, get_or-replicate, length-replicate}
+use Rattle.std.proofs.lemmas.List.Sums.{sum_by-append}
+use Rattle.std.specs.List.{count_by}
 use Rattle.std.specs.Simd.Lanes.{zip2}
 use Rattle.escape_lanes.specs.Bits.{first_set, none_set, clear_first, clear_last}
 use Rattle.escape_lanes.specs.Mode.{Mode, json, html, script}
@@ -31,6 +33,31 @@ none_set-at [] k h = get_or_past [] k false (omega arith)
 none_set-at (true ∷ bs) k h = absurd (cc)
 none_set-at (false ∷ bs) zero h = refl
 none_set-at (false ∷ bs) (suc k) h = none_set-at bs k h
+
+-- one lane more
+pub lane-step : (x : Bool) (xs : List Bool) → count_by (λ b. b) (x ∷ xs) ≡ cond x 1 0 + count_by (λ b. b) xs
+lane-step x xs = let a = sum_by-append (λ (y : Bool). cond y 1 0) (x ∷ []) xs in omega (arith, a)
+
+-- where only the first lanes are set, no more of them are
+set-few : (bs : List Bool) (taken : ℕ) → ((k : ℕ) → get_or bs k false ≡ true → k < taken) → count_by (λ b. b) bs ≤ taken
+set-few [] taken within = omega arith
+set-few (true ∷ bs) taken within =
+    let s = lane-step true bs in let some = within 0 refl in
+    let rest = set-few bs (taken - 1) (λ k h. let w = within (suc k) h in omega (arith, w)) in omega (arith, s, some, rest)
+set-few (false ∷ bs) taken within =
+    let s = lane-step false bs in
+    let rest = set-few bs (taken - 1) (λ k h. let w = within (suc k) h in omega (arith, w)) in omega (arith, s, rest)
+
+-- and where as many are set, all of them are
+pub set-all : (bs : List Bool) (taken : ℕ) → ((k : ℕ) → get_or bs k false ≡ true → k < taken) → count_by (λ b. b) bs ≡ taken → (k : ℕ) → k < taken → get_or bs k false ≡ true
+set-all [] taken within all k h = absurd (omega (arith, all, h))
+set-all (true ∷ bs) taken within all zero h = refl
+set-all (true ∷ bs) taken within all (suc k) h =
+    let s = lane-step true bs in
+    set-all bs (taken - 1) (λ k h. let w = within (suc k) h in omega (arith, w)) (omega (arith, s, all)) k (omega (arith, h))
+set-all (false ∷ bs) taken within all k h =
+    let s = lane-step false bs in
+    let rest = set-few bs (taken - 1) (λ k h. let w = within (suc k) h in omega (arith, w)) in absurd (omega (arith, s, all, rest, h))
 
 -- where no lane of either is set in the joined lanes, none of either is
 pub none_set-joined : (xs ys : List Bool) → length xs ≡ length ys → none_set (zip2 ◌||◌ xs ys) ≡ true → (none_set xs ≡ true) × (none_set ys ≡ true)
@@ -175,6 +202,10 @@ clear_none bits n =
     let e : n - n ≡ 0 = omega arith in let f : length bits - 0 ≡ length bits = omega arith in
     sym (ap (λ k. clear_last k bits) e ∙ append-nil (take (length bits - 0) bits) ∙ ap (λ k. take k bits) f ∙ take_all (length bits) bits (omega arith))
 
+-- the mask of a whole vector
+pub held-whole : (mode : Mode) (src lanes : List ℕ) (at n : ℕ) (bits : List Bool) → length lanes ≡ n → at + n ≤ length src → take n lanes ≡ take n (drop at src) → bits ≡ map (needs_escape mode) lanes → HoldsFlags mode src at n at bits
+held-whole mode src lanes at n bits long inside loaded e = held-cut mode src lanes at n n at long (omega arith) inside loaded bits (e ∙ clear_none (map (needs_escape mode) lanes) n)
+
 -- where a vector's mask sets no lane, its bytes are clean
 pub none_clean : (mode : Mode) (lanes : List ℕ) → none_set (map (needs_escape mode) lanes) ≡ true → IsClean mode lanes
 none_clean mode lanes none k h = sym (get_or-map (needs_escape mode) lanes k 0 false h) ∙ none_set-at (map (needs_escape mode) lanes) k none
@@ -194,6 +225,12 @@ look_ahead≤two : (mode : Mode) → look_ahead mode ≤ 2
 look_ahead≤two json = omega arith
 look_ahead≤two html = omega arith
 look_ahead≤two script = omega arith
+
+-- where a mask sets as many lanes as the vector has bytes of the text, each of them needs an escape
+pub held-all : (mode : Mode) (src : List ℕ) (at taken from : ℕ) (bits : List Bool) → HoldsFlags mode src at taken from bits → count_by (λ b. b) bits ≡ taken → (p : ℕ) → at ≤ p → p < at + taken → needs_escape mode (get_or src p 0) ≡ true
+held-all mode src at taken from bits held all p after before =
+    let e : at + (p - at) ≡ p = omega (arith, after) in
+    ap (λ k. needs_escape mode (get_or src k 0)) (sym e) ∙ (held.set (p - at) (set-all bits taken (λ k s. (held.set k s).0) all (p - at) (omega (arith, after, before)))).1
 
 -- the run of escapes that begins at a lane of a held mask
 pub can_run : (mode : Mode) (src : List ℕ) (at taken from : ℕ) (bits : List Bool) (n flagged end_held : ℕ) → HoldsFlags mode src at taken from bits → at + taken ≤ length src → taken ≤ n → 16 ≤ n → at + n + n ≤ end_held

@@ -1,11 +1,10 @@
 //! 64 bytes in a vector of `std::simd`, with one bit a lane in the mask. HTML is classified by one
 //! table of candidates.
-ghost use Rattle.std.specs.Prelude.{◌≡◌, ◌+◌, ◌||◌, ◌&&◌, ℕ, map, nat_le, refl};
+ghost use Rattle.std.specs.Prelude.{◌≡◌, ◌+◌, ◌||◌, ◌&&◌, ℕ, map, refl};
 ghost use Rattle.std.specs.Simd.Lanes.{zip2};
-ghost use Rattle.std.proofs.Common.{◌∙◌, lit≤};
-ghost use Rattle.std.proofs.lemmas.List.{length-map};
+ghost use Rattle.std.proofs.Common.{lit≤};
 ghost use Rattle.escape_lanes.specs.Bits.{bits_of, length-bits_of};
-ghost use Rattle.escape_lanes.specs.Lanes.{AreBytes, flagged_lanes};
+ghost use Rattle.escape_lanes.specs.Lanes.{AreBytes};
 ghost use Rattle.escape_lanes.specs.Mode.{mode_of};
 ghost use Rattle.escape_lanes.specs.Nibble.{at_low_half, at_high_half};
 ghost use Rattle.escape_lanes.specs.Replacement.{needs_escape};
@@ -99,35 +98,37 @@ impl Mask for Mask512 {
 }
 
 /// Which lanes of a [`Simd512u`] are flagged.
+///
+/// They are bits from the start: four vectors of 64 bytes and their flags as vectors are more than the
+/// sixteen registers of 32 bytes hold.
 #[derive(Debug, Clone, Copy)]
 pub struct Flags512 {
-    // 80 or more in a lane that is flagged, and less in the others.
-    lanes: u8x64,
-    ghost are_bytes: { AreBytes 64 lanes },
+    // Bit `i` is set where lane `i` is flagged.
+    flagged: u64,
 }
 
 impl Flags for Flags512 {
     type BitMask = u64;
 
-    ghost truths = { λ f. flagged_lanes f.lanes };
+    ghost truths = { λ f. bits_of 64 f.flagged };
 
-    ghost width = { λ f. length-map f.lanes (λ b. nat_le 0x80 b) ∙ f.are_bytes.full };
+    ghost width = { λ f. length-bits_of 64 f.flagged };
 
     #[inline(always)]
     fn join(&self, other: &Flags512) -> Flags512 {
         Flags512 {
-            lanes: lanes::join(&self.lanes, &other.lanes),
+            flagged: self.flagged | other.flagged,
         }
     }
 
     #[inline(always)]
     fn none(&self) -> bool {
-        lanes::none(&self.lanes)
+        self.flagged.all_zero()
     }
 
     #[inline(always)]
     fn bitmask(&self) -> u64 {
-        lanes::flag_bits(&self.lanes)
+        self.flagged
     }
 }
 
@@ -228,7 +229,9 @@ pub fn escaped_flags<const HTML: bool>(v: &Simd512u, ticks: &mut Ticks) -> Flags
     } else {
         lanes::json_needs(&v.lanes)
     };
-    Flags512 { lanes }
+    Flags512 {
+        flagged: lanes::flag_bits(&lanes),
+    }
 }
 
 /// The bit mask of [`escaped_flags`], which is called once, so it ticks once.

@@ -1,5 +1,5 @@
-//! The copy of a vector's first lanes, by pieces of a few fixed sizes: a copy of a number of bytes
-//! that is known only at run time is a call.
+//! The copy of a vector, and of its first lanes by pieces of a few fixed sizes: a copy of a number of
+//! bytes that is known only at run time is a call.
 ghost use Rattle.std.specs.Prelude.{◌≡◌, ◌*◌, ◌<◌, ◌≤◌, length};
 
 /// Copies all lanes as two pieces of `P`, one from each end. They may overlap.
@@ -13,6 +13,20 @@ fn copy_ends<const P: usize>(dst: &mut [u8], lanes: &[u8])
     let last = lanes.len() - P;
     dst[..P].copy_from_slice(&lanes[..P]);
     dst[last..].copy_from_slice(&lanes[last..]);
+}
+
+/// Copies a vector, one of 64 lanes as two halves: as one it would be stored from its end on, where
+/// registers have 32 bytes, and stores that go backwards are slower.
+#[inline(always)]
+pub(crate) fn copy_vector<const N: usize>(dst: &mut [u8], lanes: &[u8; N])
+    requires { length dst.old ≡ N }
+    ensures { dst.new ≡ lanes.now }
+{
+    if N == 64 {
+        copy_ends::<32>(dst, lanes);
+    } else {
+        dst.copy_from_slice(lanes);
+    }
 }
 
 /// Copies all lanes, three at most, as the first, the middle and the last one.

@@ -3,7 +3,7 @@ ghost use Rattle.std.specs.Prelude.{◌≡◌, ℕ, ◌+◌, ◌<◌, ◌≤◌,
 ghost use Rattle.std.proofs.Math.Seq.{paste};
 ghost use Rattle.escape_lanes.specs.Written.{bytes_of, stored_of, escaped_of, quotes_of, IsOver, IsSameSlice};
 
-use crate::simd::front::copy_front;
+use crate::simd::front::{copy_front, copy_vector};
 use crate::simd::ticks::Tally;
 pub use crate::simd::ticks::Ticks;
 use crate::simd::traits::Simd;
@@ -101,7 +101,7 @@ impl<'a, const N: usize> Target<'a, N> {
         ensures escaped { escaped_of self.new ≡ escaped_of self.old }
         ensures quotes { quotes_of self.new ≡ quotes_of self.old }
     {
-        self.slice[at..at + N].copy_from_slice(lanes);
+        copy_vector::<N>(&mut self.slice[at..at + N], lanes);
         self.stored.raise();
     }
 

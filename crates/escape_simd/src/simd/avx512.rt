@@ -73,7 +73,7 @@ pub fn format_target<const HTML: bool>(
     ensures { IsFormatted (mode_of HTML) value.now
         target.old target.new result ticks.old ticks.new }
 {
-    body::format_target::<Simd512u, HTML, 64, 4, true>(value, target, ticks)
+    body::format_target::<Simd512u, HTML, 64, 2, true>(value, target, ticks)
 }
 
 /// As [`format_target`], with the target made over `dst`.
@@ -90,7 +90,7 @@ pub fn format_string<const HTML: bool>(value: &str, dst: &mut [u8]) -> usize
     ensures headline { IsOnlyOutput (mode_of HTML) (take result dst.new) (chars value.now) }
     ensures equal_texts { IsOfOneText (mode_of HTML) value.now (take result dst.new) }
 {
-    body::format_string::<Simd512u, HTML, 64, 4, true>(value, dst)
+    body::format_string::<Simd512u, HTML, 64, 2, true>(value, dst)
 }
 
 /// Escapes the text to the front of the target as a JSON string literal that can stand in a script
@@ -104,7 +104,7 @@ pub fn format_script_target(value: &str, target: &mut Target<'_, 64>, ticks: &mu
     ensures { IsFormatted script value.now
         target.old target.new result ticks.old ticks.new }
 {
-    body::body::<Simd512u, { SCRIPT_MODE }, 64, 4, true>(value, target, ticks)
+    body::body::<Simd512u, { SCRIPT_MODE }, 64, 2, true>(value, target, ticks)
 }
 
 /// As [`format_script_target`], with the target made over `dst`.
@@ -121,7 +121,7 @@ pub fn format_script_string(value: &str, dst: &mut [u8]) -> usize
     ensures headline { IsOnlyOutput script (take result dst.new) (chars value.now) }
     ensures equal_texts { IsOfOneText script value.now (take result dst.new) }
 {
-    body::format_in_mode::<Simd512u, { SCRIPT_MODE }, 64, 4, true>(value, dst)
+    body::format_in_mode::<Simd512u, { SCRIPT_MODE }, 64, 2, true>(value, dst)
 }
 
 /// Escapes the text to the front of `dst` in the mode numbered `MODE`, with no quotation marks, and
@@ -130,5 +130,5 @@ pub(crate) fn format_inner<const MODE: u8>(value: &str, dst: &mut [u8]) -> usize
     requires { 6 * length value.now + 32 ≤ length dst.old }
     ensures { IsInnerWritten 64 (mode_numbered MODE) value.now dst.old dst.new result }
 {
-    inner::format_inner::<Simd512u, MODE, 64, 4, true>(value, dst)
+    inner::format_inner::<Simd512u, MODE, 64, 2, true>(value, dst)
 }

@@ -17,8 +17,8 @@ use escape_lanes::simd::target::{Target, Ticks};
 
 /// Escapes the bytes to the target from `to` on, and answers the place reached.
 ///
-/// `CHUNK` is 4 where four vectors are classified at once, and 1 where none are. `FEW` says that the
-/// text is short: fewer bytes than three vectors have.
+/// `CHUNK` says how many vectors are classified at once: four, two or one. `FEW` says that the text is
+/// short: fewer bytes than three vectors have.
 #[inline(always)]
 fn escape_bytes<
     V: Vector<N>,

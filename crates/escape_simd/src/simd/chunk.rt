@@ -1,4 +1,4 @@
-//! Whole vectors of a text with a vector's bytes and more behind them: one, and a chunk of four.
+//! Whole vectors of a text with a vector's bytes and more behind them: one, a pair, and a chunk of four.
 ghost use Rattle.std.specs.Prelude.{◌≡◌, ℕ, ◌+◌, ◌-◌, ◌*◌, ◌<◌, ◌≤◌, false, true, length, take, drop, slice_index, map};
 ghost use Rattle.escape_lanes.specs.Bits.{none_set};
 ghost use Rattle.escape_lanes.specs.Replacement.{needs_escape};
@@ -7,8 +7,8 @@ ghost use Rattle.escape_simd.specs.Modes.{mode_numbered};
 ghost use Rattle.escape_simd.specs.Runs.{run_count};
 ghost use Rattle.escape_simd.specs.Stretch.{Stretch, Paid, room_from};
 
-use crate::simd::classify::{Vector, store};
-use crate::simd::flagged::{four_with_runs, vector_with_runs};
+use crate::simd::classify::{Vector, store_whole};
+use crate::simd::flagged::{four_with_runs, two_with_runs, vector_with_runs};
 use crate::simd::source::Source;
 use escape_lanes::simd::Flags;
 use escape_lanes::simd::target::{Target, Ticks};
@@ -32,7 +32,33 @@ pub(crate) fn pass<V: Vector<N>, const MODE: u8, const N: usize>(
         ≡ run_count (mode_numbered MODE) (drop at src.now) }
     ensures stored { stored_of target.new ≡ stored_of target.old + 1 }
 {
-    store::<V, N>(v, src, at, N, false, target, to);
+    store_whole::<V, N>(v, src, at, target, to);
+}
+
+/// Stores two vectors of clean bytes, one after the other.
+#[inline(always)]
+fn pass_two<V: Vector<N>, const MODE: u8, const N: usize>(
+    src: &[u8],
+    at: usize,
+    target: &mut Target<'_, N>,
+    to: usize,
+    v1: &V,
+    v2: &V,
+)
+    requires inside { at + 2 * N ≤ length src.now }
+    requires loaded1 { take N (V.lanes v1.now) ≡ take N (drop at src.now) }
+    requires loaded2 { take N (V.lanes v2.now) ≡ take N (drop (at + N) src.now) }
+    requires clean1 { none_set (map (needs_escape (mode_numbered MODE)) (V.lanes v1.now)) ≡ true }
+    requires clean2 { none_set (map (needs_escape (mode_numbered MODE)) (V.lanes v2.now)) ≡ true }
+    requires room { to + 2 * N ≤ length (bytes_of target.old) }
+    ensures stretch { Stretch (mode_numbered MODE) 8 src.now
+        target.old target.new at (at + 2 * N) to (to + 2 * N) }
+    ensures no_run { run_count (mode_numbered MODE) (drop (at + 2 * N) src.now)
+        ≡ run_count (mode_numbered MODE) (drop at src.now) }
+    ensures stored { stored_of target.new ≡ stored_of target.old + 2 }
+{
+    pass::<V, MODE, N>(src, at, target, to, v1);
+    pass::<V, MODE, N>(src, at + N, target, to + N, v2);
 }
 
 /// One vector of the text; where `APART`, its runs are written in a function of their own. Answers the
@@ -63,6 +89,37 @@ pub(crate) fn whole_vector<V: Vector<N>, const MODE: u8, const N: usize, const A
     }
     pass::<V, MODE, N>(source.text, at, target, to, &v);
     (at + N, to + N)
+}
+
+/// Two vectors of the text, classified at once, since most are clean. Answers the places reached.
+#[inline(always)]
+pub(crate) fn pair<V: Vector<N>, const MODE: u8, const N: usize>(
+    source: &Source<'_>,
+    at: usize,
+    target: &mut Target<'_, N>,
+    to: usize,
+    ticks: &mut Ticks,
+) -> (usize, usize)
+    requires whole { source.now.base ≡ 0 }
+    requires all { length source.now.bytes.now ≡ length source.now.text.now }
+    requires inside { at + 3 * N ≤ length source.now.text.now }
+    requires room { to + room_from (mode_numbered MODE) source.now.text.now at ≤ length (bytes_of target.old) }
+    ensures stretch { Stretch (mode_numbered MODE) 8 source.now.text.now
+        target.old target.new at result.0 to result.1 }
+    ensures step { at + 2 * N ≤ result.0 }
+    ensures paid { Paid N (mode_numbered MODE) source.now.text.now at result.0 (stored_of target.old)
+        (stored_of target.new) ticks.old ticks.new }
+{
+    let v1 = V::load(source, at);
+    let v2 = V::load(source, at + N);
+    let flags1 = v1.flags(MODE, ticks);
+    let flags2 = v2.flags(MODE, ticks);
+    if !flags1.join(&flags2).none() {
+        let (mask1, mask2) = (flags1.bitmask(), flags2.bitmask());
+        return two_with_runs::<V, MODE, N>(source.text, at, target, to, mask1, mask2, ticks);
+    }
+    pass_two::<V, MODE, N>(source.text, at, target, to, &v1, &v2);
+    (at + 2 * N, to + 2 * N)
 }
 
 /// Four vectors of the text, classified at once, since most are clean. Answers the places reached.
@@ -106,9 +163,7 @@ pub(crate) fn chunk<V: Vector<N>, const MODE: u8, const N: usize>(
             ticks,
         );
     }
-    pass::<V, MODE, N>(source.text, at, target, to, &v1);
-    pass::<V, MODE, N>(source.text, second, target, to + N, &v2);
-    pass::<V, MODE, N>(source.text, third, target, to + 2 * N, &v3);
-    pass::<V, MODE, N>(source.text, fourth, target, to + 3 * N, &v4);
+    pass_two::<V, MODE, N>(source.text, at, target, to, &v1, &v2);
+    pass_two::<V, MODE, N>(source.text, third, target, to + 2 * N, &v3, &v4);
     (at + 4 * N, to + 4 * N)
 }

@@ -1,5 +1,5 @@
 //! What the kernels' body asks of a vector.
-ghost use Rattle.std.specs.Prelude.{◌≡◌, ℕ, ◌+◌, ◌-◌, ◌<◌, ◌≤◌, ◌++◌, List, length, take, drop, replicate, map};
+ghost use Rattle.std.specs.Prelude.{◌≡◌, ℕ, ◌+◌, ◌-◌, ◌<◌, ◌≤◌, ◌++◌, false, List, length, take, drop, replicate, map};
 ghost use Rattle.escape_lanes.specs.Replacement.{needs_escape};
 ghost use Rattle.escape_lanes.specs.Written.{bytes_of};
 ghost use Rattle.escape_simd.specs.Modes.{mode_numbered};
@@ -64,6 +64,24 @@ pub(crate) trait Vector<const N: usize>: Drop {
     ghost several: { 16 ≤ N };
 
     ghost few: { N ≤ 64 };
+}
+
+/// Stores all lanes of the vector to the target: they are the text's bytes from `from` on.
+#[inline(always)]
+pub(crate) fn store_whole<V: Vector<N>, const N: usize>(
+    v: &V,
+    _text: &[u8],
+    _from: usize,
+    target: &mut Target<'_, N>,
+    to: usize,
+)
+    requires place { CanStore N false _text.now _from N to (length (bytes_of target.old)) }
+    requires loaded { take N (V.lanes v.now) ≡ take N (drop _from _text.now) }
+    ensures { IsStored false _text.now target.old target.new _from N to }
+{
+    let mut lanes = [0u8; N];
+    v.put(&mut lanes);
+    target.put(to, &lanes);
 }
 
 /// Stores the vector's lanes to the target, or only the first `taken` where `exact`: these are the

@@ -1,4 +1,4 @@
-//! Whole vectors of a text that have flags, with their runs of escapes: one, and four.
+//! Whole vectors of a text that have flags, with their runs of escapes: one, two, and four.
 ghost use Rattle.std.specs.Prelude.{◌≡◌, ℕ, ◌+◌, ◌-◌, ◌*◌, ◌<◌, ◌≤◌, false, true, length, take, drop, slice_index_or};
 ghost use Rattle.escape_lanes.specs.Written.{bytes_of, stored_of};
 ghost use Rattle.escape_simd.specs.Modes.{mode_numbered};
@@ -86,6 +86,33 @@ pub(crate) fn vector_with_runs<V: Vector<N>, const MODE: u8, const N: usize, con
         return flagged_vector_apart::<V, MODE, N>(src, at, target, to, mask, ticks);
     }
     flagged_vector::<V, MODE, N>(src, at, at, target, to, mask, ticks)
+}
+
+/// The two vectors of the text from `at` on, which have the flags of the masks. Answers the places
+/// reached.
+#[inline(always)]
+pub(crate) fn two_with_runs<V: Vector<N>, const MODE: u8, const N: usize>(
+    src: &[u8],
+    at: usize,
+    target: &mut Target<'_, N>,
+    to: usize,
+    mask1: <V::Flags as Flags>::BitMask,
+    mask2: <V::Flags as Flags>::BitMask,
+    ticks: &mut Ticks,
+) -> (usize, usize)
+    requires inside { at + 3 * N ≤ length src.now }
+    requires flagged1 { HoldsFlags (mode_numbered MODE) src.now at N at (V.Flags.BitMask.bits mask1) }
+    requires flagged2 { HoldsFlags (mode_numbered MODE) src.now (at + N) N (at + N)
+        (V.Flags.BitMask.bits mask2) }
+    requires room { to + room_from (mode_numbered MODE) src.now at ≤ length (bytes_of target.old) }
+    ensures stretch { Stretch (mode_numbered MODE) 8 src.now target.old target.new at result.0 to result.1 }
+    ensures passed { Passed (mode_numbered MODE) src.now (at + 2 * N) result.0 }
+    ensures stored { stored_of target.new + run_count (mode_numbered MODE) (drop result.0 src.now)
+        ≤ stored_of target.old + run_count (mode_numbered MODE) (drop at src.now) + 2 }
+    ensures classified { ticks.new + stored_of target.old + 2 ≡ ticks.old + stored_of target.new }
+{
+    let (from, end) = flagged_vector::<V, MODE, N>(src, at, at, target, to, mask1, ticks);
+    flagged_vector::<V, MODE, N>(src, at + N, from, target, end, mask2, ticks)
 }
 
 /// The four vectors of the text from `at` on, which have the flags of the masks. Answers the places

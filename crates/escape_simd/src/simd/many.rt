@@ -1,11 +1,11 @@
-//! The bytes of a text: by chunks of four vectors, by vectors, and the last ones.
+//! The bytes of a text: by chunks of four vectors, by pairs, by vectors, and the last ones.
 ghost use Rattle.std.specs.Prelude.{◌≡◌, ◌+◌, ◌-◌, ◌*◌, ◌/◌, ◌<◌, ◌≤◌, false, length, take, drop};
 ghost use Rattle.escape_lanes.specs.Written.{bytes_of, stored_of};
 ghost use Rattle.escape_simd.specs.Modes.{mode_numbered};
 ghost use Rattle.escape_simd.specs.Runs.{run_count};
 ghost use Rattle.escape_simd.specs.Stretch.{Stretch, room_from, rest_slack};
 
-use crate::simd::chunk::{chunk, whole_vector};
+use crate::simd::chunk::{chunk, pair, whole_vector};
 use crate::simd::classify::Vector;
 use crate::simd::rest::rest;
 use crate::simd::source::Source;
@@ -15,7 +15,7 @@ use escape_lanes::simd::target::{Target, Ticks};
 ///
 /// One function for all that calls it: the compiler gives up its inlining in what would be too large.
 ///
-/// `CHUNK` is 4 where four vectors are classified at once, and 1 where none are.
+/// `CHUNK` says how many vectors are classified at once: four, two or one.
 #[inline(never)]
 pub(crate) fn escape_many<
     V: Vector<N>,
@@ -37,6 +37,11 @@ pub(crate) fn escape_many<
     let mut end = to;
     'chunks: while CHUNK == 4 && 5 * N <= src.len() - at {
         let (next, reached) = chunk::<V, MODE, N>(&source, at, target, end, ticks);
+        at = next;
+        end = reached;
+    }
+    'pairs: while CHUNK == 2 && 3 * N <= src.len() - at {
+        let (next, reached) = pair::<V, MODE, N>(&source, at, target, end, ticks);
         at = next;
         end = reached;
     }

@@ -1,4 +1,4 @@
-//! Where a run of escapes goes on: told by a mask of the text's flags, or by the table.
+//! Where a run of escapes goes on: told by a mask of the text's flags, by its end, or by the table.
 ghost use Rattle.std.specs.Prelude.{◌≡◌, ℕ, ◌+◌, ◌-◌, ◌*◌, ◌<◌, ◌≤◌, Bool, false, ◌&&◌, nat_lt, length, slice_index, slice_index_or};
 ghost use Rattle.escape_lanes.specs.Replacement.{needs_escape};
 ghost use Rattle.escape_simd.specs.Modes.{mode_numbered};
@@ -33,6 +33,23 @@ impl<M: LaneMask> Flagged for ByMask<'_, M> {
     #[inline(always)]
     fn is_flagged(&self, at: usize) -> bool {
         self.mask.is_set(at - self.first)
+    }
+}
+
+/// Up to a place that is known: the run's end.
+#[derive(Drop)]
+pub(crate) struct Until {
+    pub end: usize,
+}
+
+impl Flagged for Until {
+    ghost flagged = { λ u at. nat_lt at u.end };
+
+    ghost asks = { λ u at. Unit {0} };
+
+    #[inline(always)]
+    fn is_flagged(&self, at: usize) -> bool {
+        at < self.end
     }
 }
 

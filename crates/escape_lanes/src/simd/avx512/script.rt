@@ -34,7 +34,7 @@ pub fn script_flags(v: &Simd512u, ticks: &mut Ticks) -> Flags512
 {
     ticks.tick();
     Flags512 {
-        lanes: script_needs(&v.lanes),
+        flagged: lanes::flag_bits(&script_needs(&v.lanes)),
     }
 }
 

@@ -1,11 +1,10 @@
-use Rattle.std.proofs.Common.{◌≡◌, ℕ, ◌+◌, ◌-◌, ◌*◌, List, drop, map, sym, ap, ◌∙◌, arith}
+use Rattle.std.proofs.Common.{◌≡◌, ℕ, ◌+◌, ◌-◌, ◌*◌, List, take, drop, sym, ap, ◌∙◌, arith}
 use Rattle.escape_lanes.specs.Bits.{none_set}
-use Rattle.escape_lanes.specs.Replacement.{needs_escape}
 use Rattle.escape_simd.specs.Modes.{mode_numbered}
 use Rattle.escape_simd.specs.Runs.{run_count}
 use Rattle.escape_simd.proofs.Costs.{vectors-least}
 use Rattle.escape_simd.proofs.Stretches.{rest-bounds}
-use Rattle.escape_simd.proofs.Lanes.{none_set-four, held-cut, clear_none}
+use Rattle.escape_simd.proofs.Lanes.{none_set-four, held-whole}
 use Rattle.escape_simd.proofs.simd.chunk.chunk.Goals as goal
 
 pub four_with_runs-requires : goal.four_with_runs-requires
@@ -16,17 +15,13 @@ four_with_runs-requires g c =
       (
         omega (arith, r.inside),
         (
-          held-cut mode src (lanes c.load-v1.result) at n n at (width c.load-v1.result) (omega arith) (omega (arith, r.inside)) (c.load-v1.ensures n (omega arith) (omega (arith, r.inside))) (bits c.bitmask.result)
-              (c.bitmask.ensures ∙ c.flags-flags1.ensures.lanes ∙ clear_none (map (needs_escape mode) (lanes c.load-v1.result)) n),
+          held-whole mode src (lanes c.load-v1.result) at n (bits c.bitmask.result) (width c.load-v1.result) (omega (arith, r.inside)) (c.load-v1.ensures n (omega arith) (omega (arith, r.inside))) (c.bitmask.ensures ∙ c.flags-flags1.ensures.lanes),
           (
-            held-cut mode src (lanes c.load-v2.result) (at + n) n n (at + n) (width c.load-v2.result) (omega arith) (omega (arith, r.inside)) (c.load-v2.ensures n (omega arith) (omega (arith, r.inside))) (bits c.bitmask-then-not-none.result)
-                (c.bitmask-then-not-none.ensures ∙ c.flags-flags2.ensures.lanes ∙ clear_none (map (needs_escape mode) (lanes c.load-v2.result)) n),
+            held-whole mode src (lanes c.load-v2.result) (at + n) n (bits c.bitmask-then-not-none.result) (width c.load-v2.result) (omega (arith, r.inside)) (c.load-v2.ensures n (omega arith) (omega (arith, r.inside))) (c.bitmask-then-not-none.ensures ∙ c.flags-flags2.ensures.lanes),
             (
-              held-cut mode src (lanes c.load-v3.result) (at + 2 * n) n n (at + 2 * n) (width c.load-v3.result) (omega arith) (omega (arith, r.inside)) (c.load-v3.ensures n (omega arith) (omega (arith, r.inside))) (bits c.bitmask-then-not-none-2.result)
-                  (c.bitmask-then-not-none-2.ensures ∙ c.flags-flags3.ensures.lanes ∙ clear_none (map (needs_escape mode) (lanes c.load-v3.result)) n),
+              held-whole mode src (lanes c.load-v3.result) (at + 2 * n) n (bits c.bitmask-then-not-none-2.result) (width c.load-v3.result) (omega (arith, r.inside)) (c.load-v3.ensures n (omega arith) (omega (arith, r.inside))) (c.bitmask-then-not-none-2.ensures ∙ c.flags-flags3.ensures.lanes),
               (
-                held-cut mode src (lanes c.load-v4.result) (at + 3 * n) n n (at + 3 * n) (width c.load-v4.result) (omega arith) (omega (arith, r.inside)) (c.load-v4.ensures n (omega arith) (omega (arith, r.inside))) (bits c.bitmask-then-not-none-3.result)
-                    (c.bitmask-then-not-none-3.ensures ∙ c.flags-flags4.ensures.lanes ∙ clear_none (map (needs_escape mode) (lanes c.load-v4.result)) n),
+                held-whole mode src (lanes c.load-v4.result) (at + 3 * n) n (bits c.bitmask-then-not-none-3.result) (width c.load-v4.result) (omega (arith, r.inside)) (c.load-v4.ensures n (omega arith) (omega (arith, r.inside))) (c.bitmask-then-not-none-3.ensures ∙ c.flags-flags4.ensures.lanes),
                 r.room,
               ),
             ),
@@ -35,37 +30,45 @@ four_with_runs-requires g c =
       ),
     )
 
-pub pass-requires : goal.pass-requires
-pass-requires g c =
-    let t = g.V.Flags.Flags.truths in let w = g.met.V.Flags.Flags.width in
+pub pass_two-requires : goal.pass_two-requires
+pass_two-requires g c =
+    let t = g.V.Flags.Flags.truths in let w = g.met.V.Flags.Flags.width in let inside = c.requires.inside in
     let nones = none_set-four g.V.Flags.BitMask.BitMask.LEN (t c.flags-flags1.result) (t c.flags-flags2.result) (t c.flags-flags3.result) (t c.flags-flags4.result) (t c.join.result) (t c.join-2.result) (t c.join-3.result)
     (w c.flags-flags1.result) (w c.flags-flags2.result) (w c.flags-flags3.result) (w c.flags-flags4.result) (w c.join.result) (w c.join-2.result) c.join.ensures c.join-2.ensures c.join-3.ensures (sym c.none.ensures ∙ c.if-not-none.false) in
-    let r = rest-bounds (mode_numbered g.row.MODE) c.args.source.now.text.now c.args.at in
-    (omega arith, (omega (arith, c.requires.inside), (c.load-v1.ensures g.row.N (omega arith) (omega (arith, c.requires.inside)), (ap none_set (sym c.flags-flags1.ensures.lanes) ∙ nones.0, omega (arith, r, c.requires.room, c.requires.inside)))))
+    let r = rest-bounds (mode_numbered g.row.MODE) c.args.source.now.text.now c.args.at in (
+      omega arith,
+      (
+        omega (arith, inside),
+        (
+          c.load-v1.ensures g.row.N (omega arith) (omega (arith, inside)),
+          (
+            c.load-v2.ensures g.row.N (omega arith) (omega (arith, inside)),
+            (ap none_set (sym c.flags-flags1.ensures.lanes) ∙ nones.0, (ap none_set (sym c.flags-flags2.ensures.lanes) ∙ nones.1, omega (arith, r, c.requires.room, inside))),
+          ),
+        ),
+      ),
+    )
 
-pub pass-requires-2 : goal.pass-requires-2
-pass-requires-2 g c =
-    let t = g.V.Flags.Flags.truths in let w = g.met.V.Flags.Flags.width in
+pub pass_two-requires-2 : goal.pass_two-requires-2
+pass_two-requires-2 g c =
+    let src : List ℕ = c.args.source.now.text.now in
+    let e : c.args.at + 2 * g.row.N + g.row.N ≡ c.args.at + 3 * g.row.N = omega arith in
+    let t = g.V.Flags.Flags.truths in let w = g.met.V.Flags.Flags.width in let inside = c.requires.inside in
     let nones = none_set-four g.V.Flags.BitMask.BitMask.LEN (t c.flags-flags1.result) (t c.flags-flags2.result) (t c.flags-flags3.result) (t c.flags-flags4.result) (t c.join.result) (t c.join-2.result) (t c.join-3.result)
     (w c.flags-flags1.result) (w c.flags-flags2.result) (w c.flags-flags3.result) (w c.flags-flags4.result) (w c.join.result) (w c.join-2.result) c.join.ensures c.join-2.ensures c.join-3.ensures (sym c.none.ensures ∙ c.if-not-none.false) in
-    let r = rest-bounds (mode_numbered g.row.MODE) c.args.source.now.text.now c.args.at in
-    (omega arith, (omega (arith, c.requires.inside), (c.load-v2.ensures g.row.N (omega arith) (omega (arith, c.requires.inside)), (ap none_set (sym c.flags-flags2.ensures.lanes) ∙ nones.1, omega (arith, r, c.requires.room, c.requires.inside, c.pass.ensures.stretch.same_slice.len)))))
-
-pub pass-requires-3 : goal.pass-requires-3
-pass-requires-3 g c =
-    let t = g.V.Flags.Flags.truths in let w = g.met.V.Flags.Flags.width in
-    let nones = none_set-four g.V.Flags.BitMask.BitMask.LEN (t c.flags-flags1.result) (t c.flags-flags2.result) (t c.flags-flags3.result) (t c.flags-flags4.result) (t c.join.result) (t c.join-2.result) (t c.join-3.result)
-    (w c.flags-flags1.result) (w c.flags-flags2.result) (w c.flags-flags3.result) (w c.flags-flags4.result) (w c.join.result) (w c.join-2.result) c.join.ensures c.join-2.ensures c.join-3.ensures (sym c.none.ensures ∙ c.if-not-none.false) in
-    let r = rest-bounds (mode_numbered g.row.MODE) c.args.source.now.text.now c.args.at in
-    (omega arith, (omega (arith, c.requires.inside), (c.load-v3.ensures g.row.N (omega arith) (omega (arith, c.requires.inside)), (ap none_set (sym c.flags-flags3.ensures.lanes) ∙ nones.2, omega (arith, r, c.requires.room, c.requires.inside, c.pass.ensures.stretch.same_slice.len, c.pass-2.ensures.stretch.same_slice.len)))))
-
-pub pass-requires-4 : goal.pass-requires-4
-pass-requires-4 g c =
-    let t = g.V.Flags.Flags.truths in let w = g.met.V.Flags.Flags.width in
-    let nones = none_set-four g.V.Flags.BitMask.BitMask.LEN (t c.flags-flags1.result) (t c.flags-flags2.result) (t c.flags-flags3.result) (t c.flags-flags4.result) (t c.join.result) (t c.join-2.result) (t c.join-3.result)
-    (w c.flags-flags1.result) (w c.flags-flags2.result) (w c.flags-flags3.result) (w c.flags-flags4.result) (w c.join.result) (w c.join-2.result) c.join.ensures c.join-2.ensures c.join-3.ensures (sym c.none.ensures ∙ c.if-not-none.false) in
-    let r = rest-bounds (mode_numbered g.row.MODE) c.args.source.now.text.now c.args.at in
-    (omega arith, (omega (arith, c.requires.inside), (c.load-v4.ensures g.row.N (omega arith) (omega (arith, c.requires.inside)), (ap none_set (sym c.flags-flags4.ensures.lanes) ∙ nones.3, omega (arith, r, c.requires.room, c.requires.inside, c.pass.ensures.stretch.same_slice.len, c.pass-2.ensures.stretch.same_slice.len, c.pass-3.ensures.stretch.same_slice.len)))))
+    let r = rest-bounds (mode_numbered g.row.MODE) c.args.source.now.text.now c.args.at in (
+      omega arith,
+      (
+        omega (arith, inside),
+        (
+          c.load-v3.ensures g.row.N (omega arith) (omega (arith, inside)),
+          (
+            c.load-v4.ensures g.row.N (omega arith) (omega (arith, inside)) ∙ ap (λ k. take g.row.N (drop k src)) (sym e),
+            (ap none_set (sym c.flags-flags3.ensures.lanes) ∙ nones.2, (ap none_set (sym c.flags-flags4.ensures.lanes) ∙ nones.3, omega (arith, r, c.requires.room, inside, c.pass_two.ensures.stretch.same_slice.len))),
+          ),
+        ),
+      ),
+    )
 
 pub returns-then-not-none-clause-paid : goal.returns-then-not-none-clause-paid
 returns-then-not-none-clause-paid g c =
@@ -81,12 +84,10 @@ pub returns-clause-paid : goal.returns-clause-paid
 returns-clause-paid g c =
     let several = g.met.V.Vector.several in
     let v = vectors-least g.row.N (omega (arith, several)) 4 (c.args.at + 4 * g.row.N - c.args.at) (omega arith) in
-    let a = c.pass.ensures in let b = c.pass-2.ensures in let d = c.pass-3.ensures in let e = c.pass-4.ensures in
-    let at : ℕ = c.args.at in let n : ℕ = g.row.N in
-    let runs : ℕ → ℕ = λ k. run_count (mode_numbered g.row.MODE) (drop k c.args.source.now.text.now) in
-    let p : at + n + n ≡ at + 2 * n = omega arith in let q : at + 2 * n + n ≡ at + 3 * n = omega arith in let r : at + 3 * n + n ≡ at + 4 * n = omega arith in
-    let p_runs = ap runs p in let q_runs = ap runs q in let r_runs = ap runs r in
+    let a = c.pass_two.ensures in let b = c.pass_two-2.ensures in
+    let e : c.args.at + 2 * g.row.N + 2 * g.row.N ≡ c.args.at + 4 * g.row.N = omega arith in
+    let runs = ap (λ k. run_count (mode_numbered g.row.MODE) (drop k c.args.source.now.text.now)) e in
     record {
-      stored = omega (arith, a.stored, b.stored, d.stored, e.stored, v, a.no_run, b.no_run, d.no_run, e.no_run, p_runs, q_runs, r_runs);
-      classified = omega (arith, a.stored, b.stored, d.stored, e.stored, c.flags-flags1.ensures.tick, c.flags-flags2.ensures.tick, c.flags-flags3.ensures.tick, c.flags-flags4.ensures.tick);
+      stored = omega (arith, a.stored, b.stored, v, a.no_run, b.no_run, runs);
+      classified = omega (arith, a.stored, b.stored, c.flags-flags1.ensures.tick, c.flags-flags2.ensures.tick, c.flags-flags3.ensures.tick, c.flags-flags4.ensures.tick);
     }

@@ -9,11 +9,11 @@ use Rattle.escape_simd.proofs.simd.chunk.pass.Goals as goal
 pub returns-clause-stretch : goal.returns-clause-stretch
 returns-clause-stretch g c =
     let mode = mode_numbered g.row.MODE in let src : List ℕ = c.args.src.now in let lanes : List ℕ = g.V.Vector.lanes c.args.v.now in
-    let r = rest-bounds mode src c.args.at in let e = c.store.ensures in
+    let r = rest-bounds mode src c.args.at in let e = c.store_whole.ensures in
     let long = g.met.V.Vector.width c.args.v.now in
     let clean : IsClean mode (take g.row.N (drop c.args.at src)) = subst (IsClean mode) (sym (take_all g.row.N lanes (omega (arith, long))) ∙ c.requires.loaded) (none_clean mode lanes c.requires.clean) in
-    onward (stored_ahead mode 8 false src c.args.target.now c.store.new.target c.args.at g.row.N c.args.to e (omega (arith, c.requires.inside)) (omega (arith, r, c.requires.inside)))
-    (clean_ahead mode 8 src c.store.new.target c.args.at c.args.to g.row.N g.row.N e.ahead (omega arith) c.requires.inside clean)
+    onward (stored_ahead mode 8 false src c.args.target.now c.store_whole.new.target c.args.at g.row.N c.args.to e (omega (arith, c.requires.inside)) (omega (arith, r, c.requires.inside)))
+    (clean_ahead mode 8 src c.store_whole.new.target c.args.at c.args.to g.row.N g.row.N e.ahead (omega arith) c.requires.inside clean)
 
 pub returns-clause-no_run : goal.returns-clause-no_run
 returns-clause-no_run g c =
@@ -22,4 +22,4 @@ returns-clause-no_run g c =
     clean_runs mode c.args.src.now c.args.at g.row.N (subst (IsClean mode) (sym (take_all g.row.N lanes (omega (arith, long))) ∙ c.requires.loaded) (none_clean mode lanes c.requires.clean))
 
 pub returns-clause-stored : goal.returns-clause-stored
-returns-clause-stored g c = c.store.ensures.stored
+returns-clause-stored g c = c.store_whole.ensures.stored

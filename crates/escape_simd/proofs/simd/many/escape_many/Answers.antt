@@ -29,8 +29,25 @@ chunks-preserved g c =
       paid = paid-onward (omega (arith, several)) inv.stretch.forward e.stretch.forward inv.paid e.paid;
     }
 
+pub pairs-init : goal.pairs-init
+pairs-init g c = record { stretch = c.chunks.invariant.stretch; paid = c.chunks.invariant.paid }
+
+pub pair-next-requires : goal.pair-next-requires
+pair-next-requires g c =
+    let w = c.whole-source.ensures in let t = ap length w.text in let b = ap length w.bytes in
+    let s = c.pairs.invariant.stretch in let r = ap (λ xs. rest_length (mode_numbered g.row.MODE) xs 0) w.text in
+    (omega arith, (w.base, (omega (arith, t, b), (omega (arith, t, c.pairs-test.true, s.inside), omega (arith, s.limit, s.same_slice.len, r, c.requires.room)))))
+
+pub pairs-preserved : goal.pairs-preserved
+pairs-preserved g c =
+    let e = c.pair-next.ensures in let inv = c.pairs.invariant in let several = g.met.V.Vector.several in
+    record {
+      stretch = onward inv.stretch e.stretch;
+      paid = paid-onward (omega (arith, several)) inv.stretch.forward e.stretch.forward inv.paid e.paid;
+    }
+
 pub vectors-init : goal.vectors-init
-vectors-init g c = record { stretch = c.chunks.invariant.stretch; paid = c.chunks.invariant.paid }
+vectors-init g c = record { stretch = c.pairs.invariant.stretch; paid = c.pairs.invariant.paid }
 
 pub whole_vector-next-requires : goal.whole_vector-next-requires
 whole_vector-next-requires g c =

@@ -13,6 +13,15 @@ invariant-chunks g l = record {
 abbrev pub decreases-chunks : goal.decreases-chunks
 decreases-chunks g l = length l.src - l.at
 
+abbrev pub invariant-pairs : goal.invariant-pairs
+invariant-pairs g l = record {
+  stretch : Stretch (mode_numbered g.row.MODE) 8 l.source.text.now l.fn.target l.target 0 l.at l.to l.end;
+  paid : Paid g.row.N (mode_numbered g.row.MODE) l.source.text.now 0 l.at (stored_of l.fn.target) (stored_of l.target) l.fn.ticks l.ticks;
+}
+
+abbrev pub decreases-pairs : goal.decreases-pairs
+decreases-pairs g l = length l.src - l.at
+
 abbrev pub invariant-vectors : goal.invariant-vectors
 invariant-vectors g l = record {
   stretch : Stretch (mode_numbered g.row.MODE) 8 l.source.text.now l.fn.target l.target 0 l.at l.to l.end;

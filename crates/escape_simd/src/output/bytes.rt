@@ -17,7 +17,7 @@ use std::alloc::Allocator;
 /// How many bytes of a text the calls that append escape at a time, at most.
 ///
 /// What makes room for so many, and what they become, stays in the first caches.
-pub const PIECE: usize = 4096;
+pub const PIECE: usize = 8192;
 
 /// So few zeros are stores and no call.
 const FEW: usize = 128;

@@ -15,7 +15,8 @@ use escape_lanes::simd::target::{Target, Ticks};
 ///
 /// One function for all that calls it: the compiler gives up its inlining in what would be too large.
 ///
-/// `CHUNK` says how many vectors are classified at once: four, two or one.
+/// `CHUNK` says how many vectors are classified at once: four (and two of those that are left), two or
+/// one.
 #[inline(never)]
 pub(crate) fn escape_many<
     V: Vector<N>,
@@ -40,7 +41,7 @@ pub(crate) fn escape_many<
         at = next;
         end = reached;
     }
-    'pairs: while CHUNK == 2 && 3 * N <= src.len() - at {
+    'pairs: while 1 < CHUNK && 3 * N <= src.len() - at {
         let (next, reached) = pair::<V, MODE, N>(&source, at, target, end, ticks);
         at = next;
         end = reached;

@@ -226,6 +226,10 @@ look_ahead≤two json = omega arith
 look_ahead≤two html = omega arith
 look_ahead≤two script = omega arith
 
+-- where a mask sets a lane, its vector has a byte of the text
+pub held-some : (mode : Mode) (src : List ℕ) (at taken from : ℕ) (bits : List Bool) → HoldsFlags mode src at taken from bits → none_set bits ≡ false → 0 < taken
+held-some mode src at taken from bits held some = let first = (held.set (first_set bits) (first_set-here bits some)).0 in omega (arith, first)
+
 -- where a mask sets as many lanes as the vector has bytes of the text, each of them needs an escape
 pub held-all : (mode : Mode) (src : List ℕ) (at taken from : ℕ) (bits : List Bool) → HoldsFlags mode src at taken from bits → count_by (λ b. b) bits ≡ taken → (p : ℕ) → at ≤ p → p < at + taken → needs_escape mode (get_or src p 0) ≡ true
 held-all mode src at taken from bits held all p after before =

@@ -11,7 +11,7 @@ ghost use Rattle.escape_simd.specs.Modes.{mode_numbered};
 
 use crate::simd::classify::{HTML_MODE, JSON_MODE, SCRIPT_MODE, Vector};
 use crate::simd::source::Source;
-use crate::simd::{body, inner};
+use crate::simd::{body, inner, string};
 pub use escape_lanes::simd::avx2::{
     Flags256, Mask256, Simd256u, escaped_flags, escaped_mask, script_flags, script_mask,
 };
@@ -90,7 +90,7 @@ pub fn format_string<const HTML: bool>(value: &str, dst: &mut [u8]) -> usize
     ensures headline { IsOnlyOutput (mode_of HTML) (take result dst.new) (chars value.now) }
     ensures equal_texts { IsOfOneText (mode_of HTML) value.now (take result dst.new) }
 {
-    body::format_string::<Simd256u, HTML, 32, 4, false>(value, dst)
+    string::format_string::<Simd256u, HTML, 32, 4, false>(value, dst)
 }
 
 /// Escapes the text to the front of the target as a JSON string literal that can stand in a script
@@ -121,7 +121,7 @@ pub fn format_script_string(value: &str, dst: &mut [u8]) -> usize
     ensures headline { IsOnlyOutput script (take result dst.new) (chars value.now) }
     ensures equal_texts { IsOfOneText script value.now (take result dst.new) }
 {
-    body::format_in_mode::<Simd256u, { SCRIPT_MODE }, 32, 4, false>(value, dst)
+    string::format_in_mode::<Simd256u, { SCRIPT_MODE }, 32, 4, false>(value, dst)
 }
 
 /// Escapes the text to the front of `dst` in the mode numbered `MODE`, with no quotation marks, and

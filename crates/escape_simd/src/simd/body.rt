@@ -82,7 +82,7 @@ pub(crate) fn escape_few_at<V: Vector<N>, const MODE: u8, const N: usize, const 
 
 /// A quotation mark in JSON, also in script mode, nothing in HTML. Answers the place after it.
 #[inline(always)]
-fn quote<const MODE: u8, const N: usize>(target: &mut Target<'_, N>, to: usize) -> usize
+pub(crate) fn quote<const MODE: u8, const N: usize>(target: &mut Target<'_, N>, to: usize) -> usize
     requires { to < length (bytes_of target.old) }
     ensures same_slice { IsSameSlice target.old target.new }
     ensures end { result ≡ to + length (quote_of (mode_numbered MODE)) }
@@ -104,7 +104,7 @@ fn quote<const MODE: u8, const N: usize>(target: &mut Target<'_, N>, to: usize) 
 /// Escapes the text, of few bytes or of any number, to the front of the target, and answers how many
 /// bytes it became.
 #[inline(always)]
-fn quoted<
+pub(crate) fn quoted<
     V: Vector<N>,
     const MODE: u8,
     const N: usize,
@@ -164,83 +164,4 @@ pub(crate) fn format_target<
         return body::<V, { HTML_MODE }, N, CHUNK, EXACT>(value, target, ticks);
     }
     body::<V, { JSON_MODE }, N, CHUNK, EXACT>(value, target, ticks)
-}
-
-/// As [`quoted`], with the target made over `dst`.
-#[inline(always)]
-fn quoted_string<
-    V: Vector<N>,
-    const MODE: u8,
-    const N: usize,
-    const CHUNK: usize,
-    const EXACT: bool,
-    const FEW: bool,
->(value: &str, dst: &mut [u8]) -> usize
-    requires few { FEW ≡ true → length value.now < 3 * N }
-    requires narrow { EXACT ≡ false → N ≤ 32 }
-    requires room { bound (mode_numbered MODE) (length value.now) ≤ length dst.old }
-    ensures written { IsWritten N (mode_numbered MODE) value.now dst.old dst.new result }
-    ensures headline { IsOnlyOutput (mode_numbered MODE) (take result dst.new) (chars value.now) }
-    ensures equal_texts { IsOfOneText (mode_numbered MODE) value.now (take result dst.new) }
-{
-    let mut target = Target::<N>::new(dst);
-    let mut ticks = Ticks::new();
-    quoted::<V, MODE, N, CHUNK, EXACT, FEW>(value, &mut target, &mut ticks)
-}
-
-/// As [`format_in_mode`], in a function of its own, so that a short text waits for no loop's frame.
-#[inline(never)]
-fn format_many<V: Vector<N>, const MODE: u8, const N: usize, const CHUNK: usize, const EXACT: bool>(
-    value: &str,
-    dst: &mut [u8],
-) -> usize
-    requires narrow { EXACT ≡ false → N ≤ 32 }
-    requires room { bound (mode_numbered MODE) (length value.now) ≤ length dst.old }
-    ensures written { IsWritten N (mode_numbered MODE) value.now dst.old dst.new result }
-    ensures headline { IsOnlyOutput (mode_numbered MODE) (take result dst.new) (chars value.now) }
-    ensures equal_texts { IsOfOneText (mode_numbered MODE) value.now (take result dst.new) }
-{
-    quoted_string::<V, MODE, N, CHUNK, EXACT, false>(value, dst)
-}
-
-/// As [`body`], with the target made over `dst`.
-#[inline(always)]
-pub(crate) fn format_in_mode<
-    V: Vector<N>,
-    const MODE: u8,
-    const N: usize,
-    const CHUNK: usize,
-    const EXACT: bool,
->(value: &str, dst: &mut [u8]) -> usize
-    requires narrow { EXACT ≡ false → N ≤ 32 }
-    requires room { bound (mode_numbered MODE) (length value.now) ≤ length dst.old }
-    ensures written { IsWritten N (mode_numbered MODE) value.now dst.old dst.new result }
-    ensures headline { IsOnlyOutput (mode_numbered MODE) (take result dst.new) (chars value.now) }
-    ensures equal_texts { IsOfOneText (mode_numbered MODE) value.now (take result dst.new) }
-{
-    if value.len() < 3 * N {
-        return quoted_string::<V, MODE, N, CHUNK, EXACT, true>(value, dst);
-    }
-    format_many::<V, MODE, N, CHUNK, EXACT>(value, dst)
-}
-
-/// The same in one of the two modes of the public calls.
-#[inline(always)]
-pub(crate) fn format_string<
-    V: Vector<N>,
-    const HTML: bool,
-    const N: usize,
-    const CHUNK: usize,
-    const EXACT: bool,
->(value: &str, dst: &mut [u8]) -> usize
-    requires narrow { EXACT ≡ false → N ≤ 32 }
-    requires room { bound (mode_of HTML) (length value.now) ≤ length dst.old }
-    ensures written { IsWritten N (mode_of HTML) value.now dst.old dst.new result }
-    ensures headline { IsOnlyOutput (mode_of HTML) (take result dst.new) (chars value.now) }
-    ensures equal_texts { IsOfOneText (mode_of HTML) value.now (take result dst.new) }
-{
-    if HTML {
-        return format_in_mode::<V, { HTML_MODE }, N, CHUNK, EXACT>(value, dst);
-    }
-    format_in_mode::<V, { JSON_MODE }, N, CHUNK, EXACT>(value, dst)
 }

@@ -8,7 +8,8 @@ ghost use Rattle.escape_simd.specs.Runs.{run_count};
 ghost use Rattle.escape_simd.specs.Stretch.{Stretch, HoldsFlags, Passed, room_from, rest_slack};
 
 use crate::simd::chunk::pass;
-use crate::simd::classify::{Vector, store};
+use crate::simd::classify::Vector;
+use crate::simd::last::{load_rest, pass_rest};
 use crate::simd::source::Source;
 use crate::simd::vector::{vector, vector_apart};
 use escape_lanes::simd::target::{Target, Ticks};
@@ -34,17 +35,15 @@ fn last_vector<V: Vector<N>, const MODE: u8, const N: usize, const EXACT: bool>(
         ≤ stored_of target.old + run_count (mode_numbered MODE) (drop at src.now) + 1 }
     ensures classified { ticks.new + stored_of target.old ≡ ticks.old + stored_of target.new }
 {
-    let left = src.len() - at;
-    let v = V::load_last(src, left);
-    let mask = v.flags(MODE, ticks).bitmask().clear_high_bits(N - left);
+    let (v, mask) = load_rest::<V, MODE, N>(src, at, ticks);
     if !mask.all_zero() {
         let mut held = [[0u8; N]; 3];
         v.put(&mut held[0]);
         let source = Source::padded(src, at, held.as_flattened());
+        let left = src.len() - at;
         return vector_apart::<V, MODE, N, EXACT>(&source, at, left, at, target, to, mask, ticks).1;
     }
-    store::<V, N>(&v, src, at, left, EXACT, target, to);
-    to + left
+    pass_rest::<V, MODE, N, EXACT>(src, at, &v, &mask, target, to)
 }
 
 /// The last of two vectors, which holds the text's `left` last bytes, from `from` on: what came before

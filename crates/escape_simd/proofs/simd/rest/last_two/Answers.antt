@@ -7,7 +7,7 @@ use Rattle.escape_simd.specs.Runs.{run_count}
 use Rattle.escape_simd.specs.Stretch.{Stretch, IsVectorAt, rest_length, rest_slack}
 use Rattle.escape_simd.proofs.Stretches.{onward, ended}
 use Rattle.escape_simd.proofs.Costs.{vectors-least}
-use Rattle.escape_simd.proofs.RestLemmas.{zeros, last-loaded, last-lane, held-then, held-zeros, zeros-once, rest-narrow, rest-slack-some}
+use Rattle.escape_simd.proofs.RestLemmas.{zeros, last-is, last-loaded, last-lane, held-then, held-zeros, zeros-once, rest-narrow, rest-slack-some}
 use Rattle.escape_simd.proofs.simd.rest.last_two.Goals as goal
 
 pub whole_as_slice-put : goal.whole_as_slice-put
@@ -34,7 +34,7 @@ padded-source-requires g c =
     λ k h.
     ap (λ xs. get_or xs k 0) (c.as_flattened.ensures.value ∙ ap₂ (λ xs ys. xs ++ (ys ++ (zeros n ++ []))) first second)
     ∙ held-then src lanes (last ++ (zeros n ++ [])) at n (g.met.V.Vector.width c.load-v.result) whole
-    (held-then src last (zeros n ++ []) (at + n) n (g.met.V.Vector.width c.load_last-w.result) (λ i b. last-lane src last n (at + n) r.some (omega (arith, r.few)) c.load_last-w.ensures i)
+    (held-then src last (zeros n ++ []) (at + n) n (g.met.V.Vector.width c.load_last-w.result) (λ i b. last-lane src last n (at + n) r.some (omega (arith, r.few)) (last-is src last n (at + n) r.some c.load_last-w.ensures) i)
     (held-zeros src (zeros n ++ []) (at + n + n) (omega (arith, r.few)) (zeros-once n))) k
 
 pub load-v-requires : goal.load-v-requires
@@ -112,7 +112,7 @@ second_vector-requires g c =
                   (
                     r.narrow,
                     (
-                      last-loaded src last n (at + n) r.some (omega (arith, r.few)) c.load_last-w.ensures ∙ ap (λ xs. take (length src - (at + n)) (drop (at + n) xs)) (sym w.text),
+                      last-loaded src last n (at + n) r.some (omega (arith, r.few)) (last-is src last n (at + n) r.some c.load_last-w.ensures) ∙ ap (λ xs. take (length src - (at + n)) (drop (at + n) xs)) (sym w.text),
                       omega (arith, s.limit, s.same_slice.len, r.room, from_at),
                     ),
                   ),

@@ -1,0 +1,133 @@
+//! A text shorter than a vector, to the front of a slice: one vector stored whole where no byte needs an
+//! escape, with no stack frame for more.
+ghost use Rattle.std.specs.Prelude.{◌≡◌, ◌-◌, ◌<◌, ◌≤◌, ◌++◌, true, false, length, take, chars, replicate};
+ghost use Rattle.escape_lanes.specs.Bits.{none_set};
+ghost use Rattle.escape_lanes.specs.Written.{bytes_of, IsSameSlice};
+ghost use Rattle.escape_simd.specs.Modes.{mode_numbered};
+ghost use Rattle.escape_simd.specs.Output.{bound};
+ghost use Rattle.escape_simd.specs.Formatted.{IsWritten};
+ghost use Rattle.escape_simd.specs.Headline.{IsOnlyOutput};
+ghost use Rattle.escape_simd.specs.Laws.{IsOfOneText};
+ghost use Rattle.escape_simd.specs.Stretch.{HoldsFlags};
+
+use crate::simd::body::quote;
+use crate::simd::classify::Vector;
+use crate::simd::last::{load_rest, pass_rest};
+use crate::simd::source::Source;
+use crate::simd::vector::vector;
+use escape_lanes::simd::target::{Target, Ticks};
+use escape_lanes::simd::{BitMask, Flags};
+
+/// Writes the text, none of whose bytes the mask flags, between quotation marks to the front of the
+/// target. Answers how many bytes it became.
+#[inline(always)]
+fn quoted_clean<V: Vector<N>, const MODE: u8, const N: usize, const EXACT: bool>(
+    src: &[u8],
+    v: &V,
+    mask: &<V::Flags as Flags>::BitMask,
+    target: &mut Target<'_, N>,
+) -> usize
+    requires few { length src.now < N }
+    requires narrow { EXACT ≡ false → N ≤ 32 }
+    requires loaded { V.lanes v.now ≡ src.now ++ replicate (N - length src.now) 0 }
+    requires flagged { HoldsFlags (mode_numbered MODE) src.now 0 (length src.now) 0
+        (V.Flags.BitMask.bits mask.now) }
+    requires clean { none_set (V.Flags.BitMask.bits mask.now) ≡ true }
+    requires room { bound (mode_numbered MODE) (length src.now) ≤ length (bytes_of target.old) }
+    ensures same_slice { IsSameSlice target.old target.new }
+    ensures written { IsWritten N (mode_numbered MODE) src.now
+        (bytes_of target.old) (bytes_of target.new) result }
+{
+    let open = quote::<MODE, N>(target, 0);
+    let close = pass_rest::<V, MODE, N, EXACT>(src, 0, v, mask, target, open);
+    quote::<MODE, N>(target, close)
+}
+
+/// Writes the text, some of whose bytes the mask flags, between quotation marks to the front of the
+/// target. Answers how many bytes it became.
+///
+/// The text is put into memory with zeros after it, so that vectors can be loaded from any of its bytes
+/// on.
+#[inline(always)]
+fn quoted_flagged<V: Vector<N>, const MODE: u8, const N: usize, const EXACT: bool>(
+    src: &[u8],
+    mask: &<V::Flags as Flags>::BitMask,
+    target: &mut Target<'_, N>,
+) -> usize
+    requires some { 0 < length src.now }
+    requires few { length src.now < N }
+    requires narrow { EXACT ≡ false → N ≤ 32 }
+    requires flagged { HoldsFlags (mode_numbered MODE) src.now 0 (length src.now) 0
+        (V.Flags.BitMask.bits mask.now) }
+    requires room { bound (mode_numbered MODE) (length src.now) ≤ length (bytes_of target.old) }
+    ensures same_slice { IsSameSlice target.old target.new }
+    ensures written { IsWritten N (mode_numbered MODE) src.now
+        (bytes_of target.old) (bytes_of target.new) result }
+{
+    let len = src.len();
+    let v = V::load_last(src, len);
+    let mut held = [[0u8; N]; 3];
+    v.put(&mut held[0]);
+    let source = Source::padded(src, 0, held.as_flattened());
+    let open = quote::<MODE, N>(target, 0);
+    let mut ticks = Ticks::new();
+    let (_, close) = vector::<V, MODE, N, EXACT>(
+        &source, 0, len, 0, target, open, &v, mask, &mut ticks,
+    );
+    quote::<MODE, N>(target, close)
+}
+
+/// The text, some of whose bytes the mask flags, to the front of `dst`, in a function of its own.
+#[inline(never)]
+fn format_flagged<V: Vector<N>, const MODE: u8, const N: usize, const EXACT: bool>(
+    value: &str,
+    dst: &mut [u8],
+    mask: <V::Flags as Flags>::BitMask,
+) -> usize
+    requires some { 0 < length value.now }
+    requires few { length value.now < N }
+    requires narrow { EXACT ≡ false → N ≤ 32 }
+    requires flagged { HoldsFlags (mode_numbered MODE) value.now 0 (length value.now) 0
+        (V.Flags.BitMask.bits mask) }
+    requires room { bound (mode_numbered MODE) (length value.now) ≤ length dst.old }
+    ensures { IsWritten N (mode_numbered MODE) value.now dst.old dst.new result }
+{
+    let mut target = Target::<N>::new(dst);
+    quoted_flagged::<V, MODE, N, EXACT>(value.as_bytes(), &mask, &mut target)
+}
+
+/// The text to the front of `dst`.
+#[inline(always)]
+fn written_short<V: Vector<N>, const MODE: u8, const N: usize, const EXACT: bool>(
+    value: &str,
+    dst: &mut [u8],
+) -> usize
+    requires few { length value.now < N }
+    requires narrow { EXACT ≡ false → N ≤ 32 }
+    requires room { bound (mode_numbered MODE) (length value.now) ≤ length dst.old }
+    ensures { IsWritten N (mode_numbered MODE) value.now dst.old dst.new result }
+{
+    let src = value.as_bytes();
+    let (v, mask) = load_rest::<V, MODE, N>(src, 0, &mut Ticks::new());
+    if !mask.all_zero() {
+        return format_flagged::<V, MODE, N, EXACT>(value, dst, mask);
+    }
+    let mut target = Target::<N>::new(dst);
+    quoted_clean::<V, MODE, N, EXACT>(src, &v, &mask, &mut target)
+}
+
+/// Escapes a text shorter than a vector to the front of `dst`, and answers how many bytes it became.
+#[inline(always)]
+pub(crate) fn format_short<V: Vector<N>, const MODE: u8, const N: usize, const EXACT: bool>(
+    value: &str,
+    dst: &mut [u8],
+) -> usize
+    requires few { length value.now < N }
+    requires narrow { EXACT ≡ false → N ≤ 32 }
+    requires room { bound (mode_numbered MODE) (length value.now) ≤ length dst.old }
+    ensures written { IsWritten N (mode_numbered MODE) value.now dst.old dst.new result }
+    ensures headline { IsOnlyOutput (mode_numbered MODE) (take result dst.new) (chars value.now) }
+    ensures equal_texts { IsOfOneText (mode_numbered MODE) value.now (take result dst.new) }
+{
+    written_short::<V, MODE, N, EXACT>(value, dst)
+}

@@ -1,7 +1,7 @@
 -- What a mask tells of the text that its vector holds.
 use Rattle.std.proofs.Common.{◌≡◌, ℕ, zero, suc, ◌+◌, ◌-◌, ◌*◌, ◌<◌, ◌≤◌, Bool, true, false, true≢false, cond, ◌||◌, List, [], ◌∷◌, length, take, drop, get_or, map, replicate, refl, sym, ap, ◌∙◌, arith, length-take-le, length-drop, inl, inr}
 use Rattle.std.proofs.lemmas.Bool.Decides.{leb_tells}
-use Rattle.std.proofs.lemmas.List.{length-map, get_or-take, get_or-drop, get_or-map, get_or_past, take_all, append-nil, get_or_append_left, get_or-append_right, get_or-replicate, length-replicate}
+use Rattle.std.proofs.lemmas.List.{length-take, length-map, get_or-take, get_or-drop, get_or-map, get_or_past, take_all, append-nil, get_or_append_left, get_or-append_right, get_or-replicate, length-replicate}
 use Rattle.std.proofs.lemmas.List.Sums.{sum_by-append}
 use Rattle.std.specs.List.{count_by}
 use Rattle.std.specs.Simd.Lanes.{zip2}
@@ -209,6 +209,12 @@ held-whole mode src lanes at n bits long inside loaded e = held-cut mode src lan
 -- where a vector's mask sets no lane, its bytes are clean
 pub none_clean : (mode : Mode) (lanes : List ℕ) → none_set (map (needs_escape mode) lanes) ≡ true → IsClean mode lanes
 none_clean mode lanes none k h = sym (get_or-map (needs_escape mode) lanes k 0 false h) ∙ none_set-at (map (needs_escape mode) lanes) k none
+
+-- the first of clean bytes are clean
+pub front_clean : (mode : Mode) (xs : List ℕ) (n : ℕ) → IsClean mode xs → IsClean mode (take n xs)
+front_clean mode xs n clean k h =
+    let l = length-take n xs in
+    ap (needs_escape mode) (get_or-take n xs k 0 (omega (arith, l, h))) ∙ clean k (omega (arith, l, h))
 
 -- a store covers the lanes taken, and a vector at most
 pub stored-bounds : (exact : Bool) (n taken : ℕ) → taken ≤ n → (taken ≤ stored_lanes exact n taken) × (stored_lanes exact n taken ≤ n)

@@ -15,34 +15,6 @@ use crate::simd::few::escape_few;
 use crate::simd::many::escape_many;
 use escape_lanes::simd::target::{Target, Ticks};
 
-/// Escapes the bytes to the target from `to` on, and answers the place reached.
-///
-/// `CHUNK` says how many vectors are classified at once: four, two or one. `FEW` says that the text is
-/// short: fewer bytes than three vectors have.
-#[inline(always)]
-fn escape_bytes<
-    V: Vector<N>,
-    const MODE: u8,
-    const N: usize,
-    const CHUNK: usize,
-    const EXACT: bool,
-    const FEW: bool,
->(src: &[u8], target: &mut Target<'_, N>, to: usize, ticks: &mut Ticks) -> usize
-    requires few { FEW ≡ true → length src.now < 3 * N }
-    requires narrow { EXACT ≡ false → N ≤ 32 }
-    requires room { to + room_from (mode_numbered MODE) src.now 0 ≤ length (bytes_of target.old) }
-    ensures stretch { Stretch (mode_numbered MODE) (rest_slack EXACT N) src.now
-        target.old target.new 0 (length src.now) to result }
-    ensures stored { stored_of target.new
-        ≤ stored_of target.old + run_count (mode_numbered MODE) src.now + length src.now / N + 1 }
-    ensures classified { ticks.new + stored_of target.old ≡ ticks.old + stored_of target.new }
-{
-    if FEW {
-        return escape_few::<V, MODE, N, EXACT>(src, target, to, ticks);
-    }
-    escape_many::<V, MODE, N, CHUNK, EXACT>(src, target, to, ticks)
-}
-
 /// Escapes the bytes to `dst` from `to` on, with no quotation marks, and answers the place reached.
 #[inline(always)]
 pub(crate) fn escape_at<
@@ -101,8 +73,10 @@ pub(crate) fn quote<const MODE: u8, const N: usize>(target: &mut Target<'_, N>, 
     to
 }
 
-/// Escapes the text, of few bytes or of any number, to the front of the target, and answers how many
-/// bytes it became.
+/// Escapes the text to the front of the target, and answers how many bytes it became.
+///
+/// `CHUNK` says how many vectors are classified at once: four (and two of those that are left), two or
+/// one.
 #[inline(always)]
 pub(crate) fn quoted<
     V: Vector<N>,
@@ -110,9 +84,7 @@ pub(crate) fn quoted<
     const N: usize,
     const CHUNK: usize,
     const EXACT: bool,
-    const FEW: bool,
 >(value: &str, target: &mut Target<'_, N>, ticks: &mut Ticks) -> usize
-    requires few { FEW ≡ true → length value.now < 3 * N }
     requires narrow { EXACT ≡ false → N ≤ 32 }
     requires room { bound (mode_numbered MODE) (length value.now) ≤ length (bytes_of target.old) }
     ensures { IsFormatted (mode_numbered MODE) value.now
@@ -121,7 +93,7 @@ pub(crate) fn quoted<
 {
     let open = quote::<MODE, N>(target, 0);
     let bytes = value.as_bytes();
-    let close = escape_bytes::<V, MODE, N, CHUNK, EXACT, FEW>(bytes, target, open, ticks);
+    let close = escape_many::<V, MODE, N, CHUNK, EXACT>(bytes, target, open, ticks);
     quote::<MODE, N>(target, close)
 }
 
@@ -140,10 +112,7 @@ pub(crate) fn body<
         target.old target.new result ticks.old
         ticks.new }
 {
-    if value.len() < 3 * N {
-        return quoted::<V, MODE, N, CHUNK, EXACT, true>(value, target, ticks);
-    }
-    quoted::<V, MODE, N, CHUNK, EXACT, false>(value, target, ticks)
+    quoted::<V, MODE, N, CHUNK, EXACT>(value, target, ticks)
 }
 
 /// The body in one of the two modes of the public calls.
@@ -164,4 +133,25 @@ pub(crate) fn format_target<
         return body::<V, { HTML_MODE }, N, CHUNK, EXACT>(value, target, ticks);
     }
     body::<V, { JSON_MODE }, N, CHUNK, EXACT>(value, target, ticks)
+}
+
+/// As [`quoted`], with the target made over `dst`, in a function of its own: so a short text waits for no
+/// loop's frame.
+#[inline(never)]
+pub(crate) fn format_many<
+    V: Vector<N>,
+    const MODE: u8,
+    const N: usize,
+    const CHUNK: usize,
+    const EXACT: bool,
+>(value: &str, dst: &mut [u8]) -> usize
+    requires narrow { EXACT ≡ false → N ≤ 32 }
+    requires room { bound (mode_numbered MODE) (length value.now) ≤ length dst.old }
+    ensures written { IsWritten N (mode_numbered MODE) value.now dst.old dst.new result }
+    ensures headline { IsOnlyOutput (mode_numbered MODE) (take result dst.new) (chars value.now) }
+    ensures equal_texts { IsOfOneText (mode_numbered MODE) value.now (take result dst.new) }
+{
+    let mut target = Target::<N>::new(dst);
+    let mut ticks = Ticks::new();
+    quoted::<V, MODE, N, CHUNK, EXACT>(value, &mut target, &mut ticks)
 }

@@ -28,6 +28,9 @@ pub(crate) fn pass<V: Vector<N>, const MODE: u8, const N: usize>(
     requires room { to + N ≤ length (bytes_of target.old) }
     ensures stretch { Stretch (mode_numbered MODE) 8 src.now
         target.old target.new at (at + N) to (to + N) }
+    ensures front { (count : ℕ)
+        → count ≤ N
+        → Stretch (mode_numbered MODE) 8 src.now target.old target.new at (at + count) to (to + count) }
     ensures no_run { run_count (mode_numbered MODE) (drop (at + N) src.now)
         ≡ run_count (mode_numbered MODE) (drop at src.now) }
     ensures stored { stored_of target.new ≡ stored_of target.old + 1 }

@@ -13,14 +13,14 @@ quote-open-requires g c =
     let b = bound-quotes (mode_numbered g.row.MODE) (length c.args.value.now) in
     (omega arith, omega (arith, b, c.requires.room))
 
-pub escape_bytes-close-requires : goal.escape_bytes-close-requires
-escape_bytes-close-requires g c =
+pub escape_many-close-requires : goal.escape_many-close-requires
+escape_many-close-requires g c =
     let mode = mode_numbered g.row.MODE in let src : List ℕ = c.as_bytes-bytes.result.now in
     let b = bound-quotes mode (length c.args.value.now) in let q = quote-short mode in
     let l = ap length c.as_bytes-bytes.ensures.value in
     let r = rest-bounds mode src 0 in
     let o = c.quote-open.ensures in
-    (omega arith, ((λ f. omega (arith, l, c.requires.few f)), (c.requires.narrow, omega (arith, b, q, l, r, o.end, o.same_slice.len, c.requires.room))))
+    (omega arith, (c.requires.narrow, omega (arith, b, q, l, r, o.end, o.same_slice.len, c.requires.room)))
 
 pub quote-requires : goal.quote-requires
 quote-requires g c =
@@ -28,7 +28,7 @@ quote-requires g c =
     let b = bound-quotes mode (length c.args.value.now) in let q = quote-short mode in
     let l = ap length c.as_bytes-bytes.ensures.value in
     let r = rest-bounds mode src 0 in
-    let o = c.quote-open.ensures in let s = c.escape_bytes-close.ensures.stretch in
+    let o = c.quote-open.ensures in let s = c.escape_many-close.ensures.stretch in
     (omega arith, omega (arith, b, q, l, r, o.end, o.same_slice.len, s.limit, s.same_slice.len, c.requires.room))
 
 pub returns : goal.returns
@@ -39,8 +39,8 @@ returns g c =
     let q = c.quote-open.ensures in let r = c.quote.ensures in
     let before : IsQuoted {N = g.row.N} mode c.args.target.now c.quote-open.new.target 0 c.quote-open.result =
     record { same_slice = q.same_slice; ends = q.end; written = q.written; kept = q.kept; stored = q.stored; escaped = q.escaped; quotes = q.quotes } in
-    let after : IsQuoted {N = g.row.N} mode c.escape_bytes-close.new.target c.quote.new.target c.escape_bytes-close.result c.quote.result =
+    let after : IsQuoted {N = g.row.N} mode c.escape_many-close.new.target c.quote.new.target c.escape_many-close.result c.quote.result =
     record { same_slice = r.same_slice; ends = r.end; written = r.written; kept = r.kept; stored = r.stored; escaped = r.escaped; quotes = r.quotes } in
     let len = ap length c.as_bytes-bytes.ensures.value in
-    subst (λ xs. IsFormatted {N = g.row.N} mode xs c.args.target.now c.quote.new.target c.quote.result c.args.ticks.now c.escape_bytes-close.new.ticks) c.as_bytes-bytes.ensures.value
-    (whole_formatted {exact = exact} before c.escape_bytes-close.ensures.stretch after (subst (λ (n : ℕ). bound mode n ≤ length (bytes_of c.args.target.now)) (sym len) c.requires.room) c.requires.narrow (omega (arith, several)) c.escape_bytes-close.ensures.stored c.escape_bytes-close.ensures.classified)
+    subst (λ xs. IsFormatted {N = g.row.N} mode xs c.args.target.now c.quote.new.target c.quote.result c.args.ticks.now c.escape_many-close.new.ticks) c.as_bytes-bytes.ensures.value
+    (whole_formatted {exact = exact} before c.escape_many-close.ensures.stretch after (subst (λ (n : ℕ). bound mode n ≤ length (bytes_of c.args.target.now)) (sym len) c.requires.room) c.requires.narrow (omega (arith, several)) c.escape_many-close.ensures.stored c.escape_many-close.ensures.classified)

@@ -1,6 +1,6 @@
 use Rattle.std.proofs.Common.{rules}
 use Rattle.escape_simd.proofs.OutputLemmas.{IsOnlyOutput-output, IsOfOneText-output}
-use Rattle.escape_simd.proofs.simd.string.quoted_string.Goals as goal
+use Rattle.escape_simd.proofs.simd.body.format_many.Goals as goal
 
 pub returns-clause-headline : goal.returns-clause-headline
 returns-clause-headline g c = IsOnlyOutput-output _ _ _ (search rules) c.utf8.value

@@ -15,8 +15,8 @@ load-v-requires g c =
     let w = c.whole.ensures in let b = ap length w.bytes in
     record { after = omega (arith, w.base); held = omega (arith, w.base, b, c.if-src-at.true, c.requires.inside) }
 
-pub last_two-requires : goal.last_two-requires
-last_two-requires g c =
+pub last_two_apart-requires : goal.last_two_apart-requires
+last_two_apart-requires g c =
     let mode = mode_numbered g.row.MODE in let src : List ℕ = c.args.src.now in let n : ℕ = g.row.N in
     let lanes : List ℕ = g.V.Vector.lanes c.load-v.result in
     let w = c.whole.ensures in let t = ap length w.text in (

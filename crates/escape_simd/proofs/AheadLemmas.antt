@@ -4,8 +4,8 @@ use Rattle.std.specs.List.{count_by}
 use Rattle.std.proofs.Math.Seq.{take-add}
 use Rattle.std.proofs.lemmas.Bool.{cases_Bool}
 use Rattle.std.proofs.lemmas.Bool.Decides.{leb_tells}
-use Rattle.std.proofs.lemmas.List.{length-map, get_or-take, get_or-drop, get_or-map, get_or_append_left, take-append-drop, take_all, append-nil}
-use Rattle.std.proofs.lemmas.List.Sums.{sum_by-append, count_by-le-length}
+use Rattle.std.proofs.lemmas.List.{length-map, take-take, get_or-take, get_or-drop, get_or-map, get_or_append_left, take-append-drop, take_all, append-nil}
+use Rattle.std.proofs.lemmas.List.Sums.{sum_by-append, sum_by-take-le, count_by-le-length}
 use Rattle.escape_lanes.specs.Bits.{none_set}
 use Rattle.escape_lanes.specs.Mode.{Mode, json, html, script, mode_of}
 use Rattle.escape_lanes.specs.Replacement.{needs_escape, replacement}
@@ -176,6 +176,32 @@ count-clean mode src at next forward clean inside =
     let none = count-none (needs_escape mode) (take n (drop at src)) (λ k h.
     ap (needs_escape mode) (get_or-take n (drop at src) k 0 (omega (arith, l)) ∙ get_or-drop at src k 0) ∙ clean (at + k) (omega arith) (omega (arith, l))) in
     omega (arith, parts, none)
+
+-- no fewer further on
+pub count-upto : (f : ℕ → Bool) (src : List ℕ) (i k : ℕ) → i ≤ k → count_by f (take i src) ≤ count_by f (take k src)
+count-upto f src i k within = let l = sum_by-take-le (λ y. cond (f y) 1 0) (take k src) i in let e = ap (count_by f) (take-take i k src within) in omega (arith, l, e)
+
+-- three vectors that overlap have all of them, and each is counted three times at most
+module _ (f : ℕ → Bool) (src : List ℕ) (middle last n a b c : ℕ) (near : middle ≤ n) (far : last ≤ middle + n) (order : middle ≤ last) (whole : last + n ≡ length src)
+    (first : count_by f (take (0 + n) src) ≡ count_by f (take 0 src) + a) (second : count_by f (take (middle + n) src) ≡ count_by f (take middle src) + b)
+    (third : count_by f (take (last + n) src) ≡ count_by f (take last src) + c) where
+  -- up to the end
+  count-end : count_by f (take (last + n) src) ≡ count_by f src
+  count-end = ap (count_by f) (take_all (last + n) src (omega (arith, whole)))
+
+  -- up to the front
+  none : count_by f (take 0 src) ≡ 0
+  none = refl
+
+  pub three-all : count_by f src ≤ a + b + c
+  three-all =
+      let e = count-end in let p = count-upto f src middle (0 + n) (omega (arith, near)) in let q = count-upto f src last (middle + n) far in
+      omega (arith, e, p, q, none, first, second, third)
+
+  pub three-most : a + b + c ≤ 3 * count_by f src
+  three-most =
+      let e = count-end in let p = count-upto f src (0 + n) (last + n) (omega arith) in let q = count-upto f src (middle + n) (last + n) (omega (arith, order)) in
+      omega (arith, e, p, q, none, first, second, third)
 
 -- what stands for a byte is five bytes longer at most, and no longer where it needs no escape
 replacement-most : (mode : Mode) (b : ℕ) → length (replacement mode b) ≤ 1 + 5 * cond (needs_escape mode b) 1 0

@@ -18,7 +18,7 @@ use crate::simd::avx2::Simd256u;
 use crate::{html, json};
 pub use bytes::PIECE;
 use bytes::append_bytes;
-pub use inner::{stands_for_itself, write_inner};
+pub use inner::{escapes_at_most, stands_for_itself, write_inner};
 use std::alloc::{AllocError, Allocator};
 
 /// Why a text was not escaped.

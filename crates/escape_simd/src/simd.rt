@@ -23,7 +23,9 @@ pub mod util;
 pub mod v128;
 mod vector;
 
-pub(crate) use ahead::{are_three_clean, count_flagged, is_clean, load_at, load_masked};
+pub(crate) use ahead::{
+    are_three_clean, count_flagged, count_or_more, is_clean, load_at, load_masked,
+};
 pub(crate) use body::{escape_at, escape_few_at};
 pub(crate) use classify::Vector;
 pub use classify::{HTML_MODE, JSON_MODE, SCRIPT_MODE};

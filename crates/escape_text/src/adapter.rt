@@ -1,10 +1,10 @@
 //! The output for a text to a formatter.
+ghost use Rattle.std.specs.Prelude.{◌≡◌, ◌+◌, ◌≤◌, length};
 ghost use Rattle.std.specs.Fmt.{WritesOnOk};
 ghost use Rattle.escape_simd.specs.Modes.{mode_numbered};
-ghost use Rattle.escape_simd.specs.Output.{plain};
+ghost use Rattle.escape_simd.specs.Output.{plain, inner};
 
-use crate::piecewise::{Pieces, ROOM, SHORT, SHORT_ROOM, escape_short, quote};
-use escape_simd::output::stands_for_itself;
+use crate::piecewise::{FEW_ROOM, Pieces, ROOM, SHORT_ROOM, Way, escape_short, quote, way_of};
 use std::fmt;
 
 /// Writes the output for the text. A text that stands for itself takes no array.
@@ -15,26 +15,39 @@ pub(crate) fn display<const MODE: u8, W: fmt::Write>(
     ensures { WritesOnOk W.write_str_gives f.old result
         (plain (mode_numbered MODE) value.now) f.new }
 {
-    if !stands_for_itself::<MODE>(value) {
-        return display_escaped::<MODE, W>(value, f);
+    match way_of::<MODE>(value) {
+        Way::Itself => display_itself::<MODE, W>(value, f),
+        Way::Few => display_short::<MODE, FEW_ROOM, W>(value, f),
+        Way::Short => display_short::<MODE, SHORT_ROOM, W>(value, f),
+        Way::Pieces => display_pieces::<MODE, W>(value, f),
     }
+}
+
+/// The same for a text that stands for itself.
+fn display_itself<const MODE: u8, W: fmt::Write>(
+    value: &str,
+    f: &mut fmt::Formatter<W>,
+) -> fmt::Result
+    requires { inner (mode_numbered MODE) value.now ≡ value.now }
+    ensures { WritesOnOk W.write_str_gives f.old result
+        (plain (mode_numbered MODE) value.now) f.new }
+{
     f.write_str(quote::<MODE>())?;
     f.write_str(value)?;
     f.write_str(quote::<MODE>())
 }
 
-/// The same, made in an array: a short text in a smaller one.
-fn display_escaped<const MODE: u8, W: fmt::Write>(
+/// The same made at once in an array of `N` bytes.
+fn display_short<const MODE: u8, const N: usize, W: fmt::Write>(
     value: &str,
     f: &mut fmt::Formatter<W>,
 ) -> fmt::Result
+    requires short { length (inner (mode_numbered MODE) value.now) + 34 ≤ N }
+    requires small { N ≤ ROOM }
     ensures { WritesOnOk W.write_str_gives f.old result
         (plain (mode_numbered MODE) value.now) f.new }
 {
-    if SHORT < value.len() {
-        return display_pieces::<MODE, W>(value, f);
-    }
-    let mut room = [0; SHORT_ROOM];
+    let mut room = [0; N];
     f.write_str(escape_short::<MODE>(value, &mut room))
 }
 

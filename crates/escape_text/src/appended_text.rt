@@ -1,10 +1,10 @@
 //! The output for a text at the end of a `String`.
 ghost use Rattle.std.specs.Prelude.{◌≡◌, ◌+◌, ◌<◌, ◌≤◌, ◌↔◌, ◌++◌, length, string_bytes, string_len, string_capacity, Err, IsOk, OnOk, OnErr};
 ghost use Rattle.escape_simd.specs.Modes.{mode_numbered};
-ghost use Rattle.escape_simd.specs.Output.{plain, bound};
+ghost use Rattle.escape_simd.specs.Output.{plain, inner, bound};
 
-use crate::piecewise::{Pieces, ROOM, SHORT, SHORT_ROOM, escape_short, quote};
-use escape_simd::output::{Refusal, scratch_bound, stands_for_itself};
+use crate::piecewise::{FEW_ROOM, Pieces, ROOM, SHORT_ROOM, Way, escape_short, quote, way_of};
+use escape_simd::output::{Refusal, scratch_bound};
 use std::alloc::Allocator;
 
 /// Appends the output for the text.
@@ -47,25 +47,37 @@ fn append_output<const MODE: u8, A: Allocator>(value: &str, dst: &mut String<A>)
     ensures { string_bytes dst.new
         ≡ string_bytes dst.old ++ plain (mode_numbered MODE) value.now }
 {
-    if !stands_for_itself::<MODE>(value) {
-        return append_escaped::<MODE, A>(value, dst);
+    match way_of::<MODE>(value) {
+        Way::Itself => append_itself::<MODE, A>(value, dst),
+        Way::Few => append_short::<MODE, FEW_ROOM, A>(value, dst),
+        Way::Short => append_short::<MODE, SHORT_ROOM, A>(value, dst),
+        Way::Pieces => append_pieces::<MODE, A>(value, dst),
     }
+}
+
+/// The same for a text that stands for itself.
+fn append_itself<const MODE: u8, A: Allocator>(value: &str, dst: &mut String<A>)
+    requires itself { inner (mode_numbered MODE) value.now ≡ value.now }
+    requires room { string_len dst.old + bound (mode_numbered MODE) (length value.now)
+        ≤ string_capacity dst.old }
+    ensures { string_bytes dst.new
+        ≡ string_bytes dst.old ++ plain (mode_numbered MODE) value.now }
+{
     push_text(quote::<MODE>(), dst);
     push_text(value, dst);
     push_text(quote::<MODE>(), dst);
 }
 
-/// The same, made in an array: a short text in a smaller one.
-fn append_escaped<const MODE: u8, A: Allocator>(value: &str, dst: &mut String<A>)
-    requires { string_len dst.old + bound (mode_numbered MODE) (length value.now)
+/// The same made at once in an array of `N` bytes.
+fn append_short<const MODE: u8, const N: usize, A: Allocator>(value: &str, dst: &mut String<A>)
+    requires short { length (inner (mode_numbered MODE) value.now) + 34 ≤ N }
+    requires small { N ≤ ROOM }
+    requires room { string_len dst.old + bound (mode_numbered MODE) (length value.now)
         ≤ string_capacity dst.old }
     ensures { string_bytes dst.new
         ≡ string_bytes dst.old ++ plain (mode_numbered MODE) value.now }
 {
-    if SHORT < value.len() {
-        return append_pieces::<MODE, A>(value, dst);
-    }
-    let mut room = [0; SHORT_ROOM];
+    let mut room = [0; N];
     push_text(escape_short::<MODE>(value, &mut room), dst);
 }
 

@@ -5,7 +5,7 @@ ghost use Rattle.escape_simd.specs.Modes.{mode_numbered};
 ghost use Rattle.escape_simd.specs.Output.{plain, inner, quote_of};
 ghost use Rattle.escape_text.specs.ToWrite.{quote_if, to_write, pieces_left};
 
-use escape_simd::output::write_inner;
+use escape_simd::output::{escapes_at_most, stands_for_itself, write_inner};
 use escape_simd::simd::HTML_MODE;
 
 /// How many bytes of a text are escaped at a time.
@@ -15,11 +15,54 @@ const PIECE: usize = 256;
 /// marks, and a vector.
 pub(crate) const ROOM: usize = 1570;
 
-/// How many bytes a text has at most for which the smaller array will do.
-pub(crate) const SHORT: usize = 64;
+/// How many bytes the array has for a short output, and for a longer one.
+pub(crate) const FEW_ROOM: usize = 128;
 
-/// How many bytes that array has: six for each byte, two quotation marks, and a vector.
 pub(crate) const SHORT_ROOM: usize = 418;
+
+/// How the output for a text is made.
+#[derive(Clone, Copy)]
+pub(crate) enum Way {
+    /// It is the text, between its quotation marks.
+    Itself,
+    /// At once, in an array of `FEW_ROOM` bytes.
+    Few,
+    /// At once, in an array of `SHORT_ROOM` bytes.
+    Short,
+    /// Piece by piece, in an array of `ROOM` bytes.
+    Pieces,
+}
+
+/// How the output for the text in the mode numbered `MODE` is made. An array is filled with zeros before
+/// it is written, so it is to be small: for a text that is no longer than a piece, what needs an escape
+/// is counted.
+#[inline(always)]
+pub(crate) fn way_of<const MODE: u8>(text: &str) -> Way
+    ensures itself { result ≡ Way.Itself → inner (mode_numbered MODE) text.now ≡ text.now }
+    ensures few { result ≡ Way.Few → length (inner (mode_numbered MODE) text.now) + 34 ≤ FEW_ROOM }
+    ensures short { result ≡ Way.Short → length (inner (mode_numbered MODE) text.now) + 34 ≤ SHORT_ROOM }
+{
+    if PIECE < text.len() {
+        return if stands_for_itself::<MODE>(text) {
+            Way::Itself
+        } else {
+            Way::Pieces
+        };
+    }
+    let count = escapes_at_most::<MODE>(text);
+    if count == 0 {
+        return Way::Itself;
+    }
+    // A byte is written by six bytes at most.
+    let room = text.len() + 5 * count + 34;
+    if room <= FEW_ROOM {
+        Way::Few
+    } else if room <= SHORT_ROOM {
+        Way::Short
+    } else {
+        Way::Pieces
+    }
+}
 
 /// A text, and how far the output for it was made.
 #[derive(Drop)]
@@ -73,11 +116,10 @@ fn split_piece(text: &str) -> (&str, &str)
     text.split_at(text.floor_char_boundary(PIECE.min(text.len())))
 }
 
-/// The output for a short text in the mode numbered `MODE`, written in `room`.
+/// The output for a text in the mode numbered `MODE`, written in `room` at once.
 #[inline(always)]
 pub(crate) fn escape_short<'r, const MODE: u8>(text: &str, room: &'r mut [u8]) -> &'r str
-    requires short { length text.now ≤ SHORT }
-    requires room { SHORT_ROOM ≤ length room.old }
+    requires { length (inner (mode_numbered MODE) text.now) + 34 ≤ length room.old }
     ensures { result.now ≡ plain (mode_numbered MODE) text.now }
 {
     escape_piece::<MODE>(text, true, true, room)
@@ -91,7 +133,7 @@ fn escape_piece<'r, const MODE: u8>(
     last: bool,
     room: &'r mut [u8],
 ) -> &'r str
-    requires { 6 * length piece.now + 34 ≤ length room.old }
+    requires { length (inner (mode_numbered MODE) piece.now) + 34 ≤ length room.old }
     ensures { result.now ≡ quote_if (mode_numbered MODE) first
         ++ (inner (mode_numbered MODE) piece.now ++ quote_if (mode_numbered MODE) last) }
 {

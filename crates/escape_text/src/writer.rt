@@ -1,12 +1,11 @@
 //! The output for a text to a writer.
-ghost use Rattle.std.specs.Prelude.{OnOk, OnErr};
+ghost use Rattle.std.specs.Prelude.{◌≡◌, ◌+◌, ◌≤◌, length, OnOk, OnErr};
 ghost use Rattle.std.specs.Io.KnownBytes.{Appends};
 ghost use Rattle.escape_simd.specs.Modes.{mode_numbered};
-ghost use Rattle.escape_simd.specs.Output.{plain};
+ghost use Rattle.escape_simd.specs.Output.{plain, inner};
 ghost use Rattle.escape_text.specs.Writers.{AppendsBeginning};
 
-use crate::piecewise::{Pieces, ROOM, SHORT, SHORT_ROOM, escape_short, quote};
-use escape_simd::output::stands_for_itself;
+use crate::piecewise::{FEW_ROOM, Pieces, ROOM, SHORT_ROOM, Way, escape_short, quote, way_of};
 use std::io::{ErrorKind, Result, Write};
 
 /// Writes the output for the text, and does not flush. A text that stands for itself takes no array.
@@ -16,25 +15,37 @@ pub(crate) fn write_output<const MODE: u8, W: Write>(value: &str, writer: &mut W
     ensures beginning { OnErr result (AppendsBeginning (W.contents writer.old)
         (W.contents writer.new) (plain (mode_numbered MODE) value.now)) }
 {
-    if !stands_for_itself::<MODE>(value) {
-        return write_escaped::<MODE, W>(value, writer);
+    match way_of::<MODE>(value) {
+        Way::Itself => write_itself::<MODE, W>(value, writer),
+        Way::Few => write_short::<MODE, FEW_ROOM, W>(value, writer),
+        Way::Short => write_short::<MODE, SHORT_ROOM, W>(value, writer),
+        Way::Pieces => write_pieces::<MODE, W>(value, writer),
     }
-    write_whole(quote::<MODE>().as_bytes(), writer)?;
-    write_whole(value.as_bytes(), writer)?;
-    write_whole(quote::<MODE>().as_bytes(), writer)
 }
 
-/// The same, made in an array: a short text in a smaller one.
-fn write_escaped<const MODE: u8, W: Write>(value: &str, writer: &mut W) -> Result<()>
+/// The same for a text that stands for itself.
+fn write_itself<const MODE: u8, W: Write>(value: &str, writer: &mut W) -> Result<()>
+    requires { inner (mode_numbered MODE) value.now ≡ value.now }
     ensures whole { OnOk result (Appends (W.contents writer.old) (W.contents writer.new)
         (plain (mode_numbered MODE) value.now)) }
     ensures beginning { OnErr result (AppendsBeginning (W.contents writer.old)
         (W.contents writer.new) (plain (mode_numbered MODE) value.now)) }
 {
-    if SHORT < value.len() {
-        return write_pieces::<MODE, W>(value, writer);
-    }
-    let mut room = [0; SHORT_ROOM];
+    write_whole(quote::<MODE>().as_bytes(), writer)?;
+    write_whole(value.as_bytes(), writer)?;
+    write_whole(quote::<MODE>().as_bytes(), writer)
+}
+
+/// The same made at once in an array of `N` bytes.
+fn write_short<const MODE: u8, const N: usize, W: Write>(value: &str, writer: &mut W) -> Result<()>
+    requires short { length (inner (mode_numbered MODE) value.now) + 34 ≤ N }
+    requires small { N ≤ ROOM }
+    ensures whole { OnOk result (Appends (W.contents writer.old) (W.contents writer.new)
+        (plain (mode_numbered MODE) value.now)) }
+    ensures beginning { OnErr result (AppendsBeginning (W.contents writer.old)
+        (W.contents writer.new) (plain (mode_numbered MODE) value.now)) }
+{
+    let mut room = [0; N];
     write_whole(escape_short::<MODE>(value, &mut room).as_bytes(), writer)
 }
 

@@ -143,3 +143,34 @@ pub(crate) fn is_clean<V: Vector<N>, const MODE: u8, const N: usize>(src: &[u8])
     }
     count_flagged::<V, MODE, N>(&src[at..]) == 0
 }
+
+/// As many bytes as need an escape of a text shorter than three vectors, and no shorter than one, or
+/// more: of its first vector, of that in its middle and of its last one, which may overlap.
+#[inline(always)]
+fn count_three<V: Vector<N>, const MODE: u8, const N: usize>(src: &[u8]) -> usize
+    requires some { N ≤ length src.now }
+    requires few { length src.now < 3 * N }
+    ensures all { count_by (needs_escape (mode_numbered MODE)) src.now ≤ result }
+    ensures most { result ≤ 3 * count_by (needs_escape (mode_numbered MODE)) src.now }
+{
+    let last = src.len() - N;
+    let middle = N.min(last);
+    let first = count_at::<V, MODE, N>(src, 0);
+    first + count_at::<V, MODE, N>(src, middle) + count_at::<V, MODE, N>(src, last)
+}
+
+/// As many bytes of the text as need an escape, or more: at most three times as many. A short text is
+/// asked with no loop.
+#[inline(always)]
+pub(crate) fn count_or_more<V: Vector<N>, const MODE: u8, const N: usize>(src: &[u8]) -> usize
+    ensures all { count_by (needs_escape (mode_numbered MODE)) src.now ≤ result }
+    ensures most { result ≤ 3 * count_by (needs_escape (mode_numbered MODE)) src.now }
+{
+    if src.len() < N {
+        return load_masked::<V, MODE, N>(src, src.len()).1.count_set();
+    }
+    if src.len() < 3 * N {
+        return count_three::<V, MODE, N>(src);
+    }
+    count_flagged::<V, MODE, N>(src)
+}

@@ -1,8 +1,12 @@
-use Rattle.std.proofs.Common.{length, ap, arith}
-use Rattle.escape_simd.proofs.InnerLemmas.{inner_room}
+use Rattle.std.proofs.Common.{ap, arith}
+use Rattle.escape_simd.specs.Modes.{mode_numbered}
+use Rattle.escape_simd.specs.Stretch.{room_from}
+use Rattle.escape_simd.proofs.Stretches.{rest-is}
 use Rattle.escape_simd.proofs.output.inner.write_inner.Goals as goal
 
 pub escape_at-requires-clause-room : goal.escape_at-requires-clause-room
 escape_at-requires-clause-room g c =
-    let same = ap length c.as_bytes.ensures.value in
-    inner_room _ c.as_bytes.result.now _ _ (omega (arith, same, c.requires))
+    let mode = mode_numbered g.row.MODE in
+    let room = rest-is mode c.args.value.now 0 in
+    let same = ap (λ xs. room_from mode xs 0) c.as_bytes.ensures.value in
+    omega (arith, room, same, c.requires)

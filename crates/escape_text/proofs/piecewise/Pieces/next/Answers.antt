@@ -1,4 +1,5 @@
-use Rattle.std.proofs.Common.{rules}
+use Rattle.std.proofs.Common.{rules, arith}
+use Rattle.escape_simd.proofs.Texts.{length-inner}
 use Rattle.escape_simd.specs.Modes.{mode_numbered}
 use Rattle.escape_text.proofs.ToWrite.{rest_to_write-piece}
 use Rattle.escape_text.proofs.piecewise.Pieces.next.Goals as goal
@@ -6,3 +7,8 @@ use Rattle.escape_text.proofs.piecewise.Pieces.next.Goals as goal
 pub returns-clause-piece : goal.returns-clause-piece
 returns-clause-piece g c =
     rw c.if-self.false (rest_to_write-piece (mode_numbered g.row.MODE) c.args.self.now.begun c.is_empty-last.result _ _ _ _ c.escape_piece.ensures c.split_piece.ensures.joined c.split_piece.ensures.cut (λ last. search rules))
+
+pub escape_piece-requires : goal.escape_piece-requires
+escape_piece-requires g c =
+    let most = (length-inner (mode_numbered g.row.MODE) c.split_piece.result.0.now).1 in
+    omega (arith, most, c.split_piece.ensures.few, c.requires)

@@ -15,10 +15,13 @@ const PIECE: usize = 256;
 /// marks, and a vector.
 pub(crate) const ROOM: usize = 1570;
 
-/// How many bytes the array has for a short output, and for a longer one.
-pub(crate) const FEW_ROOM: usize = 128;
+/// How many bytes the array has for the shortest outputs, and for short ones.
+pub(crate) const FEW_ROOM: usize = 160;
 
-pub(crate) const SHORT_ROOM: usize = 418;
+pub(crate) const SHORT_ROOM: usize = 512;
+
+/// How many bytes a text has at most whose escapes are counted ahead.
+const COUNTED: usize = 448;
 
 /// How the output for a text is made.
 #[derive(Clone, Copy)]
@@ -34,15 +37,14 @@ pub(crate) enum Way {
 }
 
 /// How the output for the text in the mode numbered `MODE` is made. An array is filled with zeros before
-/// it is written, so it is to be small: for a text that is no longer than a piece, what needs an escape
-/// is counted.
+/// it is written, so it is to be small: what needs an escape is counted, but in a long text.
 #[inline(always)]
 pub(crate) fn way_of<const MODE: u8>(text: &str) -> Way
     ensures itself { result ≡ Way.Itself → inner (mode_numbered MODE) text.now ≡ text.now }
     ensures few { result ≡ Way.Few → length (inner (mode_numbered MODE) text.now) + 34 ≤ FEW_ROOM }
     ensures short { result ≡ Way.Short → length (inner (mode_numbered MODE) text.now) + 34 ≤ SHORT_ROOM }
 {
-    if PIECE < text.len() {
+    if COUNTED < text.len() {
         return if stands_for_itself::<MODE>(text) {
             Way::Itself
         } else {

@@ -1,11 +1,12 @@
 -- What masks tell of a text before it is written: its clean front, and how many bytes need an escape.
-use Rattle.std.proofs.Common.{◌≡◌, ℕ, zero, suc, ◌+◌, ◌-◌, ◌*◌, ◌<◌, ◌≤◌, Bool, true, false, cond, List, [], ◌∷◌, ◌++◌, length, take, drop, slice_range, get_or, map, replicate, refl, sym, ap, ◌∙◌, arith, inl, inr, length-append, length-drop, length-take, length-take-le}
+use Rattle.std.proofs.Common.{◌≡◌, ℕ, zero, suc, ◌+◌, ◌-◌, ◌*◌, ◌<◌, ◌≤◌, Bool, true, false, cond, ◌||◌, List, [], ◌∷◌, ◌++◌, length, take, drop, slice_range, get_or, map, replicate, refl, sym, ap, ◌∙◌, arith, inl, inr, length-append, length-drop, length-take, length-take-le}
 use Rattle.std.specs.List.{count_by}
 use Rattle.std.proofs.Math.Seq.{take-add}
 use Rattle.std.proofs.lemmas.Bool.{cases_Bool}
 use Rattle.std.proofs.lemmas.Bool.Decides.{leb_tells}
 use Rattle.std.proofs.lemmas.List.{length-map, take-take, get_or-take, get_or-drop, get_or-map, get_or_append_left, take-append-drop, take_all, append-nil}
 use Rattle.std.proofs.lemmas.List.Sums.{sum_by-append, sum_by-take-le, count_by-le-length}
+use Rattle.std.specs.Simd.Lanes.{zip2}
 use Rattle.escape_lanes.specs.Bits.{none_set}
 use Rattle.escape_lanes.specs.Mode.{Mode, json, html, script, mode_of}
 use Rattle.escape_lanes.specs.Replacement.{needs_escape, replacement}
@@ -61,13 +62,6 @@ clean-four mode src at n a b c d =
     (clean-on mode src (at + n) (at + n + n) (at + 4 * n) b
     (clean-on mode src (at + n + n) (at + 2 * n + n) (at + 4 * n) (λ k after before. c k (omega (arith, after)) before)
     (λ k after before. d k (omega (arith, after)) (omega (arith, before)))))
-
--- three vectors that overlap
-pub clean-three : (mode : Mode) (src : List ℕ) (middle last n : ℕ) → middle ≤ n → last ≤ middle + n → last + n ≡ length src → IsCleanBetween mode src 0 (0 + n) → IsCleanBetween mode src middle (middle + n) → IsCleanBetween mode src last (last + n)
-    → IsCleanBetween mode src 0 (length src)
-clean-three mode src middle last n near far whole a b c =
-    clean-on mode src 0 n (length src) (λ k after before. a k after (omega (arith, before)))
-    (λ k after before. clean-on mode src middle (middle + n) (length src) b (λ i on under. c i (omega (arith, on)) (omega (arith, under))) k (omega (arith, after)) before)
 
 -- How many bytes need an escape
 
@@ -252,3 +246,36 @@ counted-most script bs = script-most 0 bs
 -- as a condition on room has it
 pub counted-room : (mode : Mode) (src : List ℕ) → rest_length mode src 0 ≤ length src + 5 * count_by (needs_escape mode) src
 counted-room mode src = let r = rest-is mode src 0 in let m = counted-most mode src in omega (arith, r, m)
+
+-- What may overlap
+
+-- a lane that is set in one of two masks is set in both together
+either-step : (x y : Bool) → (cond x 1 0 ≤ cond (x || y) 1 0) × (cond y 1 0 ≤ cond (x || y) 1 0)
+either-step true true = (omega arith, omega arith)
+either-step true false = (omega arith, omega arith)
+either-step false true = (omega arith, omega arith)
+either-step false false = (omega arith, omega arith)
+
+-- so neither has more lanes than both together
+pub count-either : (xs ys : List Bool) → length xs ≡ length ys → (count_by (λ b. b) xs ≤ count_by (λ b. b) (zip2 ◌||◌ xs ys)) × (count_by (λ b. b) ys ≤ count_by (λ b. b) (zip2 ◌||◌ xs ys))
+count-either [] [] same = (omega arith, omega arith)
+count-either [] (y ∷ ys) same = absurd (omega (arith, same))
+count-either (x ∷ xs) [] same = absurd (omega (arith, same))
+count-either (x ∷ xs) (y ∷ ys) same =
+    let rest = count-either xs ys (omega (arith, same)) in let step = either-step x y in
+    let first = lane-step x xs in let second = lane-step y ys in let both = lane-step (x || y) (zip2 ◌||◌ xs ys) in
+    (omega (arith, rest.0, step.0, first, both), omega (arith, rest.1, step.1, second, both))
+
+module _ (f : ℕ → Bool) (src : List ℕ) where
+  -- a longer front has as many or more
+  count-longer : (from at : ℕ) → from ≤ at → count_by f (take from src) ≤ count_by f (take at src)
+  count-longer from at on =
+      let e : from + (at - from) ≡ at = omega arith in
+      let more = sum_by-append (λ y. cond (f y) 1 0) (take from src) (take (at - from) (drop from src)) in
+      let parts = ap (λ k. count_by f (take k src)) (sym e) ∙ ap (count_by f) (take-add from (at - from) src) ∙ more in
+      omega (arith, parts)
+
+  -- a vector more, which may go over bytes that are counted
+  pub count-over : (n from at : ℕ) (bits : List Bool) → from ≤ at → bits ≡ map f (take n (drop from src)) → count_by f (take (from + n) src) ≤ count_by f (take at src) + count_by (λ b. b) bits
+  count-over n from at bits on is =
+      let more = count-more f src from n bits is in let longer = count-longer from at on in omega (arith, more, longer)

@@ -24,7 +24,7 @@ pub mod v128;
 mod vector;
 
 pub(crate) use ahead::{
-    are_three_clean, count_flagged, count_or_more, is_clean, load_at, load_masked,
+    count_or_more, is_clean, load_at, load_masked, most_flagged, most_of_four,
 };
 pub(crate) use body::{escape_at, escape_few_at};
 pub(crate) use classify::Vector;

@@ -9,7 +9,7 @@ ghost use Rattle.escape_simd.specs.Modes.{mode_numbered};
 ghost use Rattle.escape_simd.specs.Output.{inner};
 
 use crate::simd::{
-    Vector, are_three_clean, count_flagged, escape_at, escape_few_at, load_at, load_masked,
+    Vector, escape_at, escape_few_at, load_at, load_masked, most_flagged, most_of_four,
 };
 use escape_lanes::simd::{BitMask, LaneMask};
 use std::alloc::Allocator;
@@ -72,13 +72,14 @@ fn append_piece<
         ≡ take end dst.old.items ++ inner (mode_numbered MODE) bytes.now }
     ensures capacity { vec_capacity dst.old ≤ vec_capacity dst.new }
 {
-    let count = count_flagged::<V, MODE, N>(bytes);
-    if count == 0 && end == dst.len() {
+    let most = most_flagged::<V, MODE, N>(bytes);
+    if most == 0 {
+        dst.truncate(end);
         push_all(dst, bytes);
         return end + bytes.len();
     }
     // A byte is written by six bytes at most.
-    fill(dst, end + bytes.len() + 5 * count + 32);
+    fill(dst, end + bytes.len() + 5 * most + 32);
     escape_at::<V, MODE, N, CHUNK, EXACT>(bytes, dst, end)
 }
 
@@ -124,16 +125,17 @@ fn push_front<V: Vector<N>, A: Allocator, const N: usize>(dst: &mut Vec<u8, A>, 
     dst.truncate(end);
 }
 
-/// Appends what stands for the bytes of a text shorter than three vectors, of which `count` need an
-/// escape.
+/// Appends what stands for the bytes of a text shorter than three vectors, of which at most `most` need
+/// an escape.
 #[inline(never)]
 fn append_flagged<V: Vector<N>, A: Allocator, const MODE: u8, const N: usize, const EXACT: bool>(
     bytes: &[u8],
-    count: usize,
+    most: usize,
     dst: &mut Vec<u8, A>,
 )
     requires few { length bytes.now < 3 * N }
-    requires counted { count ≡ count_by (needs_escape (mode_numbered MODE)) bytes.now }
+    requires most { count_by (needs_escape (mode_numbered MODE)) bytes.now ≤ most }
+    requires whole { most ≤ length bytes.now }
     requires narrow { N ≤ 32 }
     requires room { vec_len dst.old + 6 * length bytes.now + 32 ≤ vec_capacity dst.old }
     ensures items { dst.new.items ≡ dst.old.items ++ inner (mode_numbered MODE) bytes.now }
@@ -141,7 +143,7 @@ fn append_flagged<V: Vector<N>, A: Allocator, const MODE: u8, const N: usize, co
 {
     let old = dst.len();
     // A byte is written by six bytes at most.
-    fill(dst, old + bytes.len() + 5 * count + 32);
+    fill(dst, old + bytes.len() + 5 * most + 32);
     let end = escape_few_at::<V, MODE, N, EXACT>(bytes, dst, old);
     dst.truncate(end);
 }
@@ -182,9 +184,9 @@ fn append_few<V: Vector<N>, A: Allocator, const MODE: u8, const N: usize, const 
 {
     let last = bytes.len() - N;
     let middle = N.min(last);
-    if !are_three_clean::<V, MODE, N>(bytes, middle, last) {
-        let count = count_flagged::<V, MODE, N>(bytes);
-        return append_flagged::<V, A, MODE, N, EXACT>(bytes, count, dst);
+    let most = most_of_four::<V, MODE, N>(bytes, 0, middle, last, last);
+    if most != 0 {
+        return append_flagged::<V, A, MODE, N, EXACT>(bytes, most.min(bytes.len()), dst);
     }
     // Each vector goes over what the one before it has of the same bytes.
     let old = dst.len();

@@ -1,5 +1,5 @@
 //! Classifying ahead of what is written: whether any byte needs an escape, and how many do.
-ghost use Rattle.std.specs.Prelude.{◌≡◌, ◌+◌, ◌-◌, ◌*◌, ◌<◌, ◌≤◌, ◌++◌, true, false, length, take, drop, replicate, map};
+ghost use Rattle.std.specs.Prelude.{◌≡◌, ℕ, ◌+◌, ◌-◌, ◌*◌, ◌<◌, ◌≤◌, ◌++◌, true, false, length, take, drop, replicate, map};
 ghost use Rattle.std.specs.List.{count_by};
 ghost use Rattle.escape_lanes.specs.Replacement.{needs_escape};
 ghost use Rattle.escape_simd.specs.Ahead.{IsCleanBetween};
@@ -60,23 +60,31 @@ fn are_clean<V: Vector<N>, const MODE: u8, const N: usize>(src: &[u8], at: usize
     flags1.join(&flags2).join(&flags3.join(&flags4)).none()
 }
 
-/// Whether no byte of a text shorter than three vectors needs an escape: of its first vector, that at
-/// `middle` and that at `last`, which are all of it. They are asked at once.
+/// At most so many bytes of four vectors of the text need an escape: one in each, for each lane that is
+/// flagged in any of them. They are asked at once, and may overlap.
 #[inline(always)]
-pub(crate) fn are_three_clean<V: Vector<N>, const MODE: u8, const N: usize>(
+pub(crate) fn most_of_four<V: Vector<N>, const MODE: u8, const N: usize>(
     src: &[u8],
-    middle: usize,
-    last: usize,
-) -> bool
-    requires whole { last + N ≡ length src.now }
-    requires on { (middle ≤ N) × (last ≤ middle + N) }
-    requires inside { middle ≤ last }
-    ensures { result ≡ true → IsCleanBetween (mode_numbered MODE) src.now 0 (length src.now) }
+    first: usize,
+    second: usize,
+    third: usize,
+    fourth: usize,
+) -> usize
+    requires inside { (first + N ≤ length src.now) × (second + N ≤ length src.now)
+        × (third + N ≤ length src.now) × (fourth + N ≤ length src.now) }
+    requires on { (second ≤ first + N) × (third ≤ second + N) × (fourth ≤ third + N) }
+    ensures few { result ≤ 4 * N }
+    ensures most { (at : ℕ)
+        → first ≤ at
+        → count_by (needs_escape (mode_numbered MODE)) (take (fourth + N) src.now)
+        ≤ count_by (needs_escape (mode_numbered MODE)) (take at src.now) + result }
 {
-    let flags1 = flags_at::<V, MODE, N>(src, 0);
-    let flags2 = flags_at::<V, MODE, N>(src, middle);
-    let flags3 = flags_at::<V, MODE, N>(src, last);
-    flags1.join(&flags2).join(&flags3).none()
+    let flags1 = flags_at::<V, MODE, N>(src, first);
+    let flags2 = flags_at::<V, MODE, N>(src, second);
+    let flags3 = flags_at::<V, MODE, N>(src, third);
+    let flags4 = flags_at::<V, MODE, N>(src, fourth);
+    let either = flags1.join(&flags2).join(&flags3.join(&flags4));
+    4 * either.bitmask().count_set()
 }
 
 /// How many bytes of the vector of the text at `at` need an escape.
@@ -173,4 +181,33 @@ pub(crate) fn count_or_more<V: Vector<N>, const MODE: u8, const N: usize>(src: &
         return count_three::<V, MODE, N>(src);
     }
     count_flagged::<V, MODE, N>(src)
+}
+
+/// At most so many bytes of the text need an escape, and none where it is 0. Of a text shorter than three
+/// vectors nothing is asked.
+#[inline(always)]
+pub(crate) fn most_flagged<V: Vector<N>, const MODE: u8, const N: usize>(src: &[u8]) -> usize
+    ensures few { result ≤ length src.now }
+    ensures most { count_by (needs_escape (mode_numbered MODE)) src.now ≤ result }
+{
+    let len = src.len();
+    if len < 3 * N {
+        return len;
+    }
+    if len < 4 * N {
+        return most_of_four::<V, MODE, N>(src, 0, N, 2 * N, len - N).min(len);
+    }
+    let mut at = 0;
+    let mut most = 0;
+    'chunks: while 4 * N <= len - at {
+        most += most_of_four::<V, MODE, N>(src, at, at + N, at + 2 * N, at + 3 * N);
+        at += 4 * N;
+    }
+    if at == len {
+        return most;
+    }
+    // The last four vectors go over what those before them have of the same bytes.
+    let last = len - 4 * N;
+    most += most_of_four::<V, MODE, N>(src, last, last + N, last + 2 * N, last + 3 * N);
+    most.min(len)
 }

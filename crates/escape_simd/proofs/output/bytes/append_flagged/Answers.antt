@@ -7,7 +7,7 @@ use Rattle.escape_simd.proofs.output.bytes.append_flagged.Goals as goal
 pub escape_few_at-end-requires-clause-room : goal.escape_few_at-end-requires-clause-room
 escape_few_at-end-requires-clause-room g c =
     let most = counted-room (mode_numbered g.row.MODE) c.args.bytes.now in
-    omega (arith, most, c.requires.counted, c.fill.ensures.filled, c.deref_mut.ensures.len)
+    omega (arith, most, c.requires.most, c.fill.ensures.filled, c.deref_mut.ensures.len)
 
 pub returns-clause-room : goal.returns-clause-room
 returns-clause-room g c =

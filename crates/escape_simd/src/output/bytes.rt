@@ -1,7 +1,7 @@
 //! Appending what stands for a text's bytes to a vector that has room for it.
 //!
 //! Bytes none of which needs an escape are appended as they are. Others are escaped in place: so the
-//! vector is filled with zeros first, but only with as many as the output may take, which counting tells.
+//! vector is filled with zeros first, but only with as many as the output may take, which its flags tell.
 ghost use Rattle.std.specs.Prelude.{◌≡◌, ◌+◌, ◌*◌, ◌<◌, ◌≤◌, ◌++◌, false, length, take, drop, vec_len, vec_capacity};
 ghost use Rattle.std.specs.List.{count_by};
 ghost use Rattle.escape_lanes.specs.Replacement.{needs_escape};
@@ -18,6 +18,10 @@ use std::alloc::Allocator;
 ///
 /// What makes room for so many, and what they become, stays in the first caches.
 pub const PIECE: usize = 8192;
+
+/// How many bytes are escaped at a time, at most, where their flags are not asked first: for each of them
+/// six may be filled.
+const FLAGGED_PIECE: usize = 2048;
 
 /// So few zeros are stores and no call.
 const FEW: usize = 128;
@@ -52,6 +56,18 @@ fn fill<A: Allocator>(dst: &mut Vec<u8, A>, len: usize)
     };
 }
 
+/// At most so many bytes of a piece need an escape: all of them, unless they are `asked`.
+#[inline(always)]
+fn most_of_piece<V: Vector<N>, const MODE: u8, const N: usize>(bytes: &[u8], asked: bool) -> usize
+    ensures few { result ≤ length bytes.now }
+    ensures most { count_by (needs_escape (mode_numbered MODE)) bytes.now ≤ result }
+{
+    if asked {
+        return most_flagged::<V, MODE, N>(bytes);
+    }
+    bytes.len()
+}
+
 /// Appends what stands for the bytes of a piece after the first `end` of the vector, and answers the
 /// place after it. What the vector holds past that place is no part of the output.
 #[inline(always)]
@@ -62,7 +78,7 @@ fn append_piece<
     const N: usize,
     const CHUNK: usize,
     const EXACT: bool,
->(bytes: &[u8], dst: &mut Vec<u8, A>, end: usize) -> usize
+>(bytes: &[u8], dst: &mut Vec<u8, A>, end: usize, asked: bool) -> usize
     requires narrow { N ≤ 32 }
     requires inside { end ≤ vec_len dst.old }
     requires room { end + 6 * length bytes.now + 32 ≤ vec_capacity dst.old }
@@ -72,7 +88,7 @@ fn append_piece<
         ≡ take end dst.old.items ++ inner (mode_numbered MODE) bytes.now }
     ensures capacity { vec_capacity dst.old ≤ vec_capacity dst.new }
 {
-    let most = most_flagged::<V, MODE, N>(bytes);
+    let most = most_of_piece::<V, MODE, N>(bytes, asked);
     if most == 0 {
         dst.truncate(end);
         push_all(dst, bytes);
@@ -101,10 +117,15 @@ fn append_pieces<
 {
     let mut at = 0;
     let mut end = dst.len();
+    let mut asked = true;
     'pieces: while at < value.len() {
-        let next = value.floor_char_boundary(at + PIECE.min(value.len() - at));
+        let size = if asked { PIECE } else { FLAGGED_PIECE };
+        let next = value.floor_char_boundary(at + size.min(value.len() - at));
         let piece = &value.as_bytes()[at..next];
-        end = append_piece::<V, A, MODE, N, CHUNK, EXACT>(piece, dst, end);
+        let reached = append_piece::<V, A, MODE, N, CHUNK, EXACT>(piece, dst, end, asked);
+        // After a piece that has an escape the next one likely has some too.
+        asked = reached - end == piece.len();
+        end = reached;
         at = next;
     }
     dst.truncate(end);

@@ -19,8 +19,8 @@ pieces-init g c =
       written = take_all _ items (omega arith) ∙ sym (append-nil items) ∙ ap (λ xs. items ++ xs) (sym (inner-nil mode));
     }
 
-pub append_piece-end-requires : goal.append_piece-end-requires
-append_piece-end-requires g c =
+pub append_piece-reached-requires : goal.append_piece-reached-requires
+append_piece-reached-requires g c =
     let bytes : List ℕ = c.as_bytes.result.now in let inv = c.pieces.invariant in
     let cut = c.floor_char_boundary-next.ensures.boundary in
     let same = ap length c.as_bytes.ensures.value in
@@ -38,7 +38,7 @@ pieces-smaller g c =
 
 pub pieces-preserved : goal.pieces-preserved
 pieces-preserved g c =
-    let inv = c.pieces.invariant in let piece = c.append_piece-end.ensures in
+    let inv = c.pieces.invariant in let piece = c.append_piece-reached.ensures in
     let mode = mode_numbered g.row.MODE in
     let text : List ℕ = c.args.value.now in
     let bytes : List ℕ = c.as_bytes.result.now in
@@ -53,5 +53,5 @@ pieces-preserved g c =
       cut = cut;
       fits = piece.fits;
       room = omega (arith, ends, most, len, forward, cut.0, inv.room, piece.capacity);
-      written = piece-written mode text c.args.dst.now.items c.pieces.dst.items c.append_piece-end.new.dst.items c.pieces.at next c.pieces.end c.append_piece-end.result c.utf8.value inv.cut (omega (arith, forward)) inv.written (piece.written ∙ ap (λ xs. take c.pieces.end c.pieces.dst.items ++ inner mode xs) same);
+      written = piece-written mode text c.args.dst.now.items c.pieces.dst.items c.append_piece-reached.new.dst.items c.pieces.at next c.pieces.end c.append_piece-reached.result c.utf8.value inv.cut (omega (arith, forward)) inv.written (piece.written ∙ ap (λ xs. take c.pieces.end c.pieces.dst.items ++ inner mode xs) same);
     }

@@ -6,6 +6,7 @@ pub mod avx512;
 mod body;
 mod chunk;
 mod classify;
+mod clean;
 mod entry;
 mod few;
 mod flagged;
@@ -23,9 +24,7 @@ pub mod util;
 pub mod v128;
 mod vector;
 
-pub(crate) use ahead::{
-    count_or_more, is_clean, load_at, load_masked, most_flagged, most_of_four,
-};
+pub(crate) use ahead::{count_or_more, is_clean, load_at, load_masked, most_flagged, most_of_four};
 pub(crate) use body::{escape_at, escape_few_at};
 pub(crate) use classify::Vector;
 pub use classify::{HTML_MODE, JSON_MODE, SCRIPT_MODE};

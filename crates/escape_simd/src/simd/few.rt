@@ -1,143 +1,23 @@
-//! A text of fewer bytes than three vectors have: stored whole where no byte needs an escape, with no loop
-//! and no stack frame.
-ghost use Rattle.std.specs.Prelude.{◌≡◌, ◌+◌, ◌-◌, ◌*◌, ◌/◌, ◌<◌, ◌≤◌, ◌++◌, true, false, length, take, drop, map, replicate, chars};
-ghost use Rattle.escape_lanes.specs.Bits.{none_set};
-ghost use Rattle.escape_lanes.specs.Replacement.{needs_escape};
-ghost use Rattle.escape_lanes.specs.Written.{bytes_of, stored_of, IsSameSlice};
+//! A text of as many bytes as a vector has or more, and fewer than three have, to the front of a slice:
+//! stored whole where no byte needs an escape, with no loop and no stack frame.
+ghost use Rattle.std.specs.Prelude.{◌≡◌, ◌+◌, ◌*◌, ◌<◌, ◌≤◌, false, length, take, chars};
+ghost use Rattle.escape_lanes.specs.Written.{bytes_of, IsSameSlice};
 ghost use Rattle.escape_simd.specs.Modes.{mode_numbered};
 ghost use Rattle.escape_simd.specs.Output.{bound};
 ghost use Rattle.escape_simd.specs.Formatted.{IsWritten};
 ghost use Rattle.escape_simd.specs.Headline.{IsOnlyOutput};
 ghost use Rattle.escape_simd.specs.Laws.{IsOfOneText};
-ghost use Rattle.escape_simd.specs.Runs.{run_count};
-ghost use Rattle.escape_simd.specs.Stretch.{Stretch, HoldsFlags, room_from, rest_slack};
+ghost use Rattle.escape_simd.specs.Stretch.{HoldsFlags};
 
 use crate::simd::ahead::load_at;
 use crate::simd::body::quote;
-use crate::simd::chunk::{pass, whole_vector};
 use crate::simd::classify::Vector;
+use crate::simd::clean::{quoted_three, quoted_two};
 use crate::simd::flagged::flagged_vector;
-use crate::simd::last::{load_rest, pass_rest};
-use crate::simd::rest::{last_two, rest};
-use crate::simd::source::Source;
+use crate::simd::last::load_rest;
+use crate::simd::rest::last_two;
 use escape_lanes::simd::target::{Target, Ticks};
 use escape_lanes::simd::{BitMask, Flags};
-
-/// Escapes the bytes to the target from `to` on, and answers the place reached.
-#[inline(always)]
-pub(crate) fn escape_few<V: Vector<N>, const MODE: u8, const N: usize, const EXACT: bool>(
-    src: &[u8],
-    target: &mut Target<'_, N>,
-    to: usize,
-    ticks: &mut Ticks,
-) -> usize
-    requires few { length src.now < 3 * N }
-    requires narrow { EXACT ≡ false → N ≤ 32 }
-    requires room { to + room_from (mode_numbered MODE) src.now 0 ≤ length (bytes_of target.old) }
-    ensures stretch { Stretch (mode_numbered MODE) (rest_slack EXACT N) src.now
-        target.old target.new 0 (length src.now) to result }
-    ensures stored { stored_of target.new
-        ≤ stored_of target.old + run_count (mode_numbered MODE) src.now + length src.now / N + 1 }
-    ensures classified { ticks.new + stored_of target.old ≡ ticks.old + stored_of target.new }
-{
-    let mut at = 0;
-    let mut end = to;
-    if 2 * N <= src.len() {
-        let source = Source::whole(src);
-        let (next, reached) = whole_vector::<V, MODE, N, true>(&source, 0, target, to, ticks);
-        at = next;
-        end = reached;
-    }
-    rest::<V, MODE, N, EXACT>(src, at, target, end, ticks)
-}
-
-/// Stores two vectors of clean bytes: the text's first, and that at `second`, which may go over it.
-#[inline(always)]
-fn pass_over<V: Vector<N>, const MODE: u8, const N: usize>(
-    src: &[u8],
-    second: usize,
-    v1: &V,
-    v2: &V,
-    target: &mut Target<'_, N>,
-    to: usize,
-)
-    requires on { second ≤ N }
-    requires inside { second + N ≤ length src.now }
-    requires loaded1 { take N (V.lanes v1.now) ≡ take N (drop 0 src.now) }
-    requires loaded2 { take N (V.lanes v2.now) ≡ take N (drop second src.now) }
-    requires clean1 { none_set (map (needs_escape (mode_numbered MODE)) (V.lanes v1.now)) ≡ true }
-    requires clean2 { none_set (map (needs_escape (mode_numbered MODE)) (V.lanes v2.now)) ≡ true }
-    requires room { to + (second + N) ≤ length (bytes_of target.old) }
-    ensures { Stretch (mode_numbered MODE) 8 src.now
-        target.old target.new 0 (second + N) to (to + (second + N)) }
-{
-    pass::<V, MODE, N>(src, 0, target, to, v1);
-    pass::<V, MODE, N>(src, second, target, to + second, v2);
-}
-
-/// Writes the text, which two vectors of clean bytes hold, between quotation marks to the front of the
-/// target. Answers how many bytes it became.
-#[inline(always)]
-fn quoted_two<V: Vector<N>, const MODE: u8, const N: usize>(
-    src: &[u8],
-    second: usize,
-    v1: &V,
-    v2: &V,
-    target: &mut Target<'_, N>,
-) -> usize
-    requires on { second ≤ N }
-    requires whole { second + N ≡ length src.now }
-    requires loaded1 { take N (V.lanes v1.now) ≡ take N (drop 0 src.now) }
-    requires loaded2 { take N (V.lanes v2.now) ≡ take N (drop second src.now) }
-    requires clean1 { none_set (map (needs_escape (mode_numbered MODE)) (V.lanes v1.now)) ≡ true }
-    requires clean2 { none_set (map (needs_escape (mode_numbered MODE)) (V.lanes v2.now)) ≡ true }
-    requires room { bound (mode_numbered MODE) (length src.now) ≤ length (bytes_of target.old) }
-    ensures same_slice { IsSameSlice target.old target.new }
-    ensures written { IsWritten N (mode_numbered MODE) src.now
-        (bytes_of target.old) (bytes_of target.new) result }
-{
-    let open = quote::<MODE, N>(target, 0);
-    pass_over::<V, MODE, N>(src, second, v1, v2, target, open);
-    quote::<MODE, N>(target, open + src.len())
-}
-
-/// Writes the text, of which two vectors of clean bytes hold the front, and a third the rest, none of
-/// which its mask flags, between quotation marks to the front of the target. Answers how many bytes it
-/// became.
-#[inline(always)]
-fn quoted_three<V: Vector<N>, const MODE: u8, const N: usize, const EXACT: bool>(
-    src: &[u8],
-    second: usize,
-    v1: &V,
-    v2: &V,
-    v3: &V,
-    mask: &<V::Flags as Flags>::BitMask,
-    target: &mut Target<'_, N>,
-) -> usize
-    requires on { second ≤ N }
-    requires inside { second + N ≤ length src.now }
-    requires few { length src.now < second + N + N }
-    requires narrow { EXACT ≡ false → N ≤ 32 }
-    requires loaded1 { take N (V.lanes v1.now) ≡ take N (drop 0 src.now) }
-    requires loaded2 { take N (V.lanes v2.now) ≡ take N (drop second src.now) }
-    requires loaded3 { V.lanes v3.now ≡ drop (second + N) src.now
-        ++ replicate (N - (length src.now - (second + N))) 0 }
-    requires clean1 { none_set (map (needs_escape (mode_numbered MODE)) (V.lanes v1.now)) ≡ true }
-    requires clean2 { none_set (map (needs_escape (mode_numbered MODE)) (V.lanes v2.now)) ≡ true }
-    requires flagged { HoldsFlags (mode_numbered MODE) src.now (second + N)
-        (length src.now - (second + N)) (second + N) (V.Flags.BitMask.bits mask.now) }
-    requires clean3 { none_set (V.Flags.BitMask.bits mask.now) ≡ true }
-    requires room { bound (mode_numbered MODE) (length src.now) ≤ length (bytes_of target.old) }
-    ensures same_slice { IsSameSlice target.old target.new }
-    ensures written { IsWritten N (mode_numbered MODE) src.now
-        (bytes_of target.old) (bytes_of target.new) result }
-{
-    let open = quote::<MODE, N>(target, 0);
-    pass_over::<V, MODE, N>(src, second, v1, v2, target, open);
-    let at = second + N;
-    let close = pass_rest::<V, MODE, N, EXACT>(src, at, v3, mask, target, open + at);
-    quote::<MODE, N>(target, close)
-}
 
 /// Writes the text, of which the masks have the flags of its first vector and of that at `second`,
 /// between quotation marks to the front of the target. Answers how many bytes it became.

@@ -1,7 +1,6 @@
 //! A text shorter than a vector, to the front of a slice: one vector stored whole where no byte needs an
 //! escape, with no stack frame for more.
-ghost use Rattle.std.specs.Prelude.{◌≡◌, ◌-◌, ◌<◌, ◌≤◌, ◌++◌, true, false, length, take, chars, replicate};
-ghost use Rattle.escape_lanes.specs.Bits.{none_set};
+ghost use Rattle.std.specs.Prelude.{◌≡◌, ◌<◌, ◌≤◌, false, length, take, chars};
 ghost use Rattle.escape_lanes.specs.Written.{bytes_of, IsSameSlice};
 ghost use Rattle.escape_simd.specs.Modes.{mode_numbered};
 ghost use Rattle.escape_simd.specs.Output.{bound};
@@ -12,36 +11,12 @@ ghost use Rattle.escape_simd.specs.Stretch.{HoldsFlags};
 
 use crate::simd::body::quote;
 use crate::simd::classify::Vector;
-use crate::simd::last::{load_rest, pass_rest};
+use crate::simd::clean::quoted_one;
+use crate::simd::last::load_rest;
 use crate::simd::source::Source;
 use crate::simd::vector::vector;
 use escape_lanes::simd::target::{Target, Ticks};
 use escape_lanes::simd::{BitMask, Flags};
-
-/// Writes the text, none of whose bytes the mask flags, between quotation marks to the front of the
-/// target. Answers how many bytes it became.
-#[inline(always)]
-fn quoted_clean<V: Vector<N>, const MODE: u8, const N: usize, const EXACT: bool>(
-    src: &[u8],
-    v: &V,
-    mask: &<V::Flags as Flags>::BitMask,
-    target: &mut Target<'_, N>,
-) -> usize
-    requires few { length src.now < N }
-    requires narrow { EXACT ≡ false → N ≤ 32 }
-    requires loaded { V.lanes v.now ≡ src.now ++ replicate (N - length src.now) 0 }
-    requires flagged { HoldsFlags (mode_numbered MODE) src.now 0 (length src.now) 0
-        (V.Flags.BitMask.bits mask.now) }
-    requires clean { none_set (V.Flags.BitMask.bits mask.now) ≡ true }
-    requires room { bound (mode_numbered MODE) (length src.now) ≤ length (bytes_of target.old) }
-    ensures same_slice { IsSameSlice target.old target.new }
-    ensures written { IsWritten N (mode_numbered MODE) src.now
-        (bytes_of target.old) (bytes_of target.new) result }
-{
-    let open = quote::<MODE, N>(target, 0);
-    let close = pass_rest::<V, MODE, N, EXACT>(src, 0, v, mask, target, open);
-    quote::<MODE, N>(target, close)
-}
 
 /// Writes the text, some of whose bytes the mask flags, between quotation marks to the front of the
 /// target. Answers how many bytes it became.
@@ -113,7 +88,7 @@ fn written_short<V: Vector<N>, const MODE: u8, const N: usize, const EXACT: bool
         return format_flagged::<V, MODE, N, EXACT>(value, dst, mask);
     }
     let mut target = Target::<N>::new(dst);
-    quoted_clean::<V, MODE, N, EXACT>(src, &v, &mask, &mut target)
+    quoted_one::<V, MODE, N, EXACT>(src, &v, &mask, &mut target)
 }
 
 /// Escapes a text shorter than a vector to the front of `dst`, and answers how many bytes it became.

@@ -15,8 +15,8 @@ format_flagged-requires g c =
     let some = held-some mode c.args.value.now 0 (length c.args.value.now) 0 bits flagged (sym c.all_zero.ensures ∙ c.if-not-all_zero.true) in
     record { some = some; few = r.few; narrow = r.narrow; flagged = flagged; room = r.room }
 
-pub quoted_clean-requires : goal.quoted_clean-requires
-quoted_clean-requires g c =
+pub quoted_one-requires : goal.quoted_one-requires
+quoted_one-requires g c =
     let mode = mode_numbered g.row.MODE in let r = c.requires in let l = c.load_rest-v.ensures in
     let src : List ℕ = c.as_bytes-src.result.now in
     let bits = g.V.Flags.BitMask.BitMask.bits c.load_rest-v.result.1 in

@@ -6,7 +6,7 @@ use Rattle.escape_simd.specs.Stretch.{rest_slack}
 use Rattle.escape_simd.proofs.Stretches.{onward, ended, widened, rest-bounds}
 use Rattle.escape_simd.proofs.RestLemmas.{rest-slack-some}
 use Rattle.escape_simd.proofs.Whole.{IsQuoted, whole_written, bound-quotes, quote-short}
-use Rattle.escape_simd.proofs.simd.few.quoted_three.Goals as goal
+use Rattle.escape_simd.proofs.simd.clean.quoted_three.Goals as goal
 
 pub quote-open-requires : goal.quote-open-requires
 quote-open-requires g c =

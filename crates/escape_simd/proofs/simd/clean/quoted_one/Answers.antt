@@ -5,7 +5,7 @@ use Rattle.escape_simd.specs.Modes.{mode_numbered}
 use Rattle.escape_simd.specs.Stretch.{HoldsFlags}
 use Rattle.escape_simd.proofs.Stretches.{rest-bounds}
 use Rattle.escape_simd.proofs.Whole.{IsQuoted, whole_written, bound-quotes, quote-short}
-use Rattle.escape_simd.proofs.simd.short.quoted_clean.Goals as goal
+use Rattle.escape_simd.proofs.simd.clean.quoted_one.Goals as goal
 
 pub quote-open-requires : goal.quote-open-requires
 quote-open-requires g c =

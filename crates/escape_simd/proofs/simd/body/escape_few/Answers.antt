@@ -7,8 +7,8 @@ use Rattle.escape_simd.specs.Stretch.{Stretch, Paid, rest_length, rest_slack}
 use Rattle.escape_simd.proofs.Stretches.{standing, onward, ended, widened}
 use Rattle.escape_simd.proofs.Costs.{whole-vectors}
 use Rattle.escape_simd.proofs.RestLemmas.{rest-slack-some}
-use Rattle.escape_simd.proofs.simd.few.escape_few.Goals.{then-src, else-src}
-use Rattle.escape_simd.proofs.simd.few.escape_few.Goals as goal
+use Rattle.escape_simd.proofs.simd.body.escape_few.Goals.{then-src, else-src}
+use Rattle.escape_simd.proofs.simd.body.escape_few.Goals as goal
 
 pub whole_vector-next-requires : goal.whole_vector-next-requires
 whole_vector-next-requires g c =

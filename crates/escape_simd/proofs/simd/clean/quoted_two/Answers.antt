@@ -2,7 +2,7 @@ use Rattle.std.proofs.Common.{ℕ, ◌+◌, true, true≢false, List, length, �
 use Rattle.escape_simd.specs.Modes.{mode_numbered}
 use Rattle.escape_simd.proofs.Stretches.{ended}
 use Rattle.escape_simd.proofs.Whole.{IsQuoted, whole_written, bound-quotes, quote-short}
-use Rattle.escape_simd.proofs.simd.few.quoted_two.Goals as goal
+use Rattle.escape_simd.proofs.simd.clean.quoted_two.Goals as goal
 
 pub quote-open-requires : goal.quote-open-requires
 quote-open-requires g c =

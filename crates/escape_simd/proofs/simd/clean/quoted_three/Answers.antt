@@ -1,9 +1,8 @@
-use Rattle.std.proofs.Common.{◌≡◌, ℕ, ◌+◌, ◌-◌, not, nat_eq, List, length, ap, ◌∙◌, arith}
+use Rattle.std.proofs.Common.{ℕ, not, nat_eq, List, length, ◌∙◌, arith}
 use denote.Param.{number, value_of}
-use Rattle.escape_lanes.specs.Written.{bytes_of}
 use Rattle.escape_simd.specs.Modes.{mode_numbered}
 use Rattle.escape_simd.specs.Stretch.{rest_slack}
-use Rattle.escape_simd.proofs.Stretches.{onward, ended, widened, rest-bounds}
+use Rattle.escape_simd.proofs.Stretches.{onward, widened, rest-bounds}
 use Rattle.escape_simd.proofs.RestLemmas.{rest-slack-some}
 use Rattle.escape_simd.proofs.Whole.{IsQuoted, whole_written, bound-quotes, quote-short}
 use Rattle.escape_simd.proofs.simd.clean.quoted_three.Goals as goal

@@ -1,4 +1,4 @@
-use Rattle.std.proofs.Common.{length, subst, sym}
+use Rattle.std.proofs.Common.{subst, sym}
 use Rattle.escape_simd.specs.Modes.{mode_numbered}
 use Rattle.escape_simd.specs.Stretch.{HoldsFlags}
 use Rattle.escape_simd.proofs.simd.few.begin_flagged.Goals as goal

@@ -1,6 +1,5 @@
-use Rattle.std.proofs.Common.{◌≡◌, ℕ, ◌+◌, ◌-◌, ◌*◌, ◌<◌, ◌≤◌, not, nat_eq, List, length, sym, ap, subst, ◌∙◌, arith}
+use Rattle.std.proofs.Common.{◌≡◌, ℕ, ◌+◌, not, nat_eq, List, length, sym, subst, ◌∙◌, arith}
 use denote.Param.{number, value_of}
-use Rattle.escape_lanes.specs.Written.{bytes_of}
 use Rattle.escape_simd.specs.Modes.{mode_numbered}
 use Rattle.escape_simd.specs.Stretch.{Stretch, Passed, rest_slack}
 use Rattle.escape_simd.proofs.Stretches.{standing, onward, ended, widened, rest-bounds}

@@ -82,7 +82,8 @@ fn second_vector<V: Vector<N>, const MODE: u8, const N: usize, const EXACT: bool
 /// The text's last bytes from `from` on, of the vector at `at` and fewer than another has: what came
 /// before may have passed some of them. The mask has the flags of the vector at `at`. They are put into
 /// memory with zeros after them.
-#[inline(always)]
+#[cold]
+#[inline(never)]
 pub(crate) fn last_two<V: Vector<N>, const MODE: u8, const N: usize, const EXACT: bool>(
     src: &[u8],
     at: usize,
@@ -123,32 +124,6 @@ pub(crate) fn last_two<V: Vector<N>, const MODE: u8, const N: usize, const EXACT
     second_vector::<V, MODE, N, EXACT>(&source, second, left, next, target, end, &w, ticks)
 }
 
-/// The text's last bytes from `at` on, as [`last_two`] has them, in a function of its own.
-#[cold]
-#[inline(never)]
-fn last_two_apart<V: Vector<N>, const MODE: u8, const N: usize, const EXACT: bool>(
-    src: &[u8],
-    at: usize,
-    target: &mut Target<'_, N>,
-    to: usize,
-    mask: <V::Flags as Flags>::BitMask,
-    ticks: &mut Ticks,
-) -> usize
-    requires some { at + N ≤ length src.now }
-    requires few { length src.now < at + 2 * N }
-    requires narrow { EXACT ≡ false → N ≤ 32 }
-    requires flagged { HoldsFlags (mode_numbered MODE) src.now at N at (V.Flags.BitMask.bits mask) }
-    requires room { to + room_from (mode_numbered MODE) src.now at ≤ length (bytes_of target.old) }
-    ensures stretch { Stretch (mode_numbered MODE) (rest_slack EXACT N) src.now
-        target.old target.new at (length src.now) to result }
-    ensures stored { stored_of target.new
-        ≤ stored_of target.old + run_count (mode_numbered MODE) (drop at src.now)
-        + (length src.now - at) / N + 1 }
-    ensures classified { ticks.new + stored_of target.old + 1 ≡ ticks.old + stored_of target.new }
-{
-    last_two::<V, MODE, N, EXACT>(src, at, at, target, to, mask, ticks)
-}
-
 /// The text's bytes from `at` on, fewer than two vectors have. Answers the place reached.
 #[inline(always)]
 pub(crate) fn rest<V: Vector<N>, const MODE: u8, const N: usize, const EXACT: bool>(
@@ -175,7 +150,7 @@ pub(crate) fn rest<V: Vector<N>, const MODE: u8, const N: usize, const EXACT: bo
         let v = V::load(&Source::whole(src), at);
         let flags = v.flags(MODE, ticks);
         if !flags.none() {
-            return last_two_apart::<V, MODE, N, EXACT>(src, at, target, to, flags.bitmask(), ticks);
+            return last_two::<V, MODE, N, EXACT>(src, at, at, target, to, flags.bitmask(), ticks);
         }
         pass::<V, MODE, N>(src, at, target, to, &v);
         at += N;

@@ -39,7 +39,7 @@ pub(crate) fn escape_at<
 /// Escapes fewer bytes than three vectors have to the target from `to` on, with no loop, and answers the
 /// place reached.
 #[inline(always)]
-fn escape_few<V: Vector<N>, const MODE: u8, const N: usize, const EXACT: bool>(
+pub(crate) fn escape_few<V: Vector<N>, const MODE: u8, const N: usize, const EXACT: bool>(
     src: &[u8],
     target: &mut Target<'_, N>,
     to: usize,

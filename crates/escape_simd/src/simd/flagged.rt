@@ -14,7 +14,7 @@ use escape_lanes::simd::target::{Target, Ticks};
 /// The vector of the text at `at`, which has the flags of the mask, from `from` on: what came before may
 /// have passed some of its bytes. Answers the places reached.
 #[inline(always)]
-pub(crate) fn flagged_vector<V: Vector<N>, const MODE: u8, const N: usize>(
+fn flagged_vector<V: Vector<N>, const MODE: u8, const N: usize>(
     src: &[u8],
     at: usize,
     from: usize,

@@ -79,15 +79,13 @@ fn second_vector<V: Vector<N>, const MODE: u8, const N: usize, const EXACT: bool
     vector::<V, MODE, N, EXACT>(source, at, left, from, target, to, &w, &mask, ticks).1
 }
 
-/// The text's last bytes from `from` on, of the vector at `at` and fewer than another has: what came
-/// before may have passed some of them. The mask has the flags of the vector at `at`. They are put into
-/// memory with zeros after them.
+/// The text's last bytes, as many as a vector has or more, of which the mask has the flags of the
+/// first vector. They are put into memory with zeros after them.
 #[cold]
 #[inline(never)]
-pub(crate) fn last_two<V: Vector<N>, const MODE: u8, const N: usize, const EXACT: bool>(
+fn last_two<V: Vector<N>, const MODE: u8, const N: usize, const EXACT: bool>(
     src: &[u8],
     at: usize,
-    from: usize,
     target: &mut Target<'_, N>,
     to: usize,
     mask: <V::Flags as Flags>::BitMask,
@@ -96,13 +94,12 @@ pub(crate) fn last_two<V: Vector<N>, const MODE: u8, const N: usize, const EXACT
     requires some { at + N ≤ length src.now }
     requires few { length src.now < at + 2 * N }
     requires narrow { EXACT ≡ false → N ≤ 32 }
-    requires passed { Passed (mode_numbered MODE) src.now at from }
     requires flagged { HoldsFlags (mode_numbered MODE) src.now at N at (V.Flags.BitMask.bits mask) }
-    requires room { to + room_from (mode_numbered MODE) src.now from ≤ length (bytes_of target.old) }
+    requires room { to + room_from (mode_numbered MODE) src.now at ≤ length (bytes_of target.old) }
     ensures stretch { Stretch (mode_numbered MODE) (rest_slack EXACT N) src.now
-        target.old target.new from (length src.now) to result }
+        target.old target.new at (length src.now) to result }
     ensures stored { stored_of target.new
-        ≤ stored_of target.old + run_count (mode_numbered MODE) (drop from src.now)
+        ≤ stored_of target.old + run_count (mode_numbered MODE) (drop at src.now)
         + (length src.now - at) / N + 1 }
     ensures classified { ticks.new + stored_of target.old + 1 ≡ ticks.old + stored_of target.new }
 {
@@ -114,14 +111,11 @@ pub(crate) fn last_two<V: Vector<N>, const MODE: u8, const N: usize, const EXACT
     v.put(&mut held[0]);
     w.put(&mut held[1]);
     let source = Source::padded(src, at, held.as_flattened());
-    let u = V::load(&source, from);
-    let (next, end) = vector::<V, MODE, N, EXACT>(
-        &source, at, N, from, target, to, &u, &mask, ticks,
-    );
-    if src.len() <= next {
+    let (from, end) = vector::<V, MODE, N, EXACT>(&source, at, N, at, target, to, &v, &mask, ticks);
+    if src.len() <= from {
         return end;
     }
-    second_vector::<V, MODE, N, EXACT>(&source, second, left, next, target, end, &w, ticks)
+    second_vector::<V, MODE, N, EXACT>(&source, second, left, from, target, end, &w, ticks)
 }
 
 /// The text's bytes from `at` on, fewer than two vectors have. Answers the place reached.
@@ -150,7 +144,7 @@ pub(crate) fn rest<V: Vector<N>, const MODE: u8, const N: usize, const EXACT: bo
         let v = V::load(&Source::whole(src), at);
         let flags = v.flags(MODE, ticks);
         if !flags.none() {
-            return last_two::<V, MODE, N, EXACT>(src, at, at, target, to, flags.bitmask(), ticks);
+            return last_two::<V, MODE, N, EXACT>(src, at, target, to, flags.bitmask(), ticks);
         }
         pass::<V, MODE, N>(src, at, target, to, &v);
         at += N;

@@ -9,7 +9,7 @@ ghost use Rattle.escape_simd.specs.Headline.{IsOnlyOutput};
 ghost use Rattle.escape_simd.specs.Laws.{IsOfOneText};
 ghost use Rattle.escape_simd.specs.Stretch.{HoldsFlags};
 
-use crate::simd::body::quote;
+use crate::simd::body::{format_many, quote};
 use crate::simd::classify::Vector;
 use crate::simd::clean::quoted_one;
 use crate::simd::last::load_rest;
@@ -73,15 +73,21 @@ fn format_flagged<V: Vector<N>, const MODE: u8, const N: usize, const EXACT: boo
 
 /// The text to the front of `dst`.
 #[inline(always)]
-fn written_short<V: Vector<N>, const MODE: u8, const N: usize, const EXACT: bool>(
-    value: &str,
-    dst: &mut [u8],
-) -> usize
+fn written_short<
+    V: Vector<N>,
+    const MODE: u8,
+    const N: usize,
+    const CHUNK: usize,
+    const EXACT: bool,
+>(value: &str, dst: &mut [u8]) -> usize
     requires few { length value.now < N }
     requires narrow { EXACT ≡ false → N ≤ 32 }
     requires room { bound (mode_numbered MODE) (length value.now) ≤ length dst.old }
     ensures { IsWritten N (mode_numbered MODE) value.now dst.old dst.new result }
 {
+    if value.is_empty() {
+        return format_many::<V, MODE, N, CHUNK, EXACT>(value, dst);
+    }
     let src = value.as_bytes();
     let (v, mask) = load_rest::<V, MODE, N>(src, 0, &mut Ticks::new());
     if !mask.all_zero() {
@@ -93,10 +99,13 @@ fn written_short<V: Vector<N>, const MODE: u8, const N: usize, const EXACT: bool
 
 /// Escapes a text shorter than a vector to the front of `dst`, and answers how many bytes it became.
 #[inline(always)]
-pub(crate) fn format_short<V: Vector<N>, const MODE: u8, const N: usize, const EXACT: bool>(
-    value: &str,
-    dst: &mut [u8],
-) -> usize
+pub(crate) fn format_short<
+    V: Vector<N>,
+    const MODE: u8,
+    const N: usize,
+    const CHUNK: usize,
+    const EXACT: bool,
+>(value: &str, dst: &mut [u8]) -> usize
     requires few { length value.now < N }
     requires narrow { EXACT ≡ false → N ≤ 32 }
     requires room { bound (mode_numbered MODE) (length value.now) ≤ length dst.old }
@@ -104,5 +113,5 @@ pub(crate) fn format_short<V: Vector<N>, const MODE: u8, const N: usize, const E
     ensures headline { IsOnlyOutput (mode_numbered MODE) (take result dst.new) (chars value.now) }
     ensures equal_texts { IsOfOneText (mode_numbered MODE) value.now (take result dst.new) }
 {
-    written_short::<V, MODE, N, EXACT>(value, dst)
+    written_short::<V, MODE, N, CHUNK, EXACT>(value, dst)
 }

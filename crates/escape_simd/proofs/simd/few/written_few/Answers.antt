@@ -1,11 +1,10 @@
-use Rattle.std.proofs.Common.{◌≡◌, ℕ, ◌+◌, ◌*◌, ◌<◌, ◌≤◌, List, length, sym, ap, subst, ◌∙◌, arith}
+use Rattle.std.proofs.Common.{ℕ, ◌+◌, ◌<◌, ◌≤◌, List, length, sym, ap, subst, ◌∙◌, arith}
 use Rattle.std.proofs.lemmas.List.{take_all}
 use Rattle.escape_lanes.specs.Bits.{none_set}
 use Rattle.escape_lanes.specs.Written.{bytes_of}
 use Rattle.escape_simd.specs.Modes.{mode_numbered}
 use Rattle.escape_simd.specs.Output.{bound}
-use Rattle.escape_simd.specs.Stretch.{HoldsFlags}
-use Rattle.escape_simd.proofs.Lanes.{none_set-joined, held-whole}
+use Rattle.escape_simd.proofs.Lanes.{none_set-joined}
 use Rattle.escape_simd.proofs.simd.few.written_few.Goals.{then-src, else-src}
 use Rattle.escape_simd.proofs.simd.few.written_few.Goals as goal
 
@@ -49,47 +48,3 @@ quoted_three-requires g c =
     let room = subst (λ k. bound mode k ≤ length (bytes_of c.new-target-2.result)) (sym same) (omega (arith, r.room, ap length c.new-target-2.ensures.bytes)) in
     let l = c.load_rest-v3.ensures in
     (omega arith, (on, (few.0, (few.1, (r.narrow, (loaded1, (loaded2, (l.loaded, (clean1, (clean2, (l.flagged, (sym c.all_zero.ensures ∙ c.if-not-all_zero.false, room))))))))))))
-
-pub begin_flagged-requires : goal.begin_flagged-requires
-begin_flagged-requires g c =
-    let mode = mode_numbered g.row.MODE in let n : ℕ = g.row.N in let r = c.requires in
-    let src : List ℕ = c.as_bytes-src.result.now in let second : ℕ = c.if-src.second in
-    let lanes = g.V.Vector.lanes in let t = g.V.Flags.Flags.truths in let width = g.met.V.Vector.width in
-    let value = c.as_bytes-src.ensures.value in let same = ap length value in
-    let on : (0 < second → second ≡ n) × (second + n ≤ length src) × (length src < second + 2 * n) = elim c.if-src.branch [
-      | then-src b ↦ (λ some. b.second-is, omega (arith, b.second-is, b.if-src.true), omega (arith, b.second-is, same, r.few))
-      | else-src b ↦ (λ some. absurd (omega (arith, b.second-is, some)), omega (arith, b.second-is, same, r.some), omega (arith, b.second-is, b.if-src.false))
-    ] in
-    let flagged1 = held-whole mode src (lanes c.load_at-v1.result) 0 n (t c.flags-flags1.result) (width c.load_at-v1.result) (omega (arith, same, r.some)) (take_all n (lanes c.load_at-v1.result) (omega (arith, width c.load_at-v1.result)) ∙ c.load_at-v1.ensures) c.flags-flags1.ensures.lanes in
-    let flagged2 = held-whole mode src (lanes c.load_at-v2.result) second n (t c.flags-flags2.result) (width c.load_at-v2.result) on.1 (take_all n (lanes c.load_at-v2.result) (omega (arith, width c.load_at-v2.result)) ∙ c.load_at-v2.ensures) c.flags-flags2.ensures.lanes in
-    record {
-      on = on.0;
-      inside = omega (arith, same, on.1);
-      few = omega (arith, same, on.2);
-      narrow = r.narrow;
-      flagged1 = subst (λ xs. HoldsFlags mode xs 0 n 0 (t c.flags-flags1.result)) value flagged1;
-      flagged2 = subst (λ xs. HoldsFlags mode xs second n second (t c.flags-flags2.result)) value flagged2;
-      room = r.room;
-    }
-
-pub begin_flagged-requires-then-not-all_zero : goal.begin_flagged-requires-then-not-all_zero
-begin_flagged-requires-then-not-all_zero g c =
-    let mode = mode_numbered g.row.MODE in let n : ℕ = g.row.N in let r = c.requires in
-    let src : List ℕ = c.as_bytes-src.result.now in let second : ℕ = c.if-src.second in
-    let lanes = g.V.Vector.lanes in let t = g.V.Flags.Flags.truths in let width = g.met.V.Vector.width in
-    let value = c.as_bytes-src.ensures.value in let same = ap length value in
-    let on : (0 < second → second ≡ n) × (second + n ≤ length src) × (length src < second + 2 * n) = elim c.if-src.branch [
-      | then-src b ↦ (λ some. b.second-is, omega (arith, b.second-is, b.if-src.true), omega (arith, b.second-is, same, r.few))
-      | else-src b ↦ (λ some. absurd (omega (arith, b.second-is, some)), omega (arith, b.second-is, same, r.some), omega (arith, b.second-is, b.if-src.false))
-    ] in
-    let flagged1 = held-whole mode src (lanes c.load_at-v1.result) 0 n (t c.flags-flags1.result) (width c.load_at-v1.result) (omega (arith, same, r.some)) (take_all n (lanes c.load_at-v1.result) (omega (arith, width c.load_at-v1.result)) ∙ c.load_at-v1.ensures) c.flags-flags1.ensures.lanes in
-    let flagged2 = held-whole mode src (lanes c.load_at-v2.result) second n (t c.flags-flags2.result) (width c.load_at-v2.result) on.1 (take_all n (lanes c.load_at-v2.result) (omega (arith, width c.load_at-v2.result)) ∙ c.load_at-v2.ensures) c.flags-flags2.ensures.lanes in
-    record {
-      on = on.0;
-      inside = omega (arith, same, on.1);
-      few = omega (arith, same, on.2);
-      narrow = r.narrow;
-      flagged1 = subst (λ xs. HoldsFlags mode xs 0 n 0 (t c.flags-flags1.result)) value flagged1;
-      flagged2 = subst (λ xs. HoldsFlags mode xs second n second (t c.flags-flags2.result)) value flagged2;
-      room = r.room;
-    }

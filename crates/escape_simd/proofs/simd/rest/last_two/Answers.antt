@@ -6,7 +6,6 @@ use Rattle.escape_simd.specs.Modes.{mode_numbered}
 use Rattle.escape_simd.specs.Runs.{run_count}
 use Rattle.escape_simd.specs.Stretch.{Stretch, IsVectorAt, rest_length, rest_slack}
 use Rattle.escape_simd.proofs.Stretches.{onward, ended}
-use Rattle.escape_simd.proofs.Lanes.{held-further, none-before}
 use Rattle.escape_simd.proofs.Costs.{vectors-least}
 use Rattle.escape_simd.proofs.RestLemmas.{zeros, last-is, last-loaded, last-lane, held-then, held-zeros, zeros-once, rest-narrow, rest-slack-some}
 use Rattle.escape_simd.proofs.simd.rest.last_two.Goals as goal
@@ -43,52 +42,49 @@ load-v-requires g c =
     let w = c.whole.ensures in let b = ap length w.bytes in
     record { after = omega (arith, w.base); held = omega (arith, w.base, b, c.requires.some) }
 
-pub load-u-requires : goal.load-u-requires
-load-u-requires g c =
-    let w = c.padded-source.ensures in let b = ap length w.bytes in let l = c.as_flattened.ensures.len in let p = c.requires.passed in
-    record { after = omega (arith, w.base, p.whole); held = omega (arith, w.base, b, l, p.near, g.met.V.Vector.several) }
-
-pub vector-next-requires : goal.vector-next-requires
-vector-next-requires g c =
-    let mode = mode_numbered g.row.MODE in let src : List ℕ = c.args.src.now in let at : ℕ = c.args.at in let from : ℕ = c.args.from in let n : ℕ = g.row.N in let r = c.requires in
+pub vector-from-requires : goal.vector-from-requires
+vector-from-requires g c =
+    let mode = mode_numbered g.row.MODE in let src : List ℕ = c.args.src.now in let at : ℕ = c.args.at in let n : ℕ = g.row.N in let r = c.requires in
+    let lanes : List ℕ = g.V.Vector.lanes c.load-v.result in let loaded = c.load-v.ensures n (omega arith) (omega (arith, ap length c.whole.ensures.text, r.some)) ∙ ap (λ xs. take n (drop at xs)) c.whole.ensures.text in
     let bits = g.V.Flags.BitMask.BitMask.bits c.args.mask in
     let w = c.padded-source.ensures in let b = ap length w.bytes in let t = ap length w.text in
     let l = c.as_flattened.ensures.len in
-    let several = g.met.V.Vector.several in (
+    let several = g.met.V.Vector.several in
+    let all : at + n - at ≡ n = omega arith in (
       omega arith,
       (
-        subst (λ xs. IsVectorAt mode n xs c.padded-source.result.base (c.padded-source.result.base + length c.padded-source.result.bytes.now) at n from c.args.to (length (bytes_of c.args.target.now)) bits) (sym w.text) (record {
+        subst (λ xs. IsVectorAt mode n xs c.padded-source.result.base (c.padded-source.result.base + length c.padded-source.result.bytes.now) at n at c.args.to (length (bytes_of c.args.target.now)) bits) (sym w.text) (record {
           count = g.met.V.Flags.BitMask.BitMask.count c.args.mask ∙ g.met.V.Vector.flag_width;
-          flags = held-further mode src at n at from bits r.flagged r.passed.whole;
+          flags = r.flagged;
           few = omega arith;
           inside = r.some;
-          after = r.passed.whole;
-          before = omega (arith, several, r.passed.near);
+          after = omega arith;
+          before = omega (arith, several);
           base = omega (arith, w.base);
           held = omega (arith, w.base, b, l);
           room = r.room;
         }),
-        (λ e. omega (arith, r.narrow e), (none-before mode src at n from bits r.flagged r.passed.clean, c.load-u.ensures (at + n - from) (omega (arith, r.passed.whole)) (omega (arith, t, r.some, r.passed.near, several)))),
+        (λ e. omega (arith, r.narrow e), (λ k s. omega arith, subst (λ k. take k lanes ≡ take k (drop at c.padded-source.result.text.now)) (sym all) (loaded ∙ ap (λ xs. take n (drop at xs)) (sym w.text)))),
       ),
     )
 
 -- the stretch of the first vector, told of the text
-pub returns-then-src-next-clause-stretch : goal.returns-then-src-next-clause-stretch
-returns-then-src-next-clause-stretch g c =
+pub returns-then-src-from-clause-stretch : goal.returns-then-src-from-clause-stretch
+returns-then-src-from-clause-stretch g c =
     let exact = not (nat_eq (value_of (number g.row.EXACT)) 0) in
     let mode = mode_numbered g.row.MODE in let src : List ℕ = c.args.src.now in let n : ℕ = g.row.N in
     let w = c.padded-source.ensures in
-    let s = subst (λ xs. Stretch {N = n} mode (rest_slack exact n) xs c.args.target.now c.vector-next.new.target c.args.from c.vector-next.result.0 c.args.to c.vector-next.result.1) w.text
-    (c.vector-next.ensures.stretch (rest_slack exact n) (rest-slack-some exact n g.met.V.Vector.several) (λ e. rest-narrow exact n _ e)) in
-    let end : c.vector-next.result.0 ≡ length src = omega (arith, s.inside, c.if-src-next.true) in
+    let s = subst (λ xs. Stretch {N = n} mode (rest_slack exact n) xs c.args.target.now c.vector-from.new.target c.args.at c.vector-from.result.0 c.args.to c.vector-from.result.1) w.text
+    (c.vector-from.ensures.stretch (rest_slack exact n) (rest-slack-some exact n g.met.V.Vector.several) (λ e. rest-narrow exact n _ e)) in
+    let end : c.vector-from.result.0 ≡ length src = omega (arith, s.inside, c.if-src-from.true) in
     ended s end refl
 
-pub returns-then-src-next-clause-stored : goal.returns-then-src-next-clause-stored
-returns-then-src-next-clause-stored g c =
+pub returns-then-src-from-clause-stored : goal.returns-then-src-from-clause-stored
+returns-then-src-from-clause-stored g c =
     let mode = mode_numbered g.row.MODE in let src : List ℕ = c.args.src.now in
     let several = g.met.V.Vector.several in
     let t = c.padded-source.ensures.text in
-    let s = subst (λ xs. stored_of c.vector-next.new.target + run_count mode (drop c.vector-next.result.0 xs) ≤ stored_of c.args.target.now + run_count mode (drop c.args.from xs) + 1) t c.vector-next.ensures.stored in
+    let s = subst (λ xs. stored_of c.vector-from.new.target + run_count mode (drop c.vector-from.result.0 xs) ≤ stored_of c.args.target.now + run_count mode (drop c.args.at xs) + 1) t c.vector-from.ensures.stored in
     omega (arith, s)
 
 pub second_vector-requires : goal.second_vector-requires
@@ -98,17 +94,17 @@ second_vector-requires g c =
     let w = c.padded-source.ensures in let b = ap length w.bytes in let t = ap length w.text in let text : List ℕ = c.padded-source.result.text.now in
     let l = c.as_flattened.ensures.len in
     let exact = not (nat_eq (value_of (number g.row.EXACT)) 0) in
-    let s = c.vector-next.ensures.stretch 32 (omega arith) (λ e. omega (arith, r.narrow e)) in
-    let from_at = ap (λ xs. rest_length mode xs c.args.from) w.text in (
+    let s = c.vector-from.ensures.stretch 32 (omega arith) (λ e. omega (arith, r.narrow e)) in
+    let from_at = ap (λ xs. rest_length mode xs at) w.text in (
       omega arith,
       (
         omega (arith, t, r.some),
         (
           omega (arith, r.few),
           (
-            c.vector-next.ensures.passed,
+            c.vector-from.ensures.passed,
             (
-              omega (arith, c.if-src-next.false, r.some),
+              omega (arith, c.if-src-from.false, r.some),
               (
                 omega (arith, w.base),
                 (
@@ -134,15 +130,15 @@ returns-clause-stretch g c =
     let mode = mode_numbered g.row.MODE in let src : List ℕ = c.args.src.now in let n : ℕ = g.row.N in
     let w = c.padded-source.ensures in
     let text : List ℕ = c.padded-source.result.text.now in
-    let first = c.vector-next.ensures.stretch (rest_slack exact n) (rest-slack-some exact n g.met.V.Vector.several) (λ e. rest-narrow exact n _ e) in
-    subst (λ xs. Stretch {N = n} mode (rest_slack exact n) xs c.args.target.now c.second_vector.new.target c.args.from (length xs) c.args.to c.second_vector.result) w.text (onward first c.second_vector.ensures.stretch)
+    let first = c.vector-from.ensures.stretch (rest_slack exact n) (rest-slack-some exact n g.met.V.Vector.several) (λ e. rest-narrow exact n _ e) in
+    subst (λ xs. Stretch {N = n} mode (rest_slack exact n) xs c.args.target.now c.second_vector.new.target c.args.at (length xs) c.args.to c.second_vector.result) w.text (onward first c.second_vector.ensures.stretch)
 
 pub returns-clause-stored : goal.returns-clause-stored
 returns-clause-stored g c =
     let mode = mode_numbered g.row.MODE in let src : List ℕ = c.args.src.now in
     let several = g.met.V.Vector.several in
     let t = c.padded-source.ensures.text in
-    let s = subst (λ xs. stored_of c.vector-next.new.target + run_count mode (drop c.vector-next.result.0 xs) ≤ stored_of c.args.target.now + run_count mode (drop c.args.from xs) + 1) t c.vector-next.ensures.stored in
-    let u = subst (λ xs. stored_of c.second_vector.new.target ≤ stored_of c.vector-next.new.target + run_count mode (drop c.vector-next.result.0 xs) + 1) t c.second_vector.ensures.stored in
+    let s = subst (λ xs. stored_of c.vector-from.new.target + run_count mode (drop c.vector-from.result.0 xs) ≤ stored_of c.args.target.now + run_count mode (drop c.args.at xs) + 1) t c.vector-from.ensures.stored in
+    let u = subst (λ xs. stored_of c.second_vector.new.target ≤ stored_of c.vector-from.new.target + run_count mode (drop c.vector-from.result.0 xs) + 1) t c.second_vector.ensures.stored in
     let v = vectors-least g.row.N (omega (arith, several)) 1 (length src - c.args.at) (omega (arith, c.requires.some)) in
     omega (arith, s, u, v)

@@ -5,7 +5,7 @@ use Rattle.escape_lanes.specs.Replacement.{needs_escape}
 use Rattle.escape_simd.specs.Modes.{mode_numbered}
 use Rattle.escape_simd.specs.Stretch.{Stretch, rest_slack}
 use Rattle.escape_simd.proofs.Stretches.{standing, onward, ended, widened, rest-bounds}
-use Rattle.escape_simd.proofs.Lanes.{held-cut, clear_none, passed-here}
+use Rattle.escape_simd.proofs.Lanes.{held-cut, clear_none}
 use Rattle.escape_simd.proofs.RestLemmas.{rest-slack-some}
 use Rattle.escape_simd.proofs.simd.rest.rest.Goals.{then-src-at+else-not-none, else-src-at}
 use Rattle.escape_simd.proofs.simd.rest.rest.Goals as goal
@@ -19,11 +19,24 @@ pub last_two-requires : goal.last_two-requires
 last_two-requires g c =
     let mode = mode_numbered g.row.MODE in let src : List ℕ = c.args.src.now in let n : ℕ = g.row.N in
     let lanes : List ℕ = g.V.Vector.lanes c.load-v.result in
-    let w = c.whole.ensures in let t = ap length w.text in
-    let flagged = held-cut mode src lanes c.args.at n n c.args.at (g.met.V.Vector.width c.load-v.result) (omega arith) (omega (arith, c.if-src-at.true, c.requires.inside))
-    (c.load-v.ensures n (omega arith) (omega (arith, t, c.if-src-at.true, c.requires.inside)) ∙ ap (λ xs. take n (drop c.args.at xs)) w.text) (g.V.Flags.BitMask.BitMask.bits c.bitmask.result)
-    (c.bitmask.ensures ∙ c.flags-flags.ensures.lanes ∙ clear_none (map (needs_escape mode) lanes) n) in
-    (omega arith, (omega (arith, c.if-src-at.true, c.requires.inside), (c.requires.few, (c.requires.narrow, (passed-here mode src c.args.at, (flagged, c.requires.room))))))
+    let w = c.whole.ensures in let t = ap length w.text in (
+      omega arith,
+      (
+        omega (arith, c.if-src-at.true, c.requires.inside),
+        (
+          c.requires.few,
+          (
+            c.requires.narrow,
+            (
+              held-cut mode src lanes c.args.at n n c.args.at (g.met.V.Vector.width c.load-v.result) (omega arith) (omega (arith, c.if-src-at.true, c.requires.inside))
+                  (c.load-v.ensures n (omega arith) (omega (arith, t, c.if-src-at.true, c.requires.inside)) ∙ ap (λ xs. take n (drop c.args.at xs)) w.text) (g.V.Flags.BitMask.BitMask.bits c.bitmask.result)
+                  (c.bitmask.ensures ∙ c.flags-flags.ensures.lanes ∙ clear_none (map (needs_escape mode) lanes) n),
+              c.requires.room,
+            ),
+          ),
+        ),
+      ),
+    )
 
 pub pass-requires : goal.pass-requires
 pass-requires g c =

@@ -8,7 +8,7 @@ use Rattle.std.specs.Simd.Lanes.{zip2}
 use Rattle.escape_lanes.specs.Bits.{first_set, none_set, clear_first, clear_last}
 use Rattle.escape_lanes.specs.Mode.{Mode, json, html, script}
 use Rattle.escape_lanes.specs.Replacement.{needs_escape}
-use Rattle.escape_simd.specs.Stretch.{HoldsFlags, Passed, CanRun, look_ahead, stored_lanes}
+use Rattle.escape_simd.specs.Stretch.{HoldsFlags, CanRun, look_ahead, stored_lanes}
 use Rattle.escape_simd.proofs.Texts.{IsClean}
 
 -- no lane before the first set one is set
@@ -160,10 +160,6 @@ module _ (mode : Mode) (src : List ℕ) (at taken from : ℕ) (bits : List Bool)
 -- the lanes of a mask, told from further on
 pub held-further : (mode : Mode) (src : List ℕ) (at taken from next : ℕ) (bits : List Bool) → HoldsFlags mode src at taken from bits → from ≤ next → HoldsFlags mode src at taken next bits
 held-further mode src at taken from next bits held h = record { set = held.set; unset = λ k s after few. held.unset k s (omega arith) few }
-
--- where nothing was passed, nothing was passed wrongly
-pub passed-here : (mode : Mode) (src : List ℕ) (at : ℕ) → Passed mode src at at
-passed-here mode src at = record { whole = omega arith; near = omega arith; exact = λ bytewise. refl; clean = λ p after before. absurd (omega (arith, after, before)) }
 
 -- a mask that is the classification of a vector, cut to the text's bytes
 module _ (mode : Mode) (src lanes : List ℕ) (at n taken from : ℕ) (long : length lanes ≡ n) (few : taken ≤ n) (inside : at + taken ≤ length src) (loaded : take taken lanes ≡ take taken (drop at src)) where

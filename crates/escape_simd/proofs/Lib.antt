@@ -8,6 +8,7 @@ pub mod Whole
 pub mod Escapes
 pub mod Turns
 pub mod RestLemmas
+pub mod Rows
 pub mod HtmlLemmas
 pub mod JsonLemmas
 pub mod ScriptLemmas

@@ -11,14 +11,17 @@ ghost use Rattle.escape_simd.specs.Headline.{IsOnlyOutput};
 ghost use Rattle.escape_simd.specs.Laws.{JoinsTexts, IsOfOneText, HasOutputLength};
 
 mod bytes;
+mod front;
 mod inner;
+mod pieces;
+mod push;
 
 use crate::simd::HTML_MODE;
 use crate::simd::avx2::Simd256u;
 use crate::{html, json};
-pub use bytes::PIECE;
 use bytes::append_bytes;
 pub use inner::{escapes_at_most, stands_for_itself, write_inner};
+pub use pieces::PIECE;
 use std::alloc::{AllocError, Allocator};
 
 /// Why a text was not escaped.

@@ -24,7 +24,9 @@ pub mod util;
 pub mod v128;
 mod vector;
 
-pub(crate) use ahead::{count_or_more, is_clean, load_at, load_masked, most_flagged, most_of_four};
+pub(crate) use ahead::{
+    count_or_more, is_clean, load_at, load_masked, most_between, most_of_eight, most_of_four,
+};
 pub(crate) use body::{escape_at, escape_few_at};
 pub(crate) use classify::Vector;
 pub use classify::{HTML_MODE, JSON_MODE, SCRIPT_MODE};

@@ -114,13 +114,45 @@ fn runs_on_texts_as_long_as_pieces(rt: HostRuntime) -> Result<(), Fail> {
     Ok(())
 }
 
-// The calls cut pieces from the first byte that needs an escape on.
+/// How many bytes the calls that append ask at once: four vectors, eight, and these after each other.
+const CHUNKS: [usize; 4] = [128, 256, 384, 512];
+
+// The calls append clean chunks as they are, up to the first that has an escape.
 #[test]
-fn calls_across_borders(rt: HostRuntime) -> Result<(), Fail> {
+fn calls_after_clean_fronts(rt: HostRuntime) -> Result<(), Fail> {
     for across in ACROSS {
         for start in STARTS {
-            for front in [0, 100] {
-                let first = (escape_simd::PIECE - 7).saturating_add(start);
+            for chunk in CHUNKS {
+                for more in [0, 40, 300] {
+                    let text = repeated(
+                        rt.alloc(),
+                        &[
+                            ((chunk - 7).saturating_add(start), "a"),
+                            (1, across),
+                            (more, "b"),
+                            (1, "\""),
+                            (more, "c"),
+                        ],
+                    )?;
+                    for mode in MODES {
+                        let wanted = plain(rt.alloc(), mode, text.as_str())?;
+                        calls_are_right(&rt, mode, text.as_str(), &wanted)?;
+                    }
+                }
+            }
+        }
+    }
+    Ok(())
+}
+
+// The calls cut pieces from the first chunk that has an escape on.
+#[test]
+fn calls_across_borders(rt: HostRuntime) -> Result<(), Fail> {
+    let piece = escape_simd::PIECE;
+    for across in ACROSS {
+        for start in STARTS {
+            for (front, pieces) in [(0, piece), (256, piece), (0, 2 * piece)] {
+                let first = (pieces - 7).saturating_add(start);
                 let text = repeated(
                     rt.alloc(),
                     &[

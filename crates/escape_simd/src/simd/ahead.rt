@@ -60,6 +60,31 @@ fn are_clean<V: Vector<N>, const MODE: u8, const N: usize>(src: &[u8], at: usize
     flags1.join(&flags2).join(&flags3.join(&flags4)).none()
 }
 
+/// Which lanes are flagged in any of four vectors of the text. They may overlap.
+#[inline(always)]
+fn either_of_four<V: Vector<N>, const MODE: u8, const N: usize>(
+    src: &[u8],
+    first: usize,
+    second: usize,
+    third: usize,
+    fourth: usize,
+) -> V::Flags
+    requires inside { (first + N ≤ length src.now) × (second + N ≤ length src.now)
+        × (third + N ≤ length src.now) × (fourth + N ≤ length src.now) }
+    requires on { (second ≤ first + N) × (third ≤ second + N) × (fourth ≤ third + N) }
+    ensures { (at : ℕ)
+        → first ≤ at
+        → count_by (needs_escape (mode_numbered MODE)) (take (fourth + N) src.now)
+        ≤ count_by (needs_escape (mode_numbered MODE)) (take at src.now)
+        + 4 * count_by (λ b. b) (V.Flags.truths result) }
+{
+    let flags1 = flags_at::<V, MODE, N>(src, first);
+    let flags2 = flags_at::<V, MODE, N>(src, second);
+    let flags3 = flags_at::<V, MODE, N>(src, third);
+    let flags4 = flags_at::<V, MODE, N>(src, fourth);
+    flags1.join(&flags2).join(&flags3.join(&flags4))
+}
+
 /// At most so many bytes of four vectors of the text need an escape: one in each, for each lane that is
 /// flagged in any of them. They are asked at once, and may overlap.
 #[inline(always)]
@@ -79,12 +104,48 @@ pub(crate) fn most_of_four<V: Vector<N>, const MODE: u8, const N: usize>(
         → count_by (needs_escape (mode_numbered MODE)) (take (fourth + N) src.now)
         ≤ count_by (needs_escape (mode_numbered MODE)) (take at src.now) + result }
 {
-    let flags1 = flags_at::<V, MODE, N>(src, first);
-    let flags2 = flags_at::<V, MODE, N>(src, second);
-    let flags3 = flags_at::<V, MODE, N>(src, third);
-    let flags4 = flags_at::<V, MODE, N>(src, fourth);
-    let either = flags1.join(&flags2).join(&flags3.join(&flags4));
+    let either = either_of_four::<V, MODE, N>(src, first, second, third, fourth);
     4 * either.bitmask().count_set()
+}
+
+/// As [`most_of_four`], of the eight vectors of the text from `at` on.
+#[inline(always)]
+pub(crate) fn most_of_eight<V: Vector<N>, const MODE: u8, const N: usize>(
+    src: &[u8],
+    at: usize,
+) -> usize
+    requires { at + 8 * N ≤ length src.now }
+    ensures few { result ≤ 8 * N }
+    ensures most { count_by (needs_escape (mode_numbered MODE)) (take (at + 8 * N) src.now)
+        ≤ count_by (needs_escape (mode_numbered MODE)) (take at src.now) + result }
+{
+    let half = at + 4 * N;
+    let front = either_of_four::<V, MODE, N>(src, at, at + N, at + 2 * N, at + 3 * N);
+    let back = either_of_four::<V, MODE, N>(src, half, half + N, half + 2 * N, half + 3 * N);
+    8 * front.join(&back).bitmask().count_set()
+}
+
+/// At most so many bytes of the text from one place up to another need an escape. Those past the last
+/// eight vectors are not asked.
+#[inline(always)]
+pub(crate) fn most_between<V: Vector<N>, const MODE: u8, const N: usize>(
+    src: &[u8],
+    from: usize,
+    to: usize,
+) -> usize
+    requires on { from ≤ to }
+    requires inside { to ≤ length src.now }
+    ensures few { result ≤ to - from }
+    ensures most { count_by (needs_escape (mode_numbered MODE)) (take to src.now)
+        ≤ count_by (needs_escape (mode_numbered MODE)) (take from src.now) + result }
+{
+    let mut at = from;
+    let mut most = 0;
+    'eights: while 8 * N <= to - at {
+        most += most_of_eight::<V, MODE, N>(src, at);
+        at += 8 * N;
+    }
+    most + (to - at)
 }
 
 /// How many bytes of the vector of the text at `at` need an escape.
@@ -181,33 +242,4 @@ pub(crate) fn count_or_more<V: Vector<N>, const MODE: u8, const N: usize>(src: &
         return count_three::<V, MODE, N>(src);
     }
     count_flagged::<V, MODE, N>(src)
-}
-
-/// At most so many bytes of the text need an escape, and none where it is 0. Of a text shorter than three
-/// vectors nothing is asked.
-#[inline(always)]
-pub(crate) fn most_flagged<V: Vector<N>, const MODE: u8, const N: usize>(src: &[u8]) -> usize
-    ensures few { result ≤ length src.now }
-    ensures most { count_by (needs_escape (mode_numbered MODE)) src.now ≤ result }
-{
-    let len = src.len();
-    if len < 3 * N {
-        return len;
-    }
-    if len < 4 * N {
-        return most_of_four::<V, MODE, N>(src, 0, N, 2 * N, len - N).min(len);
-    }
-    let mut at = 0;
-    let mut most = 0;
-    'chunks: while 4 * N <= len - at {
-        most += most_of_four::<V, MODE, N>(src, at, at + N, at + 2 * N, at + 3 * N);
-        at += 4 * N;
-    }
-    if at == len {
-        return most;
-    }
-    // The last four vectors go over what those before them have of the same bytes.
-    let last = len - 4 * N;
-    most += most_of_four::<V, MODE, N>(src, last, last + N, last + 2 * N, last + 3 * N);
-    most.min(len)
 }

@@ -1,0 +1,16 @@
+use Rattle.std.proofs.Common.{ℕ, List, slice_range, arith}
+use Rattle.std.proofs.lemmas.List.Edits.{length-between}
+use Rattle.std.proofs.lemmas.List.Sums.{count_by-le-length}
+use Rattle.escape_lanes.specs.Replacement.{needs_escape}
+use Rattle.escape_simd.specs.Modes.{mode_numbered}
+use Rattle.escape_simd.proofs.Pieces.{piece-count}
+use Rattle.escape_simd.proofs.simd.ahead.most_between.Goals as goal
+
+pub returns-clause-most : goal.returns-clause-most
+returns-clause-most g c =
+    let f = needs_escape (mode_numbered g.row.MODE) in let src : List ℕ = c.args.src.now in
+    let at : ℕ = c.eights.at in let to : ℕ = c.args.to in
+    let parts = piece-count f src at to (omega (arith, c.eights.invariant.inside)) in
+    let few = count_by-le-length f (slice_range src at to) in
+    let len = length-between src at to c.requires.inside in
+    omega (arith, parts, few, len, c.eights.invariant.most)

@@ -13,9 +13,9 @@ use crate::simd::traits::{BitMask, Simd};
 use crate::tables::{SCRIPT_HI_NIBBLE_TAB, SCRIPT_LO_NIBBLE_TAB};
 use std::simd::prelude::*;
 
-/// Flags where a script literal has to look at the byte.
+/// Flags where a script literal has to look at the byte. `sse2` does so too.
 #[inline(always)]
-fn script_needs(v: &u8x16) -> u8x16
+pub(crate) fn script_needs(v: &u8x16) -> u8x16
     requires { AreBytes 16 v.now }
     ensures bytes { AreBytes 16 result }
     ensures lanes { flagged_lanes result ≡ map (needs_escape script) v.now }

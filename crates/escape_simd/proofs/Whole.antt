@@ -1,5 +1,5 @@
 -- A whole text: its bytes between quotes.
-use Rattle.std.proofs.Common.{◌≡◌, ℕ, ◌+◌, ◌*◌, ◌/◌, ◌≤◌, Bool, true, false, List, [], ◌++◌, length, take, drop, refl, sym, ap, ◌∙◌, arith, length-append, length-take-le, le_refl}
+use Rattle.std.proofs.Common.{◌≡◌, ℕ, ◌+◌, ◌*◌, ◌/◌, ◌≤◌, Bool, true, false, List, [], ◌++◌, length, take, drop, refl, sym, ap, subst, ◌∙◌, arith, length-append, length-take-le, le_refl}
 use Rattle.std.proofs.lemmas.List.{append-nil, drop_all}
 use Rattle.escape_lanes.specs.Mode.{Mode, json, html, script}
 use Rattle.escape_lanes.specs.Written.{bytes_of, stored_of, escaped_of, quotes_of, IsSameSlice}
@@ -59,6 +59,13 @@ module _ {N : ℕ} {mode : Mode} {slack : ℕ} {text : List ℕ} {old new : Targ
   all-end =
       let l = s.limit in let r = rest-is mode text 0 in let q = rest-is mode text (length text) ∙ ap length (nothing-left ∙ inner-nil mode) in
       omega (arith, l, r, q)
+
+  -- and nothing past the slack changes
+  pub all-kept : drop (end + slack) (bytes_of new) ≡ drop (end + slack) (bytes_of old)
+  all-kept =
+      let l = s.limit in let q = rest-is mode text (length text) ∙ ap length (nothing-left ∙ inner-nil mode) in
+      let e : to + rest_length mode text 0 + slack ≡ end + slack = omega (arith, l, q) in
+      subst (λ k. drop k (bytes_of new) ≡ drop k (bytes_of old)) e s.kept
 
 -- one quote was written or none
 pub record IsQuoted {N : ℕ} (mode : Mode) (old new : Target N) (to end : ℕ) : Type 0 where

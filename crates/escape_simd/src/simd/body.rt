@@ -18,7 +18,9 @@ use crate::simd::source::Source;
 use escape_lanes::simd::target::{Target, Ticks};
 
 /// Escapes the bytes to `dst` from `to` on, with no quotation marks, and answers the place reached.
-#[inline(always)]
+///
+/// The target is made here, so that its place stays in a register over the loops.
+#[inline(never)]
 pub(crate) fn escape_at<
     V: Vector<N>,
     const MODE: u8,
@@ -30,6 +32,8 @@ pub(crate) fn escape_at<
     requires room { to + room_from (mode_numbered MODE) src.now 0 ≤ length dst.old }
     ensures end { result ≡ to + length (inner (mode_numbered MODE) src.now) }
     ensures written { take result dst.new ≡ take to dst.old ++ inner (mode_numbered MODE) src.now }
+    ensures kept { drop (result + rest_slack EXACT N) dst.new
+        ≡ drop (result + rest_slack EXACT N) dst.old }
 {
     let mut target = Target::<N>::new(dst);
     let mut ticks = Ticks::new();

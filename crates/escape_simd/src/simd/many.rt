@@ -13,11 +13,12 @@ use escape_lanes::simd::target::{Target, Ticks};
 
 /// Escapes the bytes to the target from `to` on, and answers the place reached.
 ///
-/// One function for all that calls it: the compiler gives up its inlining in what would be too large.
+/// It is a part of each of the few functions that call it: where the target is made there, its place is
+/// not loaded again for each store.
 ///
 /// `CHUNK` says how many vectors are classified at once: four (and two of those that are left), two or
 /// one.
-#[inline(never)]
+#[inline(always)]
 pub(crate) fn escape_many<
     V: Vector<N>,
     const MODE: u8,

@@ -8,8 +8,8 @@ ghost use Rattle.escape_text.specs.ToWrite.{quote_if, to_write, pieces_left};
 use escape_simd::output::{escapes_at_most, stands_for_itself, write_inner};
 use escape_simd::simd::HTML_MODE;
 
-/// How many bytes of a text the adapters, the writers and the calls for a `String` escape at a time, at
-/// most.
+/// How many bytes of a long text the adapters, the writers and the calls for a `String` escape at a time,
+/// at most.
 pub const PIECE: usize = 512;
 
 /// How many bytes of a text are asked at a time whether they stand for themselves: so few that they are

@@ -12,9 +12,9 @@ use escape_simd::simd::HTML_MODE;
 /// at most.
 pub const PIECE: usize = 512;
 
-/// How many bytes of a text are asked at a time whether they stand for themselves: so few that they are
-/// still in the first cache when they are handed on.
-const FRONT: usize = escape_simd::PIECE;
+/// How many bytes of a long text these ask at a time whether they stand for themselves: so few that they
+/// are still in the first cache when they are handed on.
+pub const FRONT: usize = 8192;
 
 /// How many bytes the array has that a piece is escaped in: six for each byte of it, two quotation
 /// marks, and a vector.

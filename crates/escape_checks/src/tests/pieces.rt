@@ -107,9 +107,9 @@ fn calls_on_texts_as_long_as_pieces(rt: HostRuntime) -> Result<(), Fail> {
 const ENDS: [usize; 5] = [
     escape_text::PIECE,
     2 * escape_text::PIECE,
-    escape_simd::PIECE,
-    escape_text::PIECE + escape_simd::PIECE,
-    escape_text::PIECE + 2 * escape_simd::PIECE,
+    escape_text::FRONT,
+    escape_text::PIECE + escape_text::FRONT,
+    escape_text::PIECE + 2 * escape_text::FRONT,
 ];
 
 #[test]

@@ -6,8 +6,8 @@ ghost use Rattle.escape_stream.specs.Run.{AppendsBeginning};
 ghost use Rattle.escape_stream.specs.Words.{escaping};
 
 use crate::fault::ToolFault;
-use crate::output::{flush, write_all};
 use crate::words::Mode;
+use crate::write::{flush, write_all};
 use escape_simd::html::html_capacity;
 use escape_simd::json::json_capacity;
 use escape_simd::{Kernel, format_html_string, format_json_inner, format_script_inner};

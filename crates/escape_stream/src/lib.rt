@@ -15,9 +15,9 @@
 mod escaped;
 mod fault;
 mod input;
-mod output;
 mod stream;
 mod words;
+mod write;
 
 pub use escaped::PIECE;
 pub use fault::ToolFault;

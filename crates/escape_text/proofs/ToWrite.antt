@@ -23,6 +23,13 @@ rest_to_write-more mode begun text piece rest same utf8 =
     ∙ ap (λ xs. quote ++ xs) (append_assoc (inner mode piece) (inner mode rest) (quote_of mode) ∙ ap (λ xs. xs ++ after) (sym (append-nil (inner mode piece))))
     ∙ sym (append_assoc quote (inner mode piece ++ []) after)
 
+-- a piece that stands for itself, and what is left
+pub rest_to_write-clean : (mode : Mode) (text piece rest : List ℕ) → text ≡ piece ++ rest → IsUtf8 piece → inner mode piece ≡ piece
+    → rest_to_write mode true text ≡ piece ++ rest_to_write mode true rest
+rest_to_write-clean mode text piece rest same utf8 itself =
+    ap (λ xs. xs ++ quote_of mode) (inner-append mode text piece rest same (cut-text mode piece utf8) ∙ ap (λ xs. xs ++ inner mode rest) itself)
+    ∙ append_assoc piece (inner mode rest) (quote_of mode)
+
 -- the last piece
 pub rest_to_write-last : (mode : Mode) (begun : Bool) (text piece rest : List ℕ) → text ≡ piece ++ rest → length rest ≡ 0
     → rest_to_write mode begun text ≡ (quote_if mode (not begun) ++ (inner mode piece ++ quote_of mode)) ++ []

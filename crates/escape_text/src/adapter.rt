@@ -4,7 +4,9 @@ ghost use Rattle.std.specs.Fmt.{WritesOnOk};
 ghost use Rattle.escape_simd.specs.Modes.{mode_numbered};
 ghost use Rattle.escape_simd.specs.Output.{plain, inner};
 
-use crate::piecewise::{FEW_ROOM, Pieces, ROOM, SHORT_ROOM, Way, escape_short, quote, way_of};
+use crate::piecewise::{
+    DENSE_ROOM, FEW_ROOM, Pieces, ROOM, SHORT_ROOM, Way, escape_short, quote, way_of,
+};
 use std::fmt;
 
 /// Writes the output for the text. A text that stands for itself takes no array.
@@ -19,6 +21,7 @@ pub(crate) fn display<const MODE: u8, W: fmt::Write>(
         Way::Itself => display_itself::<MODE, W>(value, f),
         Way::Few => display_short::<MODE, FEW_ROOM, W>(value, f),
         Way::Short => display_short::<MODE, SHORT_ROOM, W>(value, f),
+        Way::Dense => display_short::<MODE, DENSE_ROOM, W>(value, f),
         Way::Pieces => display_pieces::<MODE, W>(value, f),
     }
 }

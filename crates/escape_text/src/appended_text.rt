@@ -3,7 +3,9 @@ ghost use Rattle.std.specs.Prelude.{◌≡◌, ◌+◌, ◌<◌, ◌≤◌, ◌�
 ghost use Rattle.escape_simd.specs.Modes.{mode_numbered};
 ghost use Rattle.escape_simd.specs.Output.{plain, inner, bound};
 
-use crate::piecewise::{FEW_ROOM, Pieces, ROOM, SHORT_ROOM, Way, escape_short, quote, way_of};
+use crate::piecewise::{
+    DENSE_ROOM, FEW_ROOM, Pieces, ROOM, SHORT_ROOM, Way, escape_short, quote, way_of,
+};
 use escape_simd::output::{Refusal, scratch_bound};
 use std::alloc::Allocator;
 
@@ -51,6 +53,7 @@ fn append_output<const MODE: u8, A: Allocator>(value: &str, dst: &mut String<A>)
         Way::Itself => append_itself::<MODE, A>(value, dst),
         Way::Few => append_short::<MODE, FEW_ROOM, A>(value, dst),
         Way::Short => append_short::<MODE, SHORT_ROOM, A>(value, dst),
+        Way::Dense => append_short::<MODE, DENSE_ROOM, A>(value, dst),
         Way::Pieces => append_pieces::<MODE, A>(value, dst),
     }
 }

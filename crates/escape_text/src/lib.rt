@@ -23,3 +23,4 @@ mod piecewise;
 mod writer;
 
 pub use list::ListError;
+pub use piecewise::{FRONT, PIECE};

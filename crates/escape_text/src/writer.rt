@@ -5,7 +5,9 @@ ghost use Rattle.escape_simd.specs.Modes.{mode_numbered};
 ghost use Rattle.escape_simd.specs.Output.{plain, inner};
 ghost use Rattle.escape_text.specs.Writers.{AppendsBeginning};
 
-use crate::piecewise::{FEW_ROOM, Pieces, ROOM, SHORT_ROOM, Way, escape_short, quote, way_of};
+use crate::piecewise::{
+    DENSE_ROOM, FEW_ROOM, Pieces, ROOM, SHORT_ROOM, Way, escape_short, quote, way_of,
+};
 use std::io::{ErrorKind, Result, Write};
 
 /// Writes the output for the text, and does not flush. A text that stands for itself takes no array.
@@ -19,6 +21,7 @@ pub(crate) fn write_output<const MODE: u8, W: Write>(value: &str, writer: &mut W
         Way::Itself => write_itself::<MODE, W>(value, writer),
         Way::Few => write_short::<MODE, FEW_ROOM, W>(value, writer),
         Way::Short => write_short::<MODE, SHORT_ROOM, W>(value, writer),
+        Way::Dense => write_short::<MODE, DENSE_ROOM, W>(value, writer),
         Way::Pieces => write_pieces::<MODE, W>(value, writer),
     }
 }

@@ -1,7 +1,9 @@
-//! Every border of the pieces in which the calls that append and a run go through a text.
+//! Every border of the pieces in which the calls that append, those to other targets and a run go through
+//! a text.
 
 use crate::plain::plain;
 use crate::routes::MODES;
+use crate::tests::targets::targets_are_right;
 use crate::tests::texts::repeated;
 use escape_simd::Kernel;
 use escape_simd::html::{escape_html, escape_html_each, escape_html_into};
@@ -94,6 +96,48 @@ fn calls_on_texts_as_long_as_pieces(rt: HostRuntime) -> Result<(), Fail> {
             for mode in MODES {
                 let wanted = plain(rt.alloc(), mode, text.as_str())?;
                 calls_are_right(&rt, mode, text.as_str(), &wanted)?;
+            }
+        }
+    }
+    Ok(())
+}
+
+/// Where a piece, or a front that is asked whether it stands for itself, can end: a front is one piece of
+/// the calls that append, and comes after a piece that was escaped.
+const ENDS: [usize; 5] = [
+    escape_text::PIECE,
+    2 * escape_text::PIECE,
+    escape_text::FRONT,
+    escape_text::PIECE + escape_text::FRONT,
+    escape_text::PIECE + 2 * escape_text::FRONT,
+];
+
+#[test]
+fn targets_on_texts_as_long_as_pieces(rt: HostRuntime) -> Result<(), Fail> {
+    for end in ENDS {
+        for len in [end - 1, end, end + 1] {
+            for text in texts_of(rt.alloc(), len)? {
+                for mode in MODES {
+                    let wanted = plain(rt.alloc(), mode, text.as_str())?;
+                    targets_are_right(&rt, mode, text.as_str(), &wanted)?;
+                }
+            }
+        }
+    }
+    Ok(())
+}
+
+#[test]
+fn targets_across_borders(rt: HostRuntime) -> Result<(), Fail> {
+    for end in ENDS {
+        for across in ACROSS {
+            for start in STARTS {
+                let first = (end - 6).saturating_add(start);
+                let text = repeated(rt.alloc(), &[(first, "a"), (1, across), (600, "b")])?;
+                for mode in MODES {
+                    let wanted = plain(rt.alloc(), mode, text.as_str())?;
+                    targets_are_right(&rt, mode, text.as_str(), &wanted)?;
+                }
             }
         }
     }

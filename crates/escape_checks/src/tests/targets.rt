@@ -17,11 +17,12 @@ use escape_text::json::{
     escape_script_into_string, escape_script_to_writer, escape_to_writer,
 };
 use std::alloc::Global;
+use std::process::Abort;
 use std::test::Fail;
 
-/// Pieces of an output are cut at some hundreds of bytes: a text that ends near each cut, with a
-/// character of three bytes across it.
-const LENGTHS: [usize; 9] = [0, 1, 84, 85, 86, 87, 255, 256, 1009];
+/// Parts of a text that ends near each place where its output is made in another way, with a character of
+/// three bytes across it. `pieces` has the longer texts.
+const LENGTHS: [usize; 11] = [0, 1, 84, 85, 86, 87, 255, 256, 767, 768, 1009];
 
 fn into_string(mode: Mode, text: &str, dst: &mut String) -> bool {
     match mode {
@@ -47,6 +48,25 @@ fn displayed(alloc: Global, mode: Mode, text: &str) -> Result<String, Fail> {
     })
 }
 
+/// The calls of the mode hand on what stands for the text byte by byte: to a string, a writer and a
+/// formatter.
+pub fn targets_are_right(
+    rt: &(impl Abort + AllocGlobal),
+    mode: Mode,
+    text: &str,
+    wanted: &[u8],
+) -> Result<(), Fail> {
+    let mut string = String::from_str(rt.alloc(), "")?;
+    assert!(rt; into_string(mode, text, &mut string));
+    assert!(rt; string.as_bytes() == wanted, "{mode:?} {}", text.len());
+    let mut bytes = Vec::new(rt.alloc());
+    assert!(rt; to_writer(mode, text, &mut bytes));
+    assert!(rt; bytes.as_slice() == wanted, "{mode:?} {}", text.len());
+    let shown = displayed(rt.alloc(), mode, text)?;
+    assert!(rt; shown.as_bytes() == wanted, "{mode:?} {}", text.len());
+    Ok(())
+}
+
 #[test]
 fn each_target_has_the_plain_escaping(rt: HostRuntime) -> Result<(), Fail> {
     for part in ["\u{2028}<", "aé\"", "\u{1}"] {
@@ -54,14 +74,7 @@ fn each_target_has_the_plain_escaping(rt: HostRuntime) -> Result<(), Fail> {
             let text = repeated(rt.alloc(), &[(1, "a"), (count, part)])?;
             for mode in [Mode::Json, Mode::Html, Mode::Script] {
                 let wanted = plain(rt.alloc(), mode, &text)?;
-                let mut string = String::from_str(rt.alloc(), "")?;
-                assert!(rt; into_string(mode, &text, &mut string));
-                assert!(rt; string.as_bytes() == wanted.as_slice(), "{mode:?} {count}");
-                let mut bytes = Vec::new(rt.alloc());
-                assert!(rt; to_writer(mode, &text, &mut bytes));
-                assert!(rt; bytes == wanted, "{mode:?} {count}");
-                let shown = displayed(rt.alloc(), mode, &text)?;
-                assert!(rt; shown.as_bytes() == wanted.as_slice(), "{mode:?} {count}");
+                targets_are_right(&rt, mode, &text, &wanted)?;
             }
         }
     }

@@ -137,7 +137,7 @@ fn html_candidates(rt: HostRuntime) {
 }
 
 // The lanes that the mask sets: the lowest bit is the first.
-fn lanes_of<M: LaneMask>(mask: &M) -> u64
+fn as_bits<M: LaneMask>(mask: &M) -> u64
     requires { M.LEN ≤ 64 }
 {
     let mut lanes = 0;
@@ -164,56 +164,47 @@ fn classified_lanes(rt: HostRuntime) {
     for (row, [html, json, script]) in [(ROW, ROW_LANES), (OTHER_ROW, OTHER_ROW_LANES)] {
         let src = blocks_of(&row);
         let v = v128::Simd128u::loadu(&src);
-        assert_eq!(rt; lanes_of(&v128::escaped_mask::<true>(&v, &mut ticks)), html);
-        assert_eq!(rt;
-            lanes_of(&v128::escaped_mask::<false>(&v, &mut ticks)),
-            json
-        );
-        assert_eq!(rt; lanes_of(&v128::script_mask(&v, &mut ticks)), script);
+        assert_eq!(rt; as_bits(&v128::escaped_mask::<true>(&v, &mut ticks)), html);
+        assert_eq!(rt; as_bits(&v128::escaped_mask::<false>(&v, &mut ticks)), json);
+        assert_eq!(rt; as_bits(&v128::script_mask(&v, &mut ticks)), script);
         let v = sse2::Simd128u::loadu(&src);
-        assert_eq!(rt; lanes_of(&sse2::escaped_mask::<true>(&v, &mut ticks)), html);
-        assert_eq!(rt;
-            lanes_of(&sse2::escaped_mask::<false>(&v, &mut ticks)),
-            json
-        );
-        assert_eq!(rt; lanes_of(&sse2::script_mask(&v, &mut ticks)), script);
+        assert_eq!(rt; as_bits(&sse2::escaped_mask::<true>(&v, &mut ticks)), html);
+        assert_eq!(rt; as_bits(&sse2::escaped_mask::<false>(&v, &mut ticks)), json);
+        assert_eq!(rt; as_bits(&sse2::script_mask(&v, &mut ticks)), script);
         let v = neon::Simd128u::loadu(&src);
-        assert_eq!(rt; lanes_of(&neon::escaped_mask::<true>(&v, &mut ticks)), html);
-        assert_eq!(rt;
-            lanes_of(&neon::escaped_mask::<false>(&v, &mut ticks)),
-            json
-        );
-        assert_eq!(rt; lanes_of(&neon::script_mask(&v, &mut ticks)), script);
+        assert_eq!(rt; as_bits(&neon::escaped_mask::<true>(&v, &mut ticks)), html);
+        assert_eq!(rt; as_bits(&neon::escaped_mask::<false>(&v, &mut ticks)), json);
+        assert_eq!(rt; as_bits(&neon::script_mask(&v, &mut ticks)), script);
         let of_vector = neon::escaped_mask_vec::<true>(&v, &mut ticks).bitmask();
-        assert_eq!(rt; lanes_of(&of_vector), html);
+        assert_eq!(rt; as_bits(&of_vector), html);
         let of_vector = neon::escaped_mask_vec::<false>(&v, &mut ticks).bitmask();
-        assert_eq!(rt; lanes_of(&of_vector), json);
+        assert_eq!(rt; as_bits(&of_vector), json);
         let twice = 0x0001_0001;
         let v = avx2::Simd256u::loadu(&src);
         assert_eq!(rt;
-            lanes_of(&avx2::escaped_mask::<true>(&v, &mut ticks)),
+            as_bits(&avx2::escaped_mask::<true>(&v, &mut ticks)),
             html.wrapping_mul(twice)
         );
         assert_eq!(rt;
-            lanes_of(&avx2::escaped_mask::<false>(&v, &mut ticks)),
+            as_bits(&avx2::escaped_mask::<false>(&v, &mut ticks)),
             json.wrapping_mul(twice)
         );
         assert_eq!(rt;
-            lanes_of(&avx2::script_mask(&v, &mut ticks)),
+            as_bits(&avx2::script_mask(&v, &mut ticks)),
             script.wrapping_mul(twice)
         );
         let four_times = 0x0001_0001_0001_0001;
         let v = avx512::Simd512u::loadu(&src);
         assert_eq!(rt;
-            lanes_of(&avx512::escaped_mask::<true>(&v, &mut ticks)),
+            as_bits(&avx512::escaped_mask::<true>(&v, &mut ticks)),
             html.wrapping_mul(four_times)
         );
         assert_eq!(rt;
-            lanes_of(&avx512::escaped_mask::<false>(&v, &mut ticks)),
+            as_bits(&avx512::escaped_mask::<false>(&v, &mut ticks)),
             json.wrapping_mul(four_times)
         );
         assert_eq!(rt;
-            lanes_of(&avx512::script_mask(&v, &mut ticks)),
+            as_bits(&avx512::script_mask(&v, &mut ticks)),
             script.wrapping_mul(four_times)
         );
     }

@@ -5,8 +5,8 @@ use std::fmt;
 
 /// A text as HTML for `write!`, `print!` and `format!`.
 ///
-/// `{}` writes what [`escape_html`](escape_simd::html::escape_html) answers, through an array of 1.5
-/// KiB: no memory is asked for, and no text is too large. Width and fill are not applied.
+/// `{}` writes what [`escape_html`](escape_simd::html::escape_html) answers, through an array of 3 KiB
+/// at most: no memory is asked for, and no text is too large. Width and fill are not applied.
 ///
 /// ```text
 /// write!(page, "<p title=\"{}\">", Escaped("a \"b\""))?; // <p title="a &quot;b&quot;">

@@ -5,8 +5,8 @@ use std::fmt;
 
 /// The JSON string literal of a text for `write!`, `print!` and `format!`, quotation marks included.
 ///
-/// `{}` writes what [`escape`](escape_simd::json::escape) answers, through an array of 1.5 KiB: no
-/// memory is asked for, and no text is too large. Width and fill are not applied.
+/// `{}` writes what [`escape`](escape_simd::json::escape) answers, through an array of 3 KiB at
+/// most: no memory is asked for, and no text is too large. Width and fill are not applied.
 ///
 /// ```text
 /// write!(out, "{{\"name\":{}}}", Escaped("Ann \"A\""))?; // {"name":"Ann \"A\""}

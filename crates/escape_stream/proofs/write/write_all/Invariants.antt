@@ -1,7 +1,7 @@
 -- What was written so far is a beginning of the bytes.
 use Rattle.std.proofs.Common.{◌-◌, ◌≤◌, length, take}
 use Rattle.std.specs.Io.KnownBytes.{Appends}
-use Rattle.escape_stream.proofs.output.write_all.Given as goal
+use Rattle.escape_stream.proofs.write.write_all.Given as goal
 
 abbrev pub invariant-loop-written : goal.invariant-loop-written
 invariant-loop-written g l = record {

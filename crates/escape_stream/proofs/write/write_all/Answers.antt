@@ -1,6 +1,6 @@
 use Rattle.std.proofs.Common.{arith, rules, drop, length, ◌-◌, length-drop, take_all}
 use Rattle.escape_stream.proofs.Transfer.{Appends-more}
-use Rattle.escape_stream.proofs.output.write_all.Goals as goal
+use Rattle.escape_stream.proofs.write.write_all.Goals as goal
 
 pub loop-written-preserved : goal.loop-written-preserved
 loop-written-preserved g c =

@@ -77,36 +77,57 @@ pub record IsQuoted {N : ℕ} (mode : Mode) (old new : Target N) (to end : ℕ) 
   pub escaped : escaped_of new ≡ escaped_of old
   pub quotes : quotes_of new ≡ quotes_of old + length (quote_of mode)
 
-module _ {N : ℕ} {mode : Mode} {exact : Bool} {text : List ℕ} {old first second new : Target N} {opened close count : ℕ}
-    (before : IsQuoted mode old first 0 opened) (s : Stretch mode (rest_slack exact N) text first second 0 (length text) opened close) (after : IsQuoted mode second new close count)
-    (room : bound mode (length text) ≤ length (bytes_of old)) (narrow : exact ≡ false → N ≤ 32) (some : 8 ≤ N) where
+-- the same in bytes
+pub record IsQuotedIn (mode : Mode) (old new : List ℕ) (to end : ℕ) : Type 0 where
+  pub ends : end ≡ to + length (quote_of mode)
+  pub written : take end new ≡ take to old ++ quote_of mode
+  pub kept : drop (to + 1) new ≡ drop (to + 1) old
+
+-- a text's bytes, and quotes around them
+module _ (lanes : ℕ) (mode : Mode) (exact : Bool) (text : List ℕ) {old first second new : List ℕ} {opened close count : ℕ}
+    (before : IsQuotedIn mode old first 0 opened)
+    (ends : close ≡ opened + length (inner mode text)) (written : take close second ≡ take opened first ++ inner mode text)
+    (left : drop (close + rest_slack exact lanes) second ≡ drop (close + rest_slack exact lanes) first) (len : length second ≡ length old)
+    (after : IsQuotedIn mode second new close count)
+    (room : bound mode (length text) ≤ length old) (narrow : exact ≡ false → lanes ≤ 32) (some : 8 ≤ lanes) where
   -- what stands before the closing quote
-  front : take close (bytes_of second) ≡ quote_of mode ++ inner mode text
-  front = all-written s ∙ ap (λ xs. xs ++ inner mode text) before.written
+  front : take close second ≡ quote_of mode ++ inner mode text
+  front = written ∙ ap (λ xs. xs ++ inner mode text) before.written
 
   -- the bytes of the whole
-  pub whole_written : IsWritten N mode text (bytes_of old) (bytes_of new) count
-  whole_written =
+  pub parts_written : IsWritten lanes mode text old new count
+  parts_written =
       let two = two_quotes mode in let b = bound-quotes mode (length text) in
       let f = front in let short = quote-short mode in
-      let ends = all-end s in let most = length-inner mode text in let few = slack-most exact N narrow some in
-      let r = rest-is mode text 0 in
-      let fits : length (take close (bytes_of second)) ≡ close = length-take-le close (bytes_of second) (omega (arith, ends, most, s.same_slice.len, before.same_slice.len, before.ends, b)) in
+      let most = length-inner mode text in let few = slack-most exact lanes narrow some in
+      let fits : length (take close second) ≡ close = length-take-le close second (omega (arith, ends, most, len, before.ends, b)) in
       let e = plain-parts mode text in
-      let same : take count (bytes_of new) ≡ plain mode text = after.written ∙ ap (λ xs. xs ++ quote_of mode) f ∙ sym e in
-      let long : length (plain mode text) ≡ close + length (quote_of mode) = ap length (e ∙ ap (λ xs. xs ++ quote_of mode) (sym f)) ∙ length-append (take close (bytes_of second)) (quote_of mode) ∙ ap (λ k. k + length (quote_of mode)) fits in
-      let kept : (k : ℕ) → close + rest_slack exact N ≤ k → close + 1 ≤ k → drop k (bytes_of new) ≡ drop k (bytes_of old) = λ k h g.
-      drop_further (bytes_of new) (bytes_of second) (close + 1) k g after.kept
-      ∙ drop_further (bytes_of second) (bytes_of first) (opened + rest_length mode text 0 + rest_slack exact N) k (omega (arith, h, ends, r)) s.kept
-      ∙ drop_further (bytes_of first) (bytes_of old) (0 + 1) k (omega (arith, g)) before.kept in
+      let same : take count new ≡ plain mode text = after.written ∙ ap (λ xs. xs ++ quote_of mode) f ∙ sym e in
+      let long : length (plain mode text) ≡ close + length (quote_of mode) = ap length (e ∙ ap (λ xs. xs ++ quote_of mode) (sym f)) ∙ length-append (take close second) (quote_of mode) ∙ ap (λ k. k + length (quote_of mode)) fits in
+      let kept : (k : ℕ) → close + rest_slack exact lanes ≤ k → close + 1 ≤ k → drop k new ≡ drop k old = λ k h g.
+      drop_further new second (close + 1) k g after.kept
+      ∙ drop_further second first (close + rest_slack exact lanes) k h left
+      ∙ drop_further first old (0 + 1) k (omega (arith, g)) before.kept in
       record {
         exact = same;
         ends = omega (arith, after.ends, long);
         least = omega (arith, ends, most, before.ends, after.ends, two);
         most = omega (arith, ends, most, before.ends, after.ends, two);
         kept_bound = kept (bound mode (length text)) (omega (arith, ends, most, before.ends, b, few)) (omega (arith, ends, most, before.ends, b, short));
-        kept_past = kept (count + N) (omega (arith, after.ends, few)) (omega (arith, after.ends, some));
+        kept_past = kept (count + lanes) (omega (arith, after.ends, few)) (omega (arith, after.ends, some));
       }
+
+module _ {N : ℕ} {mode : Mode} {exact : Bool} {text : List ℕ} {old first second new : Target N} {opened close count : ℕ}
+    (before : IsQuoted mode old first 0 opened) (s : Stretch mode (rest_slack exact N) text first second 0 (length text) opened close) (after : IsQuoted mode second new close count)
+    (room : bound mode (length text) ≤ length (bytes_of old)) (narrow : exact ≡ false → N ≤ 32) (some : 8 ≤ N) where
+  -- the bytes of the whole
+  pub whole_written : IsWritten N mode text (bytes_of old) (bytes_of new) count
+  whole_written =
+      parts_written N mode exact text {second = bytes_of second}
+      (record { ends = before.ends; written = before.written; kept = before.kept })
+      (all-end s) (all-written s) (all-kept s) (s.same_slice.len ∙ before.same_slice.len)
+      (record { ends = after.ends; written = after.written; kept = after.kept })
+      room narrow some
 
   -- and its counts
   pub whole_formatted : {ticks_old ticks_new : ℕ} → stored_of second ≤ stored_of first + run_count mode text + length text / N + 1 → ticks_new + stored_of first ≡ ticks_old + stored_of second

@@ -170,8 +170,23 @@ pub(crate) fn format_target<
     body::<V, { JSON_MODE }, N, CHUNK, EXACT>(value, target, ticks)
 }
 
-/// As [`quoted`], with the target made over `dst`, in a function of its own: so a short text waits for no
-/// loop's frame.
+/// As [`quote`], in a slice.
+#[inline(always)]
+fn quote_in<const MODE: u8>(dst: &mut [u8], to: usize) -> usize
+    requires { to < length dst.old }
+    ensures end { result ≡ to + length (quote_of (mode_numbered MODE)) }
+    ensures written { take result dst.new ≡ take to dst.old ++ quote_of (mode_numbered MODE) }
+    ensures kept { drop (to + 1) dst.new ≡ drop (to + 1) dst.old }
+{
+    if MODE != HTML_MODE {
+        dst[to] = b'"';
+        return to + 1;
+    }
+    to
+}
+
+/// Escapes the text to the front of `dst`, in a function of its own: so a short text waits for no loop's
+/// frame.
 #[inline(never)]
 pub(crate) fn format_many<
     V: Vector<N>,
@@ -186,7 +201,7 @@ pub(crate) fn format_many<
     ensures headline { IsOnlyOutput (mode_numbered MODE) (take result dst.new) (chars value.now) }
     ensures equal_texts { IsOfOneText (mode_numbered MODE) value.now (take result dst.new) }
 {
-    let mut target = Target::<N>::new(dst);
-    let mut ticks = Ticks::new();
-    quoted::<V, MODE, N, CHUNK, EXACT>(value, &mut target, &mut ticks)
+    let open = quote_in::<MODE>(dst, 0);
+    let close = escape_at::<V, MODE, N, CHUNK, EXACT>(value.as_bytes(), dst, open);
+    quote_in::<MODE>(dst, close)
 }

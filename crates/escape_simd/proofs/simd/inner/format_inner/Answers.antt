@@ -1,4 +1,4 @@
-use Rattle.std.proofs.Common.{not, nat_eq, length, subst, ap, ◌∙◌, arith}
+use Rattle.std.proofs.Common.{not, nat_eq, length, subst, ap, arith}
 use denote.Param.{number, value_of}
 use Rattle.escape_simd.specs.Formatted.{IsInnerWritten}
 use Rattle.escape_simd.specs.Modes.{mode_numbered}

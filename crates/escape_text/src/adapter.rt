@@ -7,6 +7,7 @@ ghost use Rattle.escape_simd.specs.Output.{plain, inner};
 use crate::piecewise::{
     DENSE_ROOM, FEW_ROOM, Pieces, ROOM, SHORT_ROOM, Way, escape_short, quote, way_of,
 };
+use escape_simd::simd::HTML_MODE;
 use std::fmt;
 
 /// Writes the output for the text. A text that stands for itself takes no array.
@@ -35,6 +36,9 @@ fn display_itself<const MODE: u8, W: fmt::Write>(
     ensures { WritesOnOk W.write_str_gives f.old result
         (plain (mode_numbered MODE) value.now) f.new }
 {
+    if MODE == HTML_MODE {
+        return f.write_str(value);
+    }
     f.write_str(quote::<MODE>())?;
     f.write_str(value)?;
     f.write_str(quote::<MODE>())

@@ -10,7 +10,7 @@ use escape_simd::simd::HTML_MODE;
 
 /// How many bytes of a long text the adapters, the writers and the calls for a `String` escape at a time,
 /// at most.
-pub const PIECE: usize = 512;
+pub const PIECE: usize = 1024;
 
 /// How many bytes of a long text these ask at a time whether they stand for themselves: so few that they
 /// are still in the first cache when they are handed on.
@@ -18,7 +18,7 @@ pub const FRONT: usize = 8192;
 
 /// How many bytes the array has that a piece is escaped in: six for each byte of it, two quotation
 /// marks, and a vector.
-pub(crate) const ROOM: usize = 3106;
+pub(crate) const ROOM: usize = 6178;
 
 /// How many bytes the array has for the shortest outputs, for short ones, and for those of short texts
 /// with many escapes.

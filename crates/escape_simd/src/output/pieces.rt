@@ -96,7 +96,7 @@ fn append_pieces<
 /// Appends what stands for the text's bytes after its clean front, as [`append_pieces`] does. How many
 /// of the first piece need an escape is asked.
 #[inline(always)]
-fn append_flagged<
+fn append_after_front<
     V: Vector<N>,
     A: Allocator,
     const MODE: u8,
@@ -145,7 +145,7 @@ pub(super) fn append_many<
         let front = append_front::<V, A, MODE, N>(value, at, dst);
         at = front.end;
         if front.most != 0 {
-            at = append_flagged::<V, A, MODE, N, CHUNK, EXACT>(value, &front, dst);
+            at = append_after_front::<V, A, MODE, N, CHUNK, EXACT>(value, &front, dst);
         }
     }
     if at < value.len() {

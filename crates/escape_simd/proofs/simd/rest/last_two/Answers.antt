@@ -1,5 +1,5 @@
 use Rattle.std.proofs.Common.{◌≡◌, ℕ, ◌+◌, ◌-◌, ◌<◌, ◌≤◌, [], ◌++◌, not, nat_eq, List, length, take, drop, get_or, refl, sym, ap, ap₂, subst, ◌∙◌, arith}
-use Rattle.std.proofs.lemmas.List.{append-nil, drop_all, length-replicate, get_or-take, get_or-drop}
+use Rattle.std.proofs.lemmas.List.{get_or-take, get_or-drop}
 use denote.Param.{number, value_of}
 use Rattle.escape_lanes.specs.Written.{bytes_of, stored_of}
 use Rattle.escape_simd.specs.Modes.{mode_numbered}
@@ -7,6 +7,7 @@ use Rattle.escape_simd.specs.Runs.{run_count}
 use Rattle.escape_simd.specs.Stretch.{Stretch, IsVectorAt, rest_length, rest_slack}
 use Rattle.escape_simd.proofs.Stretches.{onward, ended}
 use Rattle.escape_simd.proofs.Costs.{vectors-least}
+use Rattle.escape_simd.proofs.Rows.{row-written}
 use Rattle.escape_simd.proofs.RestLemmas.{zeros, last-is, last-loaded, last-lane, held-then, held-zeros, zeros-once, rest-narrow, rest-slack-some}
 use Rattle.escape_simd.proofs.simd.rest.last_two.Goals as goal
 
@@ -27,9 +28,8 @@ padded-source-requires g c =
     let src : List ℕ = c.args.src.now in let at : ℕ = c.args.at in let n : ℕ = g.row.N in let r = c.requires in
     let lanes : List ℕ = g.V.Vector.lanes c.load-v.result in let last : List ℕ = g.V.Vector.lanes c.load_last-w.result in
     let loaded = c.load-v.ensures n (omega arith) (omega (arith, ap length c.whole.ensures.text, r.some)) ∙ ap (λ xs. take n (drop at xs)) c.whole.ensures.text in
-    let blank = length-replicate {A = ℕ} n 0 in
-    let first : c.put.new.bytes ≡ lanes = c.put.ensures ∙ ap (λ xs. lanes ++ xs) (drop_all n (zeros n) (omega (arith, blank))) ∙ append-nil lanes in
-    let second : c.put-2.new.bytes ≡ last = c.put-2.ensures ∙ ap (λ xs. last ++ xs) (drop_all n (zeros n) (omega (arith, blank))) ∙ append-nil last in
+    let first : c.put.new.bytes ≡ lanes = row-written lanes _ n c.put.ensures in
+    let second : c.put-2.new.bytes ≡ last = row-written last _ n c.put-2.ensures in
     let whole : (i : ℕ) → i < n → get_or lanes i 0 ≡ get_or src (at + i) 0 = λ i b. sym (get_or-take n lanes i 0 b) ∙ ap (λ xs. get_or xs i 0) loaded ∙ get_or-take n (drop at src) i 0 b ∙ get_or-drop at src i 0 in
     λ k h.
     ap (λ xs. get_or xs k 0) (c.as_flattened.ensures.value ∙ ap₂ (λ xs ys. xs ++ (ys ++ (zeros n ++ []))) first second)

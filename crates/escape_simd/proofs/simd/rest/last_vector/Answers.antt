@@ -1,10 +1,10 @@
 use Rattle.std.proofs.Common.{◌≡◌, ℕ, ◌+◌, ◌-◌, [], ◌++◌, not, nat_eq, List, length, refl, sym, ap, subst, ◌∙◌, arith}
-use Rattle.std.proofs.lemmas.List.{append-nil, drop_all, length-replicate}
 use denote.Param.{number, value_of}
 use Rattle.escape_lanes.specs.Written.{bytes_of}
 use Rattle.escape_simd.specs.Modes.{mode_numbered}
 use Rattle.escape_simd.specs.Stretch.{Stretch, IsVectorAt, rest_slack}
 use Rattle.escape_simd.proofs.Stretches.{ended}
+use Rattle.escape_simd.proofs.Rows.{row-written}
 use Rattle.escape_simd.proofs.RestLemmas.{zeros, held-once, rest-narrow, rest-slack-some}
 use Rattle.escape_simd.proofs.simd.rest.last_vector.Goals as goal
 
@@ -13,7 +13,7 @@ pub padded-source-requires : goal.padded-source-requires
 padded-source-requires g c =
     let src : List ℕ = c.args.src.now in let at : ℕ = c.args.at in let n : ℕ = g.row.N in let r = c.requires in
     let lanes : List ℕ = g.V.Vector.lanes c.load_rest-v.result.0 in
-    let first : c.put.new.bytes ≡ lanes = c.put.ensures ∙ ap (λ xs. lanes ++ xs) (drop_all n (zeros n) (omega (arith, length-replicate {A = ℕ} n 0))) ∙ append-nil lanes in
+    let first : c.put.new.bytes ≡ lanes = row-written lanes _ n c.put.ensures in
     λ k h.
     held-once src lanes _ n at (omega (arith, r.some)) r.few (g.met.V.Vector.width c.load_rest-v.result.0) c.load_rest-v.ensures.loaded (c.as_flattened.ensures.value ∙ ap (λ xs. xs ++ (zeros n ++ (zeros n ++ []))) first) k
 

@@ -1,8 +1,8 @@
 -- A number as lanes of w bits each, lowest first, that is held: one lane, the first lanes cleared, and how many are set.
-use Rattle.std.proofs.Common.{◌≡◌, ℕ, zero, suc, ◌+◌, ◌*◌, ◌/◌, ◌%◌, ◌^◌, ◌≤◌, ◌<◌, Bool, true, false, not, cond, List, ◌∷◌, replicate, nat_eq, nat_lt, get_or, bit_and, bit_or, refl, sym, ap, ◌∙◌, inl, inr, arith, add-one}
+use Rattle.std.proofs.Common.{◌≡◌, ℕ, zero, suc, ◌+◌, ◌-◌, min, ◌*◌, ◌/◌, ◌%◌, ◌^◌, ◌≤◌, ◌<◌, Bool, true, false, not, cond, List, [], ◌∷◌, length, replicate, nat_eq, nat_lt, get_or, bit_and, bit_or, refl, sym, ap, ap₂, ◌∙◌, inl, inr, arith, add-one}
 use Rattle.std.proofs.Math.Nat.{mul-suc, mul-zero, mul_assoc, div-eq_of_lt, mod-eq_of_lt}
 use Rattle.std.proofs.Math.Pow.{pow_mono}
-use Rattle.std.proofs.lemmas.Bool.{cases_lt, eqb-true, agree_below_at}
+use Rattle.std.proofs.lemmas.Bool.{cases_eq, cases_lt, eqb-true, agree_below_at}
 use Rattle.std.proofs.lemmas.Bool.Decides.{nat_tests}
 use Rattle.std.proofs.lemmas.List.{get_or_past}
 use Rattle.std.proofs.lemmas.List.Sums.{sum_by-cons}
@@ -11,9 +11,10 @@ use Rattle.std.specs.Int.Bits.{and_zero_r}
 use Rattle.std.specs.Int.RustNames.{count_ones}
 use Rattle.std.specs.List.{count_by}
 use Rattle.std.specs.Simd.Lanes.{number_l}
+use lib.Bits.{and_step, and_self}
 use lib.Count.{ones, ones_in, ones_step}
-use Rattle.escape_lanes.specs.Bits.{bits_of, lanes_of, clear_first, length-bits_of, length-lanes_of}
-use Rattle.escape_lanes.proofs.MaskLemmas.{bits-lanes, lanes-suc}
+use Rattle.escape_lanes.specs.Bits.{bits_of, lanes_of, first_set, none_set, clear_first, length-bits_of, length-lanes_of}
+use Rattle.escape_lanes.proofs.MaskLemmas.{bits-lanes, lanes-suc, zero-bits}
 
 -- the lanes above the lowest, at the place of the next one
 above : (w i n : ℕ) → n / 2 ^ w / 2 ^ (w * i) ≡ n / 2 ^ (w * suc i)
@@ -86,6 +87,68 @@ module _ (k x : ℕ) where
   bits-front_cleared n h =
       let cut : 1 * n ≡ n = omega arith in
       rw (bits-lanes k (x / 2 ^ n * 2 ^ n), bits-lanes k x) (rw cut at (lanes-front_cleared 1 k n x h))
+
+-- one bit more
+bits-suc : (k x : ℕ) → bits_of (suc k) x ≡ nat_eq (x % 2) 1 ∷ bits_of k (x / 2)
+unfolding bits_of
+bits-suc k x = refl
+
+-- the lanes cleared after one that is clear
+cleared-suc : (n : ℕ) (bs : List Bool) → false ∷ clear_first (n + 1) bs ≡ clear_first (suc n + 1) (false ∷ bs)
+cleared-suc n bs = let e : suc n + 1 ≡ suc (n + 1) = omega arith in rw e refl
+
+-- the first set bit cleared, as a number less one has all below it set and it clear
+pub bits-first_cleared : (k x : ℕ) → 0 < x → x < 2 ^ k → bits_of k (bit_and x (x - 1)) ≡ clear_first (first_set (bits_of k x) + 1) (bits_of k x)
+unfolding first_set
+bits-first_cleared zero x some h = absurd (omega arith)
+bits-first_cleared (suc k) x some h =
+    let y : ℕ = bit_and x (x - 1) in
+    elim (cases_eq (x % 2) 0) [
+      | inl even ↦
+          let half : (x - 1) / 2 ≡ x / 2 - 1 = omega arith in
+          let low : min (x % 2) ((x - 1) % 2) ≡ 0 = omega arith in
+          let z : ℕ = bit_and (x / 2) (x / 2 - 1) in
+          let is : y ≡ z * 2 + 0 = and_step x (x - 1) ∙ ap₂ (λ u v. u * 2 + v) (ap (bit_and (x / 2)) half) low in
+          let p : nat_eq (y % 2) 1 ≡ false = grind (arith, nat_tests, is) in
+          let q : y / 2 ≡ z = omega (arith, is) in
+          let r : nat_eq (x % 2) 1 ≡ false = grind (arith, nat_tests, even) in
+          let rest = bits-first_cleared k (x / 2) (omega (arith, even, some)) (shr_below x k 1 (rw add-one h)) in
+          rw (bits-suc k y, bits-suc k x, p, q, r) (ap (λ bs. false ∷ bs) rest ∙ cleared-suc (first_set (bits_of k (x / 2))) (bits_of k (x / 2)))
+      | inr odd ↦
+          let half : (x - 1) / 2 ≡ x / 2 = omega arith in
+          let low : min (x % 2) ((x - 1) % 2) ≡ 0 = omega arith in
+          let is : y ≡ x / 2 * 2 + 0 = and_step x (x - 1) ∙ ap₂ (λ u v. u * 2 + v) (ap (bit_and (x / 2)) half ∙ and_self (x / 2)) low in
+          let p : nat_eq (y % 2) 1 ≡ false = grind (arith, nat_tests, is) in
+          let q : y / 2 ≡ x / 2 = omega (arith, is) in
+          let r : nat_eq (x % 2) 1 ≡ true = grind (arith, nat_tests, odd) in
+          rw (bits-suc k y, bits-suc k x, p, q, r) refl
+    ]
+
+-- where a bit is set, the number isn't 0
+pub some_bit : (k x : ℕ) → x < 2 ^ k → none_set (bits_of k x) ≡ false → 1 ≤ x
+some_bit k x h some = let zero_is = zero-bits k x h in grind (arith, nat_tests, zero_is, some)
+
+-- where a lane is set, the first is one of them
+pub first_set-lt : (bs : List Bool) → none_set bs ≡ false → first_set bs < length bs
+unfolding first_set none_set
+first_set-lt [] h = absurd (cc)
+first_set-lt (true ∷ bs) h = omega arith
+first_set-lt (false ∷ bs) h = let rest = first_set-lt bs h in omega (arith, rest)
+
+-- the first lanes cleared, shifted out in two parts
+pub lanes-first_cleared : (n x : ℕ) → n < 16 → x < 2 ^ 64 → lanes_of 4 16 (x / 16 / 2 ^ (4 * n) * 2 ^ (4 * n) % 2 ^ 64 * 16 % 2 ^ 64) ≡ clear_first (n + 1) (lanes_of 4 16 x)
+lanes-first_cleared n x few h =
+    let y : ℕ = x / 16 in
+    let small : y < 2 ^ 64 = omega arith in
+    let whole = front_cleared-lt (2 ^ 64) (4 * n) y small in
+    let below = shr_split y (4 * n) in
+    let fits : y / 2 ^ (4 * n) * 2 ^ (4 * n) * 16 % 2 ^ 64 ≡ y / 2 ^ (4 * n) * 2 ^ (4 * n) * 16 = mod-eq_of_lt (omega (arith, below, h)) in
+    let place : 4 + 4 * n ≡ 4 * (n + 1) = omega arith in
+    let down : y / 2 ^ (4 * n) ≡ x / 2 ^ (4 * (n + 1)) = rw place at (shr-shr x 4 (4 * n)) in
+    let last : 4 * n + 4 ≡ 4 * (n + 1) = omega arith in
+    let up : 2 ^ (4 * n) * 16 ≡ 2 ^ (4 * (n + 1)) = rw last at (sym (pow-add 2 (4 * n) 4)) in
+    let parts : y / 2 ^ (4 * n) * 2 ^ (4 * n) * 16 ≡ x / 2 ^ (4 * (n + 1)) * 2 ^ (4 * (n + 1)) = rw (mul_assoc (y / 2 ^ (4 * n)) (2 ^ (4 * n)) 16, up, down) refl in
+    rw (whole, fits, parts) (lanes-front_cleared 4 16 (n + 1) x (omega arith))
 
 -- the count goes on after a lane
 counted-cons : (b : Bool) (bs : List Bool) → count_by (λ b. b) (b ∷ bs) ≡ cond b 1 0 + count_by (λ b. b) bs

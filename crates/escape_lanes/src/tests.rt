@@ -171,7 +171,7 @@ fn written_to<const N: usize>() -> [u8; 80]
     let mut target = Target::<N>::new(&mut bytes);
     target.quote(0);
     target.escape(1, &[0x26, 0x6c, 0x74, 0x3b, 0, 0, 0, 0]);
-    target.put_front(9, &[7; N], 2);
+    target.put_front(9, &[7, 7]);
     target.put(12, &[9; N]);
     target.quote(79);
     bytes

@@ -1,5 +1,5 @@
 -- What a mask tells of the text that its vector holds.
-use Rattle.std.proofs.Common.{◌≡◌, ℕ, zero, suc, ◌+◌, ◌-◌, ◌*◌, ◌<◌, ◌≤◌, Bool, true, false, true≢false, cond, ◌||◌, List, [], ◌∷◌, length, take, drop, get_or, map, replicate, refl, sym, ap, ◌∙◌, arith, length-take-le, length-drop, inl, inr}
+use Rattle.std.proofs.Common.{◌≡◌, ℕ, zero, suc, ◌+◌, ◌-◌, ◌<◌, ◌≤◌, Bool, true, false, true≢false, cond, ◌||◌, List, [], ◌∷◌, length, take, drop, get_or, map, replicate, refl, sym, ap, ◌∙◌, arith, length-take-le, length-drop, inl, inr}
 use Rattle.std.proofs.lemmas.Bool.Decides.{leb_tells}
 use Rattle.std.proofs.lemmas.List.{length-take, length-map, get_or-take, get_or-drop, get_or-map, get_or_past, take_all, append-nil, get_or_append_left, get_or-append_right, get_or-replicate, length-replicate}
 use Rattle.std.proofs.lemmas.List.Sums.{sum_by-append}
@@ -8,7 +8,7 @@ use Rattle.std.specs.Simd.Lanes.{zip2}
 use Rattle.escape_lanes.specs.Bits.{first_set, none_set, clear_first, clear_last}
 use Rattle.escape_lanes.specs.Mode.{Mode, json, html, script}
 use Rattle.escape_lanes.specs.Replacement.{needs_escape}
-use Rattle.escape_simd.specs.Stretch.{HoldsFlags, CanRun, look_ahead, stored_lanes}
+use Rattle.escape_simd.specs.Stretch.{HoldsFlags, look_ahead, stored_lanes}
 use Rattle.escape_simd.proofs.Texts.{IsClean}
 
 -- no lane before the first set one is set
@@ -210,6 +210,12 @@ held-whole mode src lanes at n bits long inside loaded e = held-cut mode src lan
 pub none_clean : (mode : Mode) (lanes : List ℕ) → none_set (map (needs_escape mode) lanes) ≡ true → IsClean mode lanes
 none_clean mode lanes none k h = sym (get_or-map (needs_escape mode) lanes k 0 false h) ∙ none_set-at (map (needs_escape mode) lanes) k none
 
+-- and where its bytes are clean, it sets none
+pub clean_none : (mode : Mode) (lanes : List ℕ) → IsClean mode lanes → none_set (map (needs_escape mode) lanes) ≡ true
+unfolding none_set
+clean_none mode [] clean = refl
+clean_none mode (b ∷ bs) clean = ap (λ x. none_set (x ∷ map (needs_escape mode) bs)) (clean 0 (omega arith)) ∙ clean_none mode bs (λ k h. clean (suc k) (omega (arith, h)))
+
 -- the first of clean bytes are clean
 pub front_clean : (mode : Mode) (xs : List ℕ) (n : ℕ) → IsClean mode xs → IsClean mode (take n xs)
 front_clean mode xs n clean k h =
@@ -227,7 +233,7 @@ stored-low true n taken rest past slack few long narrow = omega arith
 stored-low false n taken rest past slack few long narrow = let m = narrow refl in omega (arith, m)
 
 -- no more than two bytes are looked at past a flagged one
-look_ahead≤two : (mode : Mode) → look_ahead mode ≤ 2
+pub look_ahead≤two : (mode : Mode) → look_ahead mode ≤ 2
 look_ahead≤two json = omega arith
 look_ahead≤two html = omega arith
 look_ahead≤two script = omega arith
@@ -241,14 +247,3 @@ pub held-all : (mode : Mode) (src : List ℕ) (at taken from : ℕ) (bits : List
 held-all mode src at taken from bits held all p after before =
     let e : at + (p - at) ≡ p = omega (arith, after) in
     ap (λ k. needs_escape mode (get_or src k 0)) (sym e) ∙ (held.set (p - at) (set-all bits taken (λ k s. (held.set k s).0) all (p - at) (omega (arith, after, before)))).1
-
--- the run of escapes that begins at a lane of a held mask
-pub can_run : (mode : Mode) (src : List ℕ) (at taken from : ℕ) (bits : List Bool) (n flagged end_held : ℕ) → HoldsFlags mode src at taken from bits → at + taken ≤ length src → taken ≤ n → 16 ≤ n → at + n + n ≤ end_held
-    → at ≤ flagged → get_or bits (flagged - at) false ≡ true → CanRun mode src (λ p. get_or bits (p - at) false) (λ p. (at ≤ p) × (p < at + 2 * n)) flagged end_held
-can_run mode src at taken from bits n flagged end_held held inside few several reach after here = record {
-  begins = here;
-  inside = λ q h s. let b = (held.set (q - at) s).0 in omega (arith, b, h);
-  needed = λ q h s. let b = held.set (q - at) s in let e : at + (q - at) ≡ q = omega (arith, h) in ap (λ k. needs_escape mode (get_or src k 0)) (sym e) ∙ b.1;
-  askable = λ q p h s below near. let b = (held.set (q - at) s).0 in (omega (arith, b, h, below), omega (arith, b, h, near));
-  held = λ q h s. let b = (held.set (q - at) s).0 in let l = look_ahead≤two mode in omega (arith, b, h, l);
-}

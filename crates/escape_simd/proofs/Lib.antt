@@ -6,6 +6,7 @@ pub mod Lanes
 pub mod Costs
 pub mod Whole
 pub mod Escapes
+pub mod Alone
 pub mod Turns
 pub mod RestLemmas
 pub mod Rows

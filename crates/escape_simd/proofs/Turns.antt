@@ -1,19 +1,49 @@
 -- How far the turns of a vector have come.
-use Rattle.std.proofs.Common.{◌≡◌, ℕ, ◌+◌, ◌-◌, ◌<◌, ◌≤◌, Bool, false, List, length, drop, get_or}
+use Rattle.std.proofs.Common.{◌≡◌, ℕ, zero, suc, ◌+◌, ◌-◌, ◌<◌, ◌≤◌, Bool, true, false, true≢false, List, length, take, drop, get_or, refl, sym, ap, ◌∙◌, arith, length-take-le, length-drop}
+use Rattle.std.proofs.lemmas.List.{take-take, get_or-take, get_or-drop}
 use Rattle.escape_lanes.specs.Mode.{Mode}
 use Rattle.escape_lanes.specs.Replacement.{needs_escape}
-use Rattle.escape_lanes.specs.Written.{stored_of}
+use Rattle.escape_lanes.specs.Written.{bytes_of, stored_of}
 use Rattle.escape_lanes.specs.declared.simd.target.Target.{Target}
+use Rattle.escape_simd.specs.Output.{passed}
 use Rattle.escape_simd.specs.Runs.{run_count}
-use Rattle.escape_simd.specs.Stretch.{Stretch, IsByteWise}
+use Rattle.escape_simd.specs.Stretch.{Stretch, HoldsFlags, CleanAhead}
+use Rattle.escape_simd.proofs.Texts.{IsClean, passed-between}
 
--- The bytes from `from` up to `next` were passed, of a vector whose bytes end at the border.
-pub record TurnsSoFar {N : ℕ} (mode : Mode) (exact : Bool) (src : List ℕ) (old new : Target N) (border from next to end ticks_old ticks_new : ℕ) : Type 0 where
+-- The bytes from `from` up to `next` were passed, of a vector whose mask now has the lanes from there on.
+pub record TurnsSoFar {N : ℕ} (mode : Mode) (exact : Bool) (src : List ℕ) (old new : Target N) (at taken from next to end : ℕ) (bits : List Bool) (ticks_old ticks_new : ℕ) : Type 0 where
   pub forward : from ≤ next
-  pub stretch : (slack : ℕ) → 8 ≤ slack → (exact ≡ false → N ≤ length src - border + slack) → Stretch mode slack src old new from next to end
-  pub near : next ≤ border + 2
-  pub exactly : IsByteWise mode → next ≤ border
-  pub clean : (p : ℕ) → border ≤ p → p < next → needs_escape mode (get_or src p 0) ≡ false
-  pub stored : stored_of new + run_count mode (drop next src) ≤ stored_of old + run_count mode (drop from src) + 1
-  pub over : next < border → stored_of new + run_count mode (drop next src) ≤ stored_of old + run_count mode (drop from src)
+  pub before : next < at + taken
+  pub stretch : (slack : ℕ) → 8 ≤ slack → (exact ≡ false → N ≤ length src - (at + taken) + slack) → Stretch mode slack src old new from next to end
+  pub count : length bits ≡ N
+  pub flags : HoldsFlags mode src at taken next bits
+  pub cleared : (k : ℕ) → get_or bits k false ≡ true → next ≤ at + k
+  pub ahead : CleanAhead mode src new next (at + taken) end
+  pub stored : stored_of new + run_count mode (drop next src) ≤ stored_of old + run_count mode (drop from src)
   pub classified : ticks_new + stored_of old ≡ ticks_old + stored_of new
+
+-- where a row of bytes stands in a target, its clean front does
+pub ahead-front : {N : ℕ} (mode : Mode) (src : List ℕ) (target : Target N) (from border to left : ℕ) → border ≤ from + left
+    → take left (drop to (bytes_of target)) ≡ take left (drop from src) → CleanAhead mode src target from border to
+ahead-front mode src target from border to left whole same count within clean =
+    let few : count ≤ left = omega (arith, whole, within) in
+    sym (take-take count left (drop to (bytes_of target)) few) ∙ ap (take count) same ∙ take-take count left (drop from src) few
+
+-- clean bytes, one by one
+pub clean-each : (mode : Mode) (src : List ℕ) (from n : ℕ) → from + n ≤ length src → IsClean mode (take n (drop from src)) → (p : ℕ) → from ≤ p → p < from + n → needs_escape mode (get_or src p 0) ≡ false
+clean-each mode src from n inside clean p after before =
+    let l = length-drop from src in let long = length-take-le n (drop from src) (omega (arith, l, inside)) in
+    let e : from + (p - from) ≡ p = omega (arith, after) in
+    ap (needs_escape mode) (ap (λ k. get_or src k 0) (sym e) ∙ sym (get_or-drop from src (p - from) 0) ∙ sym (get_or-take n (drop from src) (p - from) 0 (omega (arith, after, before))))
+    ∙ clean (p - from) (omega (arith, long, after, before))
+
+-- where a byte needs an escape, no clean byte follows that place
+pub ahead-flagged : {N : ℕ} (mode : Mode) (src : List ℕ) (target : Target N) (from border to : ℕ) → needs_escape mode (get_or src from 0) ≡ true → CleanAhead mode src target from border to
+ahead-flagged mode src target from border to needed zero within clean = refl
+ahead-flagged mode src target from border to needed (suc count) within clean = absurd (true≢false (sym needed ∙ clean from (omega arith) (omega arith)))
+
+-- the rest of a separator is clean
+pub passed-clean : (mode : Mode) (src : List ℕ) (f next q : ℕ) → next ≡ f + passed mode (drop f src) → f < q → q < next → needs_escape mode (get_or src q 0) ≡ false
+passed-clean mode src f next q place after before =
+    let e : f + (q - f) ≡ q = omega (arith, after) in
+    ap (needs_escape mode) (ap (λ k. get_or src k 0) (sym e) ∙ sym (get_or-drop f src (q - f) 0)) ∙ passed-between mode (drop f src) (q - f) (omega (arith, after)) (omega (arith, after, before, place))

@@ -68,12 +68,11 @@ run_reach html = 6
 run_reach script = 7
 
 -- A run of escapes can be written from `at` on: what says where it goes on is set there, is set only at bytes of
--- the text that need an escape, may be asked as far as an escape passes, and what it looks at can be read.
-pub record CanRun (mode : Mode) (src : List ℕ) (flagged : ℕ → Bool) (asks : ℕ → Type 0) (at end_held : ℕ) : Type 0 where
+-- the text that need an escape, and what it looks at can be read.
+pub record CanRun (mode : Mode) (src : List ℕ) (flagged : ℕ → Bool) (at end_held : ℕ) : Type 0 where
   pub begins : flagged at ≡ true
   pub inside : (q : ℕ) → at ≤ q → flagged q ≡ true → q < length src
   pub needed : (q : ℕ) → at ≤ q → flagged q ≡ true → needs_escape mode (slice_index src q) ≡ true
-  pub askable : (q p : ℕ) → at ≤ q → flagged q ≡ true → q < p → p ≤ q + 3 → asks p
   pub held : (q : ℕ) → at ≤ q → flagged q ≡ true → q + look_ahead mode < end_held
 
 -- how far past what the rest of a text becomes the stores of its last bytes reach: a vector, and where they
@@ -118,12 +117,7 @@ pub record Passed (mode : Mode) (src : List ℕ) (border next : ℕ) : Type 0 wh
   pub exact : IsByteWise mode → next ≡ border
   pub clean : (p : ℕ) → border ≤ p → p < next → needs_escape mode (slice_index src p) ≡ false
 
--- The bytes were passed from `from` up to the border, or up to where a run of escapes ends.
-pub record Turned (mode : Mode) (src : List ℕ) (border from next : ℕ) : Type 0 where
-  pub forward : from < next
-  -- a run that ends before the border is over
-  pub over : next < border → run_count mode (drop next src) + 1 ≡ run_count mode (drop from src)
-  pub fewer : run_count mode (drop next src) ≤ run_count mode (drop from src)
-  pub near : next ≤ border + 2
-  pub exact : IsByteWise mode → next ≤ border
-  pub clean : (p : ℕ) → border ≤ p → p < next → needs_escape mode (slice_index src p) ≡ false
+-- the text's clean bytes from `from` on, as far as the border, stand in a target from `to` on
+abbrev pub CleanAhead : {N : ℕ} → Mode → List ℕ → Target N → ℕ → ℕ → ℕ → Type 0
+CleanAhead mode src target from border to = (count : ℕ) → from + count ≤ border → ((p : ℕ) → from ≤ p → p < from + count → needs_escape mode (slice_index src p) ≡ false)
+    → take count (drop to (bytes_of target)) ≡ take count (drop from src)

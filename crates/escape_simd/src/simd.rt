@@ -14,12 +14,14 @@ mod inner;
 mod last;
 mod many;
 pub mod neon;
+mod pass;
 mod places;
 mod rest;
 mod short;
 mod source;
 pub mod sse2;
 mod string;
+mod turn;
 pub mod util;
 pub mod v128;
 mod vector;
@@ -27,7 +29,7 @@ mod vector;
 pub(crate) use ahead::{
     count_or_more, is_clean, load_at, load_masked, most_between, most_of_eight, most_of_four,
 };
-pub(crate) use body::{escape_at, escape_few_at};
+pub(crate) use body::escape_at;
 pub(crate) use classify::Vector;
 pub use classify::{HTML_MODE, JSON_MODE, SCRIPT_MODE};
 pub use escape_lanes::simd::{BitMask, Flags, LaneMask, LoadLast, Mask, Simd, bits, target};

@@ -48,6 +48,11 @@ impl LaneMask for u16 {
     }
 
     #[inline(always)]
+    fn clear_first_set(&self) -> Self {
+        *self & (*self - 1)
+    }
+
+    #[inline(always)]
     fn count_set(&self) -> usize {
         self.count_ones() as usize
     }
@@ -96,6 +101,11 @@ impl LaneMask for u32 {
     }
 
     #[inline(always)]
+    fn clear_first_set(&self) -> Self {
+        *self & (*self - 1)
+    }
+
+    #[inline(always)]
     fn count_set(&self) -> usize {
         self.count_ones() as usize
     }
@@ -141,6 +151,11 @@ impl LaneMask for u64 {
     #[inline(always)]
     fn clear_low_bits(&self, n: usize) -> Self {
         (*self >> n) << n
+    }
+
+    #[inline(always)]
+    fn clear_first_set(&self) -> Self {
+        *self & (*self - 1)
     }
 
     #[inline(always)]
@@ -210,6 +225,13 @@ impl LaneMask for NeonBits {
     #[inline(always)]
     fn clear_low_bits(&self, n: usize) -> Self {
         NeonBits((self.0 >> (4 * n)) << (4 * n))
+    }
+
+    #[inline(always)]
+    fn clear_first_set(&self) -> Self {
+        let above = self.0 >> 4;
+        let below = 4 * self.first_offset();
+        NeonBits(((above >> below) << below) << 4)
     }
 
     #[inline(always)]

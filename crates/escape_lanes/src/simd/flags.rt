@@ -1,8 +1,8 @@
 //! What a body that holds a mask asks of it: first as lanes of a vector, then as a number.
-ghost use Rattle.std.specs.Prelude.{◌≡◌, ◌*◌, ◌<◌, ◌||◌, Bool, List, false, length, slice_index_or};
+ghost use Rattle.std.specs.Prelude.{◌≡◌, ◌+◌, ◌*◌, ◌<◌, ◌||◌, Bool, List, false, length, slice_index_or};
 ghost use Rattle.std.specs.List.{count_by};
 ghost use Rattle.std.specs.Simd.Lanes.{zip2};
-ghost use Rattle.escape_lanes.specs.Bits.{clear_first, none_set};
+ghost use Rattle.escape_lanes.specs.Bits.{clear_first, first_set, none_set};
 
 use crate::simd::traits::BitMask;
 
@@ -23,6 +23,14 @@ pub trait LaneMask: BitMask {
     fn clear_low_bits(&self, n: usize) -> Self
         requires { n < Self.LEN }
         ensures { Self.bits result ≡ clear_first n (Self.bits self.now) };
+
+    /// Returns the mask with its first set lane cleared and the others kept.
+    ///
+    /// Some lane is set. Of the mask `0b0110`, that is `0b0100`.
+    fn clear_first_set(&self) -> Self
+        requires { none_set (Self.bits self.now) ≡ false }
+        ensures { Self.bits result
+            ≡ clear_first (first_set (Self.bits self.now) + 1) (Self.bits self.now) };
 
     /// Returns how many lanes are set.
     fn count_set(&self) -> usize

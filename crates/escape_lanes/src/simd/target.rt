@@ -86,7 +86,7 @@ impl<'a, const N: usize> Target<'a, N> {
     {
         let mut lanes = [0u8; N];
         v.storeu(&mut lanes);
-        self.put_front(at, &lanes, k);
+        self.put_front(at, &lanes[..k]);
     }
 
     /// Writes the `N` lanes of a vector at `at`, as [`store`](Target::store) does.
@@ -105,21 +105,21 @@ impl<'a, const N: usize> Target<'a, N> {
         self.stored.raise();
     }
 
-    /// Writes exactly the first `k` lanes of a vector at `at`.
+    /// Writes the first lanes of a vector at `at`, and nothing past them.
     ///
-    /// `k` lanes of the `N` are written, and the target has `k` bytes from `at` on.
+    /// There are at most `N` of them, and the target has as many bytes from `at` on.
     #[inline(always)]
-    pub fn put_front(&mut self, at: usize, lanes: &[u8; N], k: usize)
+    pub fn put_front(&mut self, at: usize, lanes: &[u8])
         requires few { N ≤ 64 }
-        requires count { k ≤ N }
-        requires room { at + k ≤ length (bytes_of self.old) }
+        requires count { length lanes.now ≤ N }
+        requires room { at + length lanes.now ≤ length (bytes_of self.old) }
         ensures same_slice { IsSameSlice self.old self.new }
-        ensures bytes { bytes_of self.new ≡ paste (bytes_of self.old) at lanes.now k }
+        ensures bytes { bytes_of self.new ≡ paste (bytes_of self.old) at lanes.now (length lanes.now) }
         ensures stored { stored_of self.new ≡ stored_of self.old + 1 }
         ensures escaped { escaped_of self.new ≡ escaped_of self.old }
         ensures quotes { quotes_of self.new ≡ quotes_of self.old }
     {
-        copy_front::<N>(&mut self.slice[at..at + k], &lanes[..k]);
+        copy_front::<N>(&mut self.slice[at..at + lanes.len()], lanes);
         self.stored.raise();
     }
 

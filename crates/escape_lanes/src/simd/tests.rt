@@ -262,6 +262,30 @@ fn masks_that_are_held(rt: HostRuntime) {
     assert!(rt; !NeonBits::new(u64::MAX).is_set(31));
 }
 
+// The first lane that is set behind the first one, and how many are.
+fn behind_first<M: LaneMask>(mask: &M) -> [usize; 2] {
+    if mask.all_zero() {
+        return [0, 0];
+    }
+    let rest = mask.clear_first_set();
+    [rest.first_offset(), rest.count_set()]
+}
+
+#[test]
+fn masks_whose_first_lane_is_cleared(rt: HostRuntime) {
+    assert_eq!(rt; behind_first(&0x8006_u16), [2, 2]);
+    assert_eq!(rt; behind_first(&0x8000_u16), [16, 0]);
+    assert_eq!(rt; behind_first(&0x8000_0006_u32), [2, 2]);
+    assert_eq!(rt; behind_first(&0x8000_0000_u32), [32, 0]);
+    assert_eq!(rt; behind_first(&0x8000_0000_0000_0006_u64), [2, 2]);
+    assert_eq!(rt; behind_first(&0x8000_0000_0000_0000_u64), [64, 0]);
+    assert_eq!(rt; behind_first(&NeonBits::new(0x8000_0000_0000_0310)), [2, 2]);
+    assert_eq!(rt;
+        behind_first(&NeonBits::new(0xf000_0000_0000_0000)),
+        [16, 0]
+    );
+}
+
 // Whether none is flagged, and the first lane that is, in one vector and in both.
 fn joined<F: Flags>(one: &F, other: &F) -> [usize; 3] {
     let both = one.join(other);

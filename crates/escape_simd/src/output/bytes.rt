@@ -12,30 +12,9 @@ ghost use Rattle.escape_simd.specs.Stretch.{room_from};
 
 use crate::output::pieces::append_many;
 use crate::output::push::{fill, push_all, push_front, push_two, push_vector};
-use crate::simd::{Vector, escape_at, escape_few_at, load_masked, most_of_four};
+use crate::simd::{Vector, escape_at, load_masked, most_of_four};
 use escape_lanes::simd::{BitMask, LaneMask};
 use std::alloc::Allocator;
-
-/// Escapes the bytes to `dst` from `to` on, with no loop where they are fewer than three vectors have, and
-/// answers the place reached.
-#[inline(always)]
-fn escape_short_at<
-    V: Vector<N>,
-    const MODE: u8,
-    const N: usize,
-    const CHUNK: usize,
-    const EXACT: bool,
->(bytes: &[u8], dst: &mut [u8], to: usize) -> usize
-    requires narrow { EXACT ≡ false → N ≤ 32 }
-    requires room { to + room_from (mode_numbered MODE) bytes.now 0 ≤ length dst.old }
-    ensures end { result ≡ to + length (inner (mode_numbered MODE) bytes.now) }
-    ensures written { take result dst.new ≡ take to dst.old ++ inner (mode_numbered MODE) bytes.now }
-{
-    if bytes.len() < 3 * N {
-        return escape_few_at::<V, MODE, N, EXACT>(bytes, dst, to);
-    }
-    escape_at::<V, MODE, N, CHUNK, EXACT>(bytes, dst, to)
-}
 
 /// Appends what stands for the bytes of a text shorter than four vectors, of which at most `most` need an
 /// escape.
@@ -58,7 +37,7 @@ fn append_flagged<
     let old = dst.len();
     // A byte is written by six bytes at most.
     fill(dst, old + bytes.len() + 5 * most + 32);
-    let end = escape_short_at::<V, MODE, N, CHUNK, EXACT>(bytes, dst, old);
+    let end = escape_at::<V, MODE, N, CHUNK, EXACT>(bytes, dst, old);
     dst.truncate(end);
 }
 

@@ -10,11 +10,8 @@ ghost use Rattle.escape_simd.specs.Laws.{IsOfOneText};
 ghost use Rattle.escape_simd.specs.Runs.{run_count};
 ghost use Rattle.escape_simd.specs.Stretch.{Stretch, room_from, rest_slack};
 
-use crate::simd::chunk::whole_vector;
 use crate::simd::classify::{HTML_MODE, JSON_MODE, Vector};
 use crate::simd::many::escape_many;
-use crate::simd::rest::rest;
-use crate::simd::source::Source;
 use escape_lanes::simd::target::{Target, Ticks};
 
 /// Escapes the bytes to `dst` from `to` on, with no quotation marks, and answers the place reached.
@@ -38,53 +35,6 @@ pub(crate) fn escape_at<
     let mut target = Target::<N>::new(dst);
     let mut ticks = Ticks::new();
     escape_many::<V, MODE, N, CHUNK, EXACT>(src, &mut target, to, &mut ticks)
-}
-
-/// Escapes fewer bytes than three vectors have to the target from `to` on, with no loop, and answers the
-/// place reached.
-#[inline(always)]
-pub(crate) fn escape_few<V: Vector<N>, const MODE: u8, const N: usize, const EXACT: bool>(
-    src: &[u8],
-    target: &mut Target<'_, N>,
-    to: usize,
-    ticks: &mut Ticks,
-) -> usize
-    requires few { length src.now < 3 * N }
-    requires narrow { EXACT ≡ false → N ≤ 32 }
-    requires room { to + room_from (mode_numbered MODE) src.now 0 ≤ length (bytes_of target.old) }
-    ensures stretch { Stretch (mode_numbered MODE) (rest_slack EXACT N) src.now
-        target.old target.new 0 (length src.now) to result }
-    ensures stored { stored_of target.new
-        ≤ stored_of target.old + run_count (mode_numbered MODE) src.now + length src.now / N + 1 }
-    ensures classified { ticks.new + stored_of target.old ≡ ticks.old + stored_of target.new }
-{
-    let mut at = 0;
-    let mut end = to;
-    if 2 * N <= src.len() {
-        let source = Source::whole(src);
-        let (next, reached) = whole_vector::<V, MODE, N, true>(&source, 0, target, to, ticks);
-        at = next;
-        end = reached;
-    }
-    rest::<V, MODE, N, EXACT>(src, at, target, end, ticks)
-}
-
-/// As [`escape_at`], for fewer bytes than three vectors have.
-#[inline(always)]
-pub(crate) fn escape_few_at<V: Vector<N>, const MODE: u8, const N: usize, const EXACT: bool>(
-    src: &[u8],
-    dst: &mut [u8],
-    to: usize,
-) -> usize
-    requires few { length src.now < 3 * N }
-    requires narrow { EXACT ≡ false → N ≤ 32 }
-    requires room { to + room_from (mode_numbered MODE) src.now 0 ≤ length dst.old }
-    ensures end { result ≡ to + length (inner (mode_numbered MODE) src.now) }
-    ensures written { take result dst.new ≡ take to dst.old ++ inner (mode_numbered MODE) src.now }
-{
-    let mut target = Target::<N>::new(dst);
-    let mut ticks = Ticks::new();
-    escape_few::<V, MODE, N, EXACT>(src, &mut target, to, &mut ticks)
 }
 
 /// A quotation mark in JSON, also in script mode, nothing in HTML. Answers the place after it.

@@ -1,84 +1,37 @@
-//! Whole vectors of a text with a vector's bytes and more behind them: one, a pair, and a chunk of four.
+//! Whole vectors of a text: one, a pair, and a chunk of four.
 ghost use Rattle.std.specs.Prelude.{◌≡◌, ℕ, ◌+◌, ◌-◌, ◌*◌, ◌<◌, ◌≤◌, false, true, length, take, drop, slice_index, map};
 ghost use Rattle.escape_lanes.specs.Bits.{none_set};
 ghost use Rattle.escape_lanes.specs.Replacement.{needs_escape};
 ghost use Rattle.escape_lanes.specs.Written.{bytes_of, stored_of};
 ghost use Rattle.escape_simd.specs.Modes.{mode_numbered};
 ghost use Rattle.escape_simd.specs.Runs.{run_count};
-ghost use Rattle.escape_simd.specs.Stretch.{Stretch, Paid, room_from};
+ghost use Rattle.escape_simd.specs.Stretch.{Stretch, Paid, room_from, rest_slack};
 
-use crate::simd::classify::{Vector, store_whole};
-use crate::simd::flagged::{four_with_runs, two_with_runs, vector_with_runs};
+use crate::simd::classify::Vector;
+use crate::simd::flagged::{four_with_runs, last_flagged_vector, two_with_runs};
+use crate::simd::pass::{pass, pass_two};
 use crate::simd::source::Source;
+use crate::simd::util::run_on;
 use escape_lanes::simd::Flags;
 use escape_lanes::simd::target::{Target, Ticks};
 
-/// Stores a vector of clean bytes.
+/// One vector of the text, and where `long` what is left of a run that reaches past it. Answers the places
+/// reached.
 #[inline(always)]
-pub(crate) fn pass<V: Vector<N>, const MODE: u8, const N: usize>(
-    src: &[u8],
-    at: usize,
-    target: &mut Target<'_, N>,
-    to: usize,
-    v: &V,
-)
-    requires inside { at + N ≤ length src.now }
-    requires loaded { take N (V.lanes v.now) ≡ take N (drop at src.now) }
-    requires clean { none_set (map (needs_escape (mode_numbered MODE)) (V.lanes v.now)) ≡ true }
-    requires room { to + N ≤ length (bytes_of target.old) }
-    ensures stretch { Stretch (mode_numbered MODE) 8 src.now
-        target.old target.new at (at + N) to (to + N) }
-    ensures front { (count : ℕ)
-        → count ≤ N
-        → Stretch (mode_numbered MODE) 8 src.now target.old target.new at (at + count) to (to + count) }
-    ensures no_run { run_count (mode_numbered MODE) (drop (at + N) src.now)
-        ≡ run_count (mode_numbered MODE) (drop at src.now) }
-    ensures stored { stored_of target.new ≡ stored_of target.old + 1 }
-{
-    store_whole::<V, N>(v, src, at, target, to);
-}
-
-/// Stores two vectors of clean bytes, one after the other.
-#[inline(always)]
-fn pass_two<V: Vector<N>, const MODE: u8, const N: usize>(
-    src: &[u8],
-    at: usize,
-    target: &mut Target<'_, N>,
-    to: usize,
-    v1: &V,
-    v2: &V,
-)
-    requires inside { at + 2 * N ≤ length src.now }
-    requires loaded1 { take N (V.lanes v1.now) ≡ take N (drop at src.now) }
-    requires loaded2 { take N (V.lanes v2.now) ≡ take N (drop (at + N) src.now) }
-    requires clean1 { none_set (map (needs_escape (mode_numbered MODE)) (V.lanes v1.now)) ≡ true }
-    requires clean2 { none_set (map (needs_escape (mode_numbered MODE)) (V.lanes v2.now)) ≡ true }
-    requires room { to + 2 * N ≤ length (bytes_of target.old) }
-    ensures stretch { Stretch (mode_numbered MODE) 8 src.now
-        target.old target.new at (at + 2 * N) to (to + 2 * N) }
-    ensures no_run { run_count (mode_numbered MODE) (drop (at + 2 * N) src.now)
-        ≡ run_count (mode_numbered MODE) (drop at src.now) }
-    ensures stored { stored_of target.new ≡ stored_of target.old + 2 }
-{
-    pass::<V, MODE, N>(src, at, target, to, v1);
-    pass::<V, MODE, N>(src, at + N, target, to + N, v2);
-}
-
-/// One vector of the text; where `APART`, its runs are written in a function of their own. Answers the
-/// places reached.
-#[inline(always)]
-pub(crate) fn whole_vector<V: Vector<N>, const MODE: u8, const N: usize, const APART: bool>(
+pub(crate) fn whole_vector<V: Vector<N>, const MODE: u8, const N: usize, const EXACT: bool>(
     source: &Source<'_>,
     at: usize,
     target: &mut Target<'_, N>,
     to: usize,
+    long: bool,
     ticks: &mut Ticks,
 ) -> (usize, usize)
     requires whole { source.now.base ≡ 0 }
     requires all { length source.now.bytes.now ≡ length source.now.text.now }
-    requires inside { at + 2 * N ≤ length source.now.text.now }
+    requires inside { at + N ≤ length source.now.text.now }
+    requires narrow { EXACT ≡ false → N ≤ 32 }
     requires room { to + room_from (mode_numbered MODE) source.now.text.now at ≤ length (bytes_of target.old) }
-    ensures stretch { Stretch (mode_numbered MODE) 8 source.now.text.now
+    ensures stretch { Stretch (mode_numbered MODE) (rest_slack EXACT N) source.now.text.now
         target.old target.new at result.0 to result.1 }
     ensures step { at + N ≤ result.0 }
     ensures paid { Paid N (mode_numbered MODE) source.now.text.now at result.0 (stored_of target.old)
@@ -88,26 +41,41 @@ pub(crate) fn whole_vector<V: Vector<N>, const MODE: u8, const N: usize, const A
     let flags = v.flags(MODE, ticks);
     if !flags.none() {
         let mask = flags.bitmask();
-        return vector_with_runs::<V, MODE, N, APART>(source.text, at, target, to, mask, ticks);
+        let (next, end) = last_flagged_vector::<V, MODE, N, EXACT>(
+            source.text,
+            at,
+            at,
+            target,
+            to,
+            mask,
+            ticks,
+        );
+        if long {
+            return run_on::<MODE, N>(source.text, next, target, end);
+        }
+        return (next, end);
     }
     pass::<V, MODE, N>(source.text, at, target, to, &v);
     (at + N, to + N)
 }
 
-/// Two vectors of the text, classified at once, since most are clean. Answers the places reached.
+/// Two vectors of the text, classified at once, since most are clean, and where `long` what is left of a
+/// run that reaches past them. Answers the places reached.
 #[inline(always)]
-pub(crate) fn pair<V: Vector<N>, const MODE: u8, const N: usize>(
+pub(crate) fn pair<V: Vector<N>, const MODE: u8, const N: usize, const EXACT: bool>(
     source: &Source<'_>,
     at: usize,
     target: &mut Target<'_, N>,
     to: usize,
+    long: bool,
     ticks: &mut Ticks,
 ) -> (usize, usize)
     requires whole { source.now.base ≡ 0 }
     requires all { length source.now.bytes.now ≡ length source.now.text.now }
-    requires inside { at + 3 * N ≤ length source.now.text.now }
+    requires inside { at + 2 * N ≤ length source.now.text.now }
+    requires narrow { EXACT ≡ false → N ≤ 32 }
     requires room { to + room_from (mode_numbered MODE) source.now.text.now at ≤ length (bytes_of target.old) }
-    ensures stretch { Stretch (mode_numbered MODE) 8 source.now.text.now
+    ensures stretch { Stretch (mode_numbered MODE) (rest_slack EXACT N) source.now.text.now
         target.old target.new at result.0 to result.1 }
     ensures step { at + 2 * N ≤ result.0 }
     ensures paid { Paid N (mode_numbered MODE) source.now.text.now at result.0 (stored_of target.old)
@@ -119,15 +87,28 @@ pub(crate) fn pair<V: Vector<N>, const MODE: u8, const N: usize>(
     let flags2 = v2.flags(MODE, ticks);
     if !flags1.join(&flags2).none() {
         let (mask1, mask2) = (flags1.bitmask(), flags2.bitmask());
-        return two_with_runs::<V, MODE, N>(source.text, at, target, to, mask1, mask2, ticks);
+        let (next, end) = two_with_runs::<V, MODE, N, EXACT>(
+            source.text,
+            at,
+            target,
+            to,
+            mask1,
+            mask2,
+            ticks,
+        );
+        if long {
+            return run_on::<MODE, N>(source.text, next, target, end);
+        }
+        return (next, end);
     }
     pass_two::<V, MODE, N>(source.text, at, target, to, &v1, &v2);
     (at + 2 * N, to + 2 * N)
 }
 
-/// Four vectors of the text, classified at once, since most are clean. Answers the places reached.
+/// Four vectors of the text, classified at once, since most are clean, and what is left of a run that
+/// reaches past them. Answers the places reached.
 #[inline(always)]
-pub(crate) fn chunk<V: Vector<N>, const MODE: u8, const N: usize>(
+pub(crate) fn chunk<V: Vector<N>, const MODE: u8, const N: usize, const EXACT: bool>(
     source: &Source<'_>,
     at: usize,
     target: &mut Target<'_, N>,
@@ -136,9 +117,10 @@ pub(crate) fn chunk<V: Vector<N>, const MODE: u8, const N: usize>(
 ) -> (usize, usize)
     requires whole { source.now.base ≡ 0 }
     requires all { length source.now.bytes.now ≡ length source.now.text.now }
-    requires inside { at + 5 * N ≤ length source.now.text.now }
+    requires inside { at + 4 * N ≤ length source.now.text.now }
+    requires narrow { EXACT ≡ false → N ≤ 32 }
     requires room { to + room_from (mode_numbered MODE) source.now.text.now at ≤ length (bytes_of target.old) }
-    ensures stretch { Stretch (mode_numbered MODE) 8 source.now.text.now
+    ensures stretch { Stretch (mode_numbered MODE) (rest_slack EXACT N) source.now.text.now
         target.old target.new at result.0 to result.1 }
     ensures step { at + 4 * N ≤ result.0 }
     ensures paid { Paid N (mode_numbered MODE) source.now.text.now at result.0 (stored_of target.old)
@@ -154,7 +136,7 @@ pub(crate) fn chunk<V: Vector<N>, const MODE: u8, const N: usize>(
     let flags3 = v3.flags(MODE, ticks);
     let flags4 = v4.flags(MODE, ticks);
     if !flags1.join(&flags2).join(&flags3.join(&flags4)).none() {
-        return four_with_runs::<V, MODE, N>(
+        let (next, end) = four_with_runs::<V, MODE, N, EXACT>(
             source.text,
             at,
             target,
@@ -165,6 +147,7 @@ pub(crate) fn chunk<V: Vector<N>, const MODE: u8, const N: usize>(
             flags4.bitmask(),
             ticks,
         );
+        return run_on::<MODE, N>(source.text, next, target, end);
     }
     pass_two::<V, MODE, N>(source.text, at, target, to, &v1, &v2);
     pass_two::<V, MODE, N>(source.text, third, target, to + 2 * N, &v3, &v4);

@@ -89,22 +89,24 @@ pub(crate) fn store_whole<V: Vector<N>, const N: usize>(
 #[inline(always)]
 pub(crate) fn store<V: Vector<N>, const N: usize>(
     v: &V,
-    _text: &[u8],
-    _from: usize,
+    text: &[u8],
+    from: usize,
     taken: usize,
     exact: bool,
     target: &mut Target<'_, N>,
     to: usize,
 )
-    requires place { CanStore N exact _text.now _from taken to (length (bytes_of target.old)) }
-    requires loaded { take taken (V.lanes v.now) ≡ take taken (drop _from _text.now) }
-    ensures { IsStored exact _text.now target.old target.new _from taken to }
+    requires place { CanStore N exact text.now from taken to (length (bytes_of target.old)) }
+    requires loaded { take taken (V.lanes v.now) ≡ take taken (drop from text.now) }
+    ensures { IsStored exact text.now target.old target.new from taken to }
 {
-    let mut lanes = [0u8; N];
-    v.put(&mut lanes);
     if exact {
-        target.put_front(to, &lanes, taken);
+        // The text's bytes, which the vector holds too: what is put into memory and taken from there in
+        // other pieces has to be waited for.
+        target.put_front(to, &text[from..from + taken]);
     } else {
+        let mut lanes = [0u8; N];
+        v.put(&mut lanes);
         target.put(to, &lanes);
     }
 }

@@ -9,9 +9,9 @@ ghost use Rattle.escape_simd.specs.Formatted.{IsWritten};
 ghost use Rattle.escape_simd.specs.Stretch.{Stretch, HoldsFlags};
 
 use crate::simd::body::quote;
-use crate::simd::chunk::pass;
 use crate::simd::classify::Vector;
 use crate::simd::last::pass_rest;
+use crate::simd::pass::pass;
 use escape_lanes::simd::Flags;
 use escape_lanes::simd::target::Target;
 

@@ -7,51 +7,114 @@ ghost use Rattle.escape_simd.specs.Output.{bound};
 ghost use Rattle.escape_simd.specs.Formatted.{IsWritten};
 ghost use Rattle.escape_simd.specs.Headline.{IsOnlyOutput};
 ghost use Rattle.escape_simd.specs.Laws.{IsOfOneText};
+ghost use Rattle.escape_simd.specs.Stretch.{Stretch, HoldsFlags, room_from, rest_slack};
 
 use crate::simd::ahead::load_at;
-use crate::simd::body::{escape_few, quote};
+use crate::simd::body::{format_many, quote};
 use crate::simd::classify::Vector;
 use crate::simd::clean::{quoted_three, quoted_two};
+use crate::simd::flagged::{flagged_vector, last_flagged_vector};
 use crate::simd::last::load_rest;
+use crate::simd::rest::last_vector;
 use escape_lanes::simd::target::{Target, Ticks};
 use escape_lanes::simd::{BitMask, Flags};
 
-/// Writes the text between quotation marks to the front of the target. Answers how many bytes it became.
+/// Escapes the bytes, of whose whole vectors the masks have the flags, to the target from `to` on, and
+/// answers the place reached.
+#[inline(always)]
+fn escape_few<V: Vector<N>, const MODE: u8, const N: usize, const EXACT: bool>(
+    src: &[u8],
+    mask1: <V::Flags as Flags>::BitMask,
+    mask2: <V::Flags as Flags>::BitMask,
+    target: &mut Target<'_, N>,
+    to: usize,
+    ticks: &mut Ticks,
+) -> usize
+    requires some { N ≤ length src.now }
+    requires few { length src.now < 3 * N }
+    requires narrow { EXACT ≡ false → N ≤ 32 }
+    requires flagged1 { HoldsFlags (mode_numbered MODE) src.now 0 N 0 (V.Flags.BitMask.bits mask1) }
+    requires flagged2 { 2 * N ≤ length src.now
+        → HoldsFlags (mode_numbered MODE) src.now N N N (V.Flags.BitMask.bits mask2) }
+    requires room { to + room_from (mode_numbered MODE) src.now 0 ≤ length (bytes_of target.old) }
+    ensures stretch { Stretch (mode_numbered MODE) (rest_slack EXACT N) src.now
+        target.old target.new 0 (length src.now) to result }
+{
+    if src.len() < 2 * N {
+        let (at, end) = last_flagged_vector::<V, MODE, N, EXACT>(
+            src, 0, 0, target, to, mask1, ticks,
+        );
+        return last_vector::<V, MODE, N, EXACT>(src, at, target, end, ticks);
+    }
+    let (from, end) = flagged_vector::<V, MODE, N>(src, 0, 0, target, to, mask1, ticks);
+    let (at, end) = last_flagged_vector::<V, MODE, N, EXACT>(
+        src, N, from, target, end, mask2, ticks,
+    );
+    last_vector::<V, MODE, N, EXACT>(src, at, target, end, ticks)
+}
+
+/// Writes the text, of whose whole vectors the masks have the flags, between quotation marks to the front
+/// of the target. Answers how many bytes it became.
 #[inline(always)]
 fn quoted_few<V: Vector<N>, const MODE: u8, const N: usize, const EXACT: bool>(
     src: &[u8],
+    mask1: <V::Flags as Flags>::BitMask,
+    mask2: <V::Flags as Flags>::BitMask,
     target: &mut Target<'_, N>,
 ) -> usize
+    requires some { N ≤ length src.now }
     requires few { length src.now < 3 * N }
     requires narrow { EXACT ≡ false → N ≤ 32 }
+    requires flagged1 { HoldsFlags (mode_numbered MODE) src.now 0 N 0 (V.Flags.BitMask.bits mask1) }
+    requires flagged2 { 2 * N ≤ length src.now
+        → HoldsFlags (mode_numbered MODE) src.now N N N (V.Flags.BitMask.bits mask2) }
     requires room { bound (mode_numbered MODE) (length src.now) ≤ length (bytes_of target.old) }
     ensures same_slice { IsSameSlice target.old target.new }
     ensures written { IsWritten N (mode_numbered MODE) src.now
         (bytes_of target.old) (bytes_of target.new) result }
 {
     let open = quote::<MODE, N>(target, 0);
-    let close = escape_few::<V, MODE, N, EXACT>(src, target, open, &mut Ticks::new());
+    let mut ticks = Ticks::new();
+    let close = escape_few::<V, MODE, N, EXACT>(src, mask1, mask2, target, open, &mut ticks);
     quote::<MODE, N>(target, close)
 }
 
 /// The text, some of whose bytes need an escape, to the front of `dst`, in a function of its own.
+///
+/// It goes as [`escape_many`](crate::simd::many::escape_many) does, so that the bytes past the output are
+/// the same: as the pair and the vector that chunks of four leave, and else there.
 #[inline(never)]
-fn format_flagged<V: Vector<N>, const MODE: u8, const N: usize, const EXACT: bool>(
+fn format_flagged<
+    V: Vector<N>,
+    const MODE: u8,
+    const N: usize,
+    const CHUNK: usize,
+    const EXACT: bool,
+>(
     value: &str,
     dst: &mut [u8],
+    mask1: <V::Flags as Flags>::BitMask,
+    mask2: <V::Flags as Flags>::BitMask,
 ) -> usize
+    requires some { N ≤ length value.now }
     requires few { length value.now < 3 * N }
     requires narrow { EXACT ≡ false → N ≤ 32 }
+    requires flagged1 { HoldsFlags (mode_numbered MODE) value.now 0 N 0 (V.Flags.BitMask.bits mask1) }
+    requires flagged2 { 2 * N ≤ length value.now
+        → HoldsFlags (mode_numbered MODE) value.now N N N (V.Flags.BitMask.bits mask2) }
     requires room { bound (mode_numbered MODE) (length value.now) ≤ length dst.old }
     ensures { IsWritten N (mode_numbered MODE) value.now dst.old dst.new result }
 {
+    if CHUNK != 4 {
+        return format_many::<V, MODE, N, CHUNK, EXACT>(value, dst);
+    }
     let mut target = Target::<N>::new(dst);
-    quoted_few::<V, MODE, N, EXACT>(value.as_bytes(), &mut target)
+    quoted_few::<V, MODE, N, EXACT>(value.as_bytes(), mask1, mask2, &mut target)
 }
 
 /// The text, of as many bytes as a vector has or more, to the front of `dst`.
 #[inline(always)]
-fn written_few<V: Vector<N>, const MODE: u8, const N: usize, const EXACT: bool>(
+fn written_few<V: Vector<N>, const MODE: u8, const N: usize, const CHUNK: usize, const EXACT: bool>(
     value: &str,
     dst: &mut [u8],
 ) -> usize
@@ -68,7 +131,8 @@ fn written_few<V: Vector<N>, const MODE: u8, const N: usize, const EXACT: bool>(
     let mut ticks = Ticks::new();
     let (flags1, flags2) = (v1.flags(MODE, &mut ticks), v2.flags(MODE, &mut ticks));
     if !flags1.join(&flags2).none() {
-        return format_flagged::<V, MODE, N, EXACT>(value, dst);
+        let (mask1, mask2) = (flags1.bitmask(), flags2.bitmask());
+        return format_flagged::<V, MODE, N, CHUNK, EXACT>(value, dst, mask1, mask2);
     }
     let at = second + N;
     if at == src.len() {
@@ -77,7 +141,8 @@ fn written_few<V: Vector<N>, const MODE: u8, const N: usize, const EXACT: bool>(
     }
     let (v3, mask) = load_rest::<V, MODE, N>(src, at, &mut ticks);
     if !mask.all_zero() {
-        return format_flagged::<V, MODE, N, EXACT>(value, dst);
+        let (mask1, mask2) = (flags1.bitmask(), flags2.bitmask());
+        return format_flagged::<V, MODE, N, CHUNK, EXACT>(value, dst, mask1, mask2);
     }
     let mut target = Target::<N>::new(dst);
     quoted_three::<V, MODE, N, EXACT>(src, second, &v1, &v2, &v3, &mask, &mut target)
@@ -86,10 +151,13 @@ fn written_few<V: Vector<N>, const MODE: u8, const N: usize, const EXACT: bool>(
 /// Escapes a text of as many bytes as a vector has or more, and fewer than three have, to the front of
 /// `dst`, and answers how many bytes it became.
 #[inline(always)]
-pub(crate) fn format_few<V: Vector<N>, const MODE: u8, const N: usize, const EXACT: bool>(
-    value: &str,
-    dst: &mut [u8],
-) -> usize
+pub(crate) fn format_few<
+    V: Vector<N>,
+    const MODE: u8,
+    const N: usize,
+    const CHUNK: usize,
+    const EXACT: bool,
+>(value: &str, dst: &mut [u8]) -> usize
     requires some { N ≤ length value.now }
     requires few { length value.now < 3 * N }
     requires narrow { EXACT ≡ false → N ≤ 32 }
@@ -98,5 +166,5 @@ pub(crate) fn format_few<V: Vector<N>, const MODE: u8, const N: usize, const EXA
     ensures headline { IsOnlyOutput (mode_numbered MODE) (take result dst.new) (chars value.now) }
     ensures equal_texts { IsOfOneText (mode_numbered MODE) value.now (take result dst.new) }
 {
-    written_few::<V, MODE, N, EXACT>(value, dst)
+    written_few::<V, MODE, N, CHUNK, EXACT>(value, dst)
 }

@@ -3,18 +3,19 @@ ghost use Rattle.std.specs.Prelude.{◌≡◌, ℕ, ◌+◌, ◌-◌, ◌*◌, �
 ghost use Rattle.escape_lanes.specs.Written.{bytes_of, stored_of};
 ghost use Rattle.escape_simd.specs.Modes.{mode_numbered};
 ghost use Rattle.escape_simd.specs.Runs.{run_count};
-ghost use Rattle.escape_simd.specs.Stretch.{Stretch, HoldsFlags, Passed, room_from};
+ghost use Rattle.escape_simd.specs.Stretch.{Stretch, HoldsFlags, Passed, room_from, rest_slack};
 
 use crate::simd::classify::Vector;
+use crate::simd::pass::pass;
 use crate::simd::source::Source;
 use crate::simd::vector::vector;
-use escape_lanes::simd::Flags;
 use escape_lanes::simd::target::{Target, Ticks};
+use escape_lanes::simd::{BitMask, Flags};
 
 /// The vector of the text at `at`, which has the flags of the mask, from `from` on: what came before may
 /// have passed some of its bytes. Answers the places reached.
 #[inline(always)]
-fn flagged_vector<V: Vector<N>, const MODE: u8, const N: usize>(
+pub(crate) fn flagged_vector<V: Vector<N>, const MODE: u8, const N: usize>(
     src: &[u8],
     at: usize,
     from: usize,
@@ -39,59 +40,83 @@ fn flagged_vector<V: Vector<N>, const MODE: u8, const N: usize>(
     vector::<V, MODE, N, false>(&source, at, N, from, target, to, &v, &mask, ticks)
 }
 
-/// The vector of the text at `at`, which has the flags of the mask, in a function of its own: so a short
-/// text without flags waits for no stack frame. Answers the places reached.
-#[cold]
+/// The same where fewer bytes than a vector has follow the vector. They are put into memory with zeros after
+/// them, so that vectors can be loaded from any byte of this one on.
 #[inline(never)]
-fn flagged_vector_apart<V: Vector<N>, const MODE: u8, const N: usize>(
+fn padded_vector<V: Vector<N>, const MODE: u8, const N: usize, const EXACT: bool>(
     src: &[u8],
     at: usize,
+    from: usize,
     target: &mut Target<'_, N>,
     to: usize,
     mask: <V::Flags as Flags>::BitMask,
     ticks: &mut Ticks,
 ) -> (usize, usize)
-    requires inside { at + N + N ≤ length src.now }
+    requires inside { at + N ≤ length src.now }
+    requires few { length src.now < at + 2 * N }
+    requires passed { Passed (mode_numbered MODE) src.now at from }
+    requires narrow { EXACT ≡ false → N ≤ 32 }
     requires flagged { HoldsFlags (mode_numbered MODE) src.now at N at (V.Flags.BitMask.bits mask) }
-    requires room { to + room_from (mode_numbered MODE) src.now at ≤ length (bytes_of target.old) }
-    ensures stretch { Stretch (mode_numbered MODE) 8 src.now target.old target.new at result.0 to result.1 }
+    requires room { to + room_from (mode_numbered MODE) src.now from ≤ length (bytes_of target.old) }
+    ensures stretch { Stretch (mode_numbered MODE) (rest_slack EXACT N) src.now
+        target.old target.new from result.0 to result.1 }
     ensures passed { Passed (mode_numbered MODE) src.now (at + N) result.0 }
     ensures stored { stored_of target.new + run_count (mode_numbered MODE) (drop result.0 src.now)
-        ≤ stored_of target.old + run_count (mode_numbered MODE) (drop at src.now) + 1 }
+        ≤ stored_of target.old + run_count (mode_numbered MODE) (drop from src.now) + 1 }
     ensures classified { ticks.new + stored_of target.old + 1 ≡ ticks.old + stored_of target.new }
 {
-    flagged_vector::<V, MODE, N>(src, at, at, target, to, mask, ticks)
+    let v = V::load(&Source::whole(src), at);
+    let w = V::load_last(src, src.len() - (at + N));
+    let mut held = [[0u8; N]; 3];
+    v.put(&mut held[0]);
+    w.put(&mut held[1]);
+    let source = Source::padded(src, at, held.as_flattened());
+    let first = if from == at {
+        v
+    } else {
+        V::load(&source, from)
+    };
+    vector::<V, MODE, N, EXACT>(&source, at, N, from, target, to, &first, &mask, ticks)
 }
 
-/// The same, where it stands unless `APART`.
+/// The same wherever the vector lies.
 #[inline(always)]
-pub(crate) fn vector_with_runs<V: Vector<N>, const MODE: u8, const N: usize, const APART: bool>(
+pub(crate) fn last_flagged_vector<V: Vector<N>, const MODE: u8, const N: usize, const EXACT: bool>(
     src: &[u8],
     at: usize,
+    from: usize,
     target: &mut Target<'_, N>,
     to: usize,
     mask: <V::Flags as Flags>::BitMask,
     ticks: &mut Ticks,
 ) -> (usize, usize)
-    requires inside { at + N + N ≤ length src.now }
+    requires inside { at + N ≤ length src.now }
+    requires passed { Passed (mode_numbered MODE) src.now at from }
+    requires narrow { EXACT ≡ false → N ≤ 32 }
     requires flagged { HoldsFlags (mode_numbered MODE) src.now at N at (V.Flags.BitMask.bits mask) }
-    requires room { to + room_from (mode_numbered MODE) src.now at ≤ length (bytes_of target.old) }
-    ensures stretch { Stretch (mode_numbered MODE) 8 src.now target.old target.new at result.0 to result.1 }
+    requires room { to + room_from (mode_numbered MODE) src.now from ≤ length (bytes_of target.old) }
+    ensures stretch { Stretch (mode_numbered MODE) (rest_slack EXACT N) src.now
+        target.old target.new from result.0 to result.1 }
     ensures passed { Passed (mode_numbered MODE) src.now (at + N) result.0 }
     ensures stored { stored_of target.new + run_count (mode_numbered MODE) (drop result.0 src.now)
-        ≤ stored_of target.old + run_count (mode_numbered MODE) (drop at src.now) + 1 }
+        ≤ stored_of target.old + run_count (mode_numbered MODE) (drop from src.now) + 1 }
     ensures classified { ticks.new + stored_of target.old + 1 ≡ ticks.old + stored_of target.new }
 {
-    if APART {
-        return flagged_vector_apart::<V, MODE, N>(src, at, target, to, mask, ticks);
+    if 2 * N <= src.len() - at {
+        return flagged_vector::<V, MODE, N>(src, at, from, target, to, mask, ticks);
     }
-    flagged_vector::<V, MODE, N>(src, at, at, target, to, mask, ticks)
+    if from == at && mask.all_zero() {
+        let v = V::load(&Source::whole(src), at);
+        pass::<V, MODE, N>(src, at, target, to, &v);
+        return (at + N, to + N);
+    }
+    padded_vector::<V, MODE, N, EXACT>(src, at, from, target, to, mask, ticks)
 }
 
 /// The two vectors of the text from `at` on, which have the flags of the masks. Answers the places
 /// reached.
 #[inline(always)]
-pub(crate) fn two_with_runs<V: Vector<N>, const MODE: u8, const N: usize>(
+pub(crate) fn two_with_runs<V: Vector<N>, const MODE: u8, const N: usize, const EXACT: bool>(
     src: &[u8],
     at: usize,
     target: &mut Target<'_, N>,
@@ -100,25 +125,27 @@ pub(crate) fn two_with_runs<V: Vector<N>, const MODE: u8, const N: usize>(
     mask2: <V::Flags as Flags>::BitMask,
     ticks: &mut Ticks,
 ) -> (usize, usize)
-    requires inside { at + 3 * N ≤ length src.now }
+    requires inside { at + 2 * N ≤ length src.now }
+    requires narrow { EXACT ≡ false → N ≤ 32 }
     requires flagged1 { HoldsFlags (mode_numbered MODE) src.now at N at (V.Flags.BitMask.bits mask1) }
     requires flagged2 { HoldsFlags (mode_numbered MODE) src.now (at + N) N (at + N)
         (V.Flags.BitMask.bits mask2) }
     requires room { to + room_from (mode_numbered MODE) src.now at ≤ length (bytes_of target.old) }
-    ensures stretch { Stretch (mode_numbered MODE) 8 src.now target.old target.new at result.0 to result.1 }
+    ensures stretch { Stretch (mode_numbered MODE) (rest_slack EXACT N) src.now
+        target.old target.new at result.0 to result.1 }
     ensures passed { Passed (mode_numbered MODE) src.now (at + 2 * N) result.0 }
     ensures stored { stored_of target.new + run_count (mode_numbered MODE) (drop result.0 src.now)
         ≤ stored_of target.old + run_count (mode_numbered MODE) (drop at src.now) + 2 }
     ensures classified { ticks.new + stored_of target.old + 2 ≡ ticks.old + stored_of target.new }
 {
     let (from, end) = flagged_vector::<V, MODE, N>(src, at, at, target, to, mask1, ticks);
-    flagged_vector::<V, MODE, N>(src, at + N, from, target, end, mask2, ticks)
+    last_flagged_vector::<V, MODE, N, EXACT>(src, at + N, from, target, end, mask2, ticks)
 }
 
 /// The four vectors of the text from `at` on, which have the flags of the masks. Answers the places
 /// reached.
 #[inline(always)]
-pub(crate) fn four_with_runs<V: Vector<N>, const MODE: u8, const N: usize>(
+pub(crate) fn four_with_runs<V: Vector<N>, const MODE: u8, const N: usize, const EXACT: bool>(
     src: &[u8],
     at: usize,
     target: &mut Target<'_, N>,
@@ -129,7 +156,8 @@ pub(crate) fn four_with_runs<V: Vector<N>, const MODE: u8, const N: usize>(
     mask4: <V::Flags as Flags>::BitMask,
     ticks: &mut Ticks,
 ) -> (usize, usize)
-    requires inside { at + 5 * N ≤ length src.now }
+    requires inside { at + 4 * N ≤ length src.now }
+    requires narrow { EXACT ≡ false → N ≤ 32 }
     requires flagged1 { HoldsFlags (mode_numbered MODE) src.now at N at (V.Flags.BitMask.bits mask1) }
     requires flagged2 { HoldsFlags (mode_numbered MODE) src.now (at + N) N (at + N)
         (V.Flags.BitMask.bits mask2) }
@@ -138,7 +166,8 @@ pub(crate) fn four_with_runs<V: Vector<N>, const MODE: u8, const N: usize>(
     requires flagged4 { HoldsFlags (mode_numbered MODE) src.now (at + 3 * N) N (at + 3 * N)
         (V.Flags.BitMask.bits mask4) }
     requires room { to + room_from (mode_numbered MODE) src.now at ≤ length (bytes_of target.old) }
-    ensures stretch { Stretch (mode_numbered MODE) 8 src.now target.old target.new at result.0 to result.1 }
+    ensures stretch { Stretch (mode_numbered MODE) (rest_slack EXACT N) src.now
+        target.old target.new at result.0 to result.1 }
     ensures passed { Passed (mode_numbered MODE) src.now (at + 4 * N) result.0 }
     ensures stored { stored_of target.new + run_count (mode_numbered MODE) (drop result.0 src.now)
         ≤ stored_of target.old + run_count (mode_numbered MODE) (drop at src.now) + 4 }
@@ -148,5 +177,5 @@ pub(crate) fn four_with_runs<V: Vector<N>, const MODE: u8, const N: usize>(
     let (from, end) = flagged_vector::<V, MODE, N>(src, at, at, target, to, mask1, ticks);
     let (from, end) = flagged_vector::<V, MODE, N>(src, second, from, target, end, mask2, ticks);
     let (from, end) = flagged_vector::<V, MODE, N>(src, third, from, target, end, mask3, ticks);
-    flagged_vector::<V, MODE, N>(src, fourth, from, target, end, mask4, ticks)
+    last_flagged_vector::<V, MODE, N, EXACT>(src, fourth, from, target, end, mask4, ticks)
 }

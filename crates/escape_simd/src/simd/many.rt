@@ -7,7 +7,7 @@ ghost use Rattle.escape_simd.specs.Stretch.{Stretch, room_from, rest_slack};
 
 use crate::simd::chunk::{chunk, pair, whole_vector};
 use crate::simd::classify::Vector;
-use crate::simd::rest::rest;
+use crate::simd::rest::last_vector;
 use crate::simd::source::Source;
 use escape_lanes::simd::target::{Target, Ticks};
 
@@ -37,20 +37,34 @@ pub(crate) fn escape_many<
     let source = Source::whole(src);
     let mut at = 0;
     let mut end = to;
-    'chunks: while CHUNK == 4 && 5 * N <= src.len() - at {
-        let (next, reached) = chunk::<V, MODE, N>(&source, at, target, end, ticks);
+    'chunks: while CHUNK == 4 && 4 * N <= src.len() - at {
+        let (next, reached) = chunk::<V, MODE, N, EXACT>(&source, at, target, end, ticks);
         at = next;
         end = reached;
     }
-    'pairs: while 1 < CHUNK && 3 * N <= src.len() - at {
-        let (next, reached) = pair::<V, MODE, N>(&source, at, target, end, ticks);
+    'pairs: while 1 < CHUNK && 2 * N <= src.len() - at {
+        let (next, reached) = pair::<V, MODE, N, EXACT>(
+            &source,
+            at,
+            target,
+            end,
+            CHUNK == 2,
+            ticks,
+        );
         at = next;
         end = reached;
     }
-    'vectors: while 2 * N <= src.len() - at {
-        let (next, reached) = whole_vector::<V, MODE, N, false>(&source, at, target, end, ticks);
+    'vectors: while N <= src.len() - at {
+        let (next, reached) = whole_vector::<V, MODE, N, EXACT>(
+            &source,
+            at,
+            target,
+            end,
+            CHUNK == 1,
+            ticks,
+        );
         at = next;
         end = reached;
     }
-    rest::<V, MODE, N, EXACT>(src, at, target, end, ticks)
+    last_vector::<V, MODE, N, EXACT>(src, at, target, end, ticks)
 }

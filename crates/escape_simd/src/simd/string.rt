@@ -32,7 +32,7 @@ pub(crate) fn format_in_mode<
         return format_short::<V, MODE, N, CHUNK, EXACT>(value, dst);
     }
     if value.len() < 3 * N {
-        return format_few::<V, MODE, N, EXACT>(value, dst);
+        return format_few::<V, MODE, N, CHUNK, EXACT>(value, dst);
     }
     format_many::<V, MODE, N, CHUNK, EXACT>(value, dst)
 }

@@ -4,132 +4,15 @@ ghost use Rattle.escape_lanes.specs.Replacement.{needs_escape};
 ghost use Rattle.escape_lanes.specs.Written.{bytes_of, stored_of};
 ghost use Rattle.escape_simd.specs.Modes.{mode_numbered};
 ghost use Rattle.escape_simd.specs.Runs.{run_count};
-ghost use Rattle.escape_simd.specs.Stretch.{Stretch, IsVectorAt, Turned, Passed, room_from};
+ghost use Rattle.escape_simd.specs.Stretch.{Stretch, IsVectorAt, Passed, room_from};
 
 use crate::simd::classify::{Vector, store};
-use crate::simd::places::{ByMask, Until};
+use crate::simd::places::Until;
 use crate::simd::source::Source;
+use crate::simd::turn::turns;
 use crate::simd::util::run;
 use escape_lanes::simd::target::{Target, Ticks};
-use escape_lanes::simd::{BitMask, Flags, LaneMask};
-
-/// Passes the text's bytes from `from` on, which stand in the target as they are, up to the first whose
-/// lane the mask sets, and the run of escapes that begins there. Answers the places reached.
-///
-/// The mask is that of the vector at `at`, which holds `taken` bytes of the text.
-#[inline(always)]
-fn pass_to_run<M: LaneMask, const MODE: u8, const N: usize>(
-    source: &Source<'_>,
-    at: usize,
-    taken: usize,
-    from: usize,
-    target: &mut Target<'_, N>,
-    to: usize,
-    mask: &M,
-) -> (usize, usize)
-    requires place { IsVectorAt (mode_numbered MODE) N source.now.text.now source.now.base
-        (source.now.base + length source.now.bytes.now)
-        at taken from to (length (bytes_of target.old)) (M.bits mask.now) }
-    requires several { 16 ≤ N }
-    requires cleared { (k : ℕ)
-        → slice_index_or (M.bits mask.now) k false ≡ true
-        → from ≤ at + k }
-    requires ahead { take (at + taken - from) (drop to (bytes_of target.old))
-        ≡ take (at + taken - from) (drop from source.now.text.now) }
-    ensures stretch { (slack : ℕ)
-        → 8 ≤ slack
-        → Stretch (mode_numbered MODE) slack source.now.text.now
-        target.old target.new from result.0 to result.1 }
-    ensures turned { Turned (mode_numbered MODE) source.now.text.now (at + taken) from result.0 }
-    ensures stored { stored_of target.new ≡ stored_of target.old }
-{
-    if mask.all_zero() {
-        return (at + taken, to + (at + taken - from));
-    }
-    let flagged = at + mask.first_offset();
-    run::<_, MODE, N>(
-        source,
-        flagged,
-        target,
-        to + (flagged - from),
-        &ByMask { mask, first: at },
-    )
-}
-
-/// A turn from a place on where a run of escapes has ended: the vector is stored again from there, so
-/// that the clean bytes up to the next run stand in the target. Nothing is classified to find it.
-#[inline(always)]
-fn turn<V: Vector<N>, M: LaneMask, const MODE: u8, const N: usize, const EXACT: bool>(
-    source: &Source<'_>,
-    at: usize,
-    taken: usize,
-    from: usize,
-    target: &mut Target<'_, N>,
-    to: usize,
-    mask: &M,
-    ticks: &mut Ticks,
-) -> (usize, usize)
-    requires place { IsVectorAt (mode_numbered MODE) N source.now.text.now source.now.base
-        (source.now.base + length source.now.bytes.now)
-        at taken from to (length (bytes_of target.old)) (M.bits mask.now) }
-    requires several { 16 ≤ N }
-    requires narrow { EXACT ≡ false → N ≤ length source.now.text.now - (at + taken) + 32 }
-    ensures stretch { (slack : ℕ)
-        → 8 ≤ slack
-        → (EXACT ≡ false → N ≤ length source.now.text.now - (at + taken) + slack)
-        → Stretch (mode_numbered MODE) slack source.now.text.now
-        target.old target.new from result.0 to result.1 }
-    ensures turned { Turned (mode_numbered MODE) source.now.text.now (at + taken) from result.0 }
-    ensures stored { stored_of target.new ≡ stored_of target.old + 1 }
-    ensures tick { ticks.new ≡ ticks.old + 1 }
-{
-    let v = V::load(source, from);
-    // What it says is known from the mask: it is called for its tick alone, and costs nothing.
-    let _ = v.flags(MODE, ticks);
-    store::<V, N>(&v, source.text, from, at + taken - from, EXACT, target, to);
-    let rest = mask.clear_low_bits(from - at);
-    pass_to_run::<M, MODE, N>(source, at, taken, from, target, to, &rest)
-}
-
-/// The rest of the vector at `at` from a place on where a run of escapes has ended. Answers the places
-/// reached.
-#[inline(always)]
-fn turns<V: Vector<N>, M: LaneMask, const MODE: u8, const N: usize, const EXACT: bool>(
-    source: &Source<'_>,
-    at: usize,
-    taken: usize,
-    from: usize,
-    target: &mut Target<'_, N>,
-    to: usize,
-    mask: &M,
-    ticks: &mut Ticks,
-) -> (usize, usize)
-    requires place { IsVectorAt (mode_numbered MODE) N source.now.text.now source.now.base
-        (source.now.base + length source.now.bytes.now)
-        at taken from to (length (bytes_of target.old)) (M.bits mask.now) }
-    requires several { 16 ≤ N }
-    requires narrow { EXACT ≡ false → N ≤ length source.now.text.now - (at + taken) + 32 }
-    ensures stretch { (slack : ℕ)
-        → 8 ≤ slack
-        → (EXACT ≡ false → N ≤ length source.now.text.now - (at + taken) + slack)
-        → Stretch (mode_numbered MODE) slack source.now.text.now
-        target.old target.new from result.0 to result.1 }
-    ensures passed { Passed (mode_numbered MODE) source.now.text.now (at + taken) result.0 }
-    ensures stored { stored_of target.new + run_count (mode_numbered MODE) (drop result.0 source.now.text.now)
-        ≤ stored_of target.old + run_count (mode_numbered MODE) (drop from source.now.text.now) + 1 }
-    ensures classified { ticks.new + stored_of target.old ≡ ticks.old + stored_of target.new }
-{
-    let mut next = from;
-    let mut end = to;
-    'turns: while next < at + taken {
-        let (after, reached) = turn::<V, M, MODE, N, EXACT>(
-            source, at, taken, next, target, end, mask, ticks,
-        );
-        next = after;
-        end = reached;
-    }
-    (next, end)
-}
+use escape_lanes::simd::{Flags, LaneMask};
 
 /// The `taken` bytes of the text at `at`, each of which needs an escape: one run, whose end is known, so
 /// that no mask is asked. Answers the places reached.
@@ -203,15 +86,10 @@ pub(crate) fn vector<V: Vector<N>, const MODE: u8, const N: usize, const EXACT: 
     if mask.count_set() == taken {
         return only_run::<MODE, N>(source, from, taken, target, to);
     }
-    let (next, end) = pass_to_run::<_, MODE, N>(source, at, taken, from, target, to, mask);
-    if at + taken <= next {
-        return (next, end);
-    }
-    turns::<V, _, MODE, N, EXACT>(source, at, taken, next, target, end, mask, ticks)
+    turns::<V, _, MODE, N, EXACT>(source, at, taken, from, target, to, mask, ticks)
 }
 
 /// As [`vector`], in a function of its own: what calls it passes clean bytes with no stack frame.
-#[cold]
 #[inline(never)]
 pub(crate) fn vector_apart<V: Vector<N>, const MODE: u8, const N: usize, const EXACT: bool>(
     source: &Source<'_>,

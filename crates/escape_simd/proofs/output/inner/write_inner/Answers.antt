@@ -8,12 +8,5 @@ pub escape_at-requires-clause-room : goal.escape_at-requires-clause-room
 escape_at-requires-clause-room g c =
     let mode = mode_numbered g.row.MODE in
     let room = rest-is mode c.args.value.now 0 in
-    let same = ap (λ xs. room_from mode xs 0) c.as_bytes-bytes.ensures.value in
-    omega (arith, room, same, c.requires)
-
-pub escape_few_at-requires-clause-room : goal.escape_few_at-requires-clause-room
-escape_few_at-requires-clause-room g c =
-    let mode = mode_numbered g.row.MODE in
-    let room = rest-is mode c.args.value.now 0 in
-    let same = ap (λ xs. room_from mode xs 0) c.as_bytes-bytes.ensures.value in
+    let same = ap (λ xs. room_from mode xs 0) c.as_bytes.ensures.value in
     omega (arith, room, same, c.requires)

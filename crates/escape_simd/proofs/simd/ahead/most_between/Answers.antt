@@ -14,3 +14,13 @@ returns-clause-most g c =
     let few = count_by-le-length f (slice_range src at to) in
     let len = length-between src at to c.requires.inside in
     omega (arith, parts, few, len, c.eights.invariant.most)
+
+pub eights-preserved : goal.eights-preserved
+eights-preserved g c =
+    let inv = c.eights.invariant in let e = c.most_of_eight-most.ensures in let left = c.eights-test.true in
+    record {
+      on = omega (arith, inv.on);
+      inside = omega (arith, inv.inside, left);
+      few = omega (arith, inv.few, inv.on, e.few);
+      most = omega (arith, inv.most, e.most);
+    }

@@ -1,23 +1,29 @@
-use Rattle.std.proofs.Common.{ℕ, ◌+◌, ◌-◌, ◌*◌, List, sym, ap, ◌∙◌, arith}
+use Rattle.std.proofs.Common.{ℕ, ◌+◌, ◌-◌, ◌*◌, List, sym, ap, ◌∙◌, not, nat_eq, arith}
+use denote.Param.{number, value_of}
 use Rattle.escape_lanes.specs.Bits.{none_set}
 use Rattle.escape_simd.specs.Modes.{mode_numbered}
+use Rattle.escape_simd.specs.Stretch.{rest_slack}
+use Rattle.escape_simd.proofs.RestLemmas.{rest-slack-some}
 use Rattle.escape_simd.proofs.Costs.{vectors-least}
-use Rattle.escape_simd.proofs.Stretches.{rest-bounds}
+use Rattle.escape_simd.proofs.Stretches.{rest-bounds, onward, widened}
 use Rattle.escape_simd.proofs.Lanes.{none_set-joined, held-whole}
 use Rattle.escape_simd.proofs.simd.chunk.pair.Goals as goal
 
-pub two_with_runs-requires : goal.two_with_runs-requires
-two_with_runs-requires g c =
+pub two_with_runs-next-requires : goal.two_with_runs-next-requires
+two_with_runs-next-requires g c =
     let mode = mode_numbered g.row.MODE in let src : List ℕ = c.args.source.now.text.now in let at : ℕ = c.args.at in let n : ℕ = g.row.N in let r = c.requires in
     let lanes = g.V.Vector.lanes in let bits = g.V.Flags.BitMask.BitMask.bits in let width = g.met.V.Vector.width in (
       omega arith,
       (
         omega (arith, r.inside),
         (
-          held-whole mode src (lanes c.load-v1.result) at n (bits c.bitmask-mask1.result) (width c.load-v1.result) (omega (arith, r.inside)) (c.load-v1.ensures n (omega arith) (omega (arith, r.inside))) (c.bitmask-mask1.ensures ∙ c.flags-flags1.ensures.lanes),
+          r.narrow,
           (
-            held-whole mode src (lanes c.load-v2.result) (at + n) n (bits c.bitmask-mask2.result) (width c.load-v2.result) (omega (arith, r.inside)) (c.load-v2.ensures n (omega arith) (omega (arith, r.inside))) (c.bitmask-mask2.ensures ∙ c.flags-flags2.ensures.lanes),
-            r.room,
+            held-whole mode src (lanes c.load-v1.result) at n (bits c.bitmask-mask1.result) (width c.load-v1.result) (omega (arith, r.inside)) (c.load-v1.ensures n (omega arith) (omega (arith, r.inside))) (c.bitmask-mask1.ensures ∙ c.flags-flags1.ensures.lanes),
+            (
+              held-whole mode src (lanes c.load-v2.result) (at + n) n (bits c.bitmask-mask2.result) (width c.load-v2.result) (omega (arith, r.inside)) (c.load-v2.ensures n (omega arith) (omega (arith, r.inside))) (c.bitmask-mask2.ensures ∙ c.flags-flags2.ensures.lanes),
+              r.room,
+            ),
           ),
         ),
       ),
@@ -41,14 +47,23 @@ pass_two-requires g c =
       ),
     )
 
-pub returns-then-not-none-clause-paid : goal.returns-then-not-none-clause-paid
-returns-then-not-none-clause-paid g c =
+pub run_on-requires : goal.run_on-requires
+run_on-requires g c =
+    let s = c.two_with_runs-next.ensures.stretch in (omega arith, (s.inside, omega (arith, s.limit, s.same_slice.len, c.requires.room)))
+
+pub returns-then-long-clause-stretch : goal.returns-then-long-clause-stretch
+returns-then-long-clause-stretch g c =
+    let exact = not (nat_eq (value_of (number g.row.EXACT)) 0) in
+    onward c.two_with_runs-next.ensures.stretch (widened (rest_slack exact g.row.N) (rest-slack-some exact g.row.N g.met.V.Vector.several) c.run_on.ensures.stretch)
+
+pub returns-then-long-clause-paid : goal.returns-then-long-clause-paid
+returns-then-long-clause-paid g c =
     let several = g.met.V.Vector.several in
-    let e = c.two_with_runs.ensures in
-    let v = vectors-least g.row.N (omega (arith, several)) 2 (c.two_with_runs.result.0 - c.args.at) (omega (arith, e.passed.whole)) in
+    let e = c.two_with_runs-next.ensures in let on = c.run_on.ensures in
+    let v = vectors-least g.row.N (omega (arith, several)) 2 (c.run_on.result.0 - c.args.at) (omega (arith, e.passed.whole, on.stretch.forward)) in
     record {
-      stored = omega (arith, e.stored, v);
-      classified = omega (arith, e.classified, c.flags-flags1.ensures.tick, c.flags-flags2.ensures.tick);
+      stored = omega (arith, e.stored, on.stored, on.runs, v);
+      classified = omega (arith, e.classified, on.stored, c.flags-flags1.ensures.tick, c.flags-flags2.ensures.tick);
     }
 
 pub returns-clause-paid : goal.returns-clause-paid
@@ -59,4 +74,18 @@ returns-clause-paid g c =
     record {
       stored = omega (arith, e.stored, v, e.no_run);
       classified = omega (arith, e.stored, c.flags-flags1.ensures.tick, c.flags-flags2.ensures.tick);
+    }
+
+pub returns-clause-stretch : goal.returns-clause-stretch
+returns-clause-stretch g c =
+    let exact = not (nat_eq (value_of (number g.row.EXACT)) 0) in
+    widened (rest_slack exact g.row.N) (rest-slack-some exact g.row.N g.met.V.Vector.several) c.pass_two.ensures.stretch
+
+pub returns-then-not-none-clause-paid : goal.returns-then-not-none-clause-paid
+returns-then-not-none-clause-paid g c =
+    let several = g.met.V.Vector.several in let e = c.two_with_runs-next.ensures in
+    let v = vectors-least g.row.N (omega (arith, several)) 2 (c.two_with_runs-next.result.0 - c.args.at) (omega (arith, e.passed.whole)) in
+    record {
+      stored = omega (arith, e.stored, v);
+      classified = omega (arith, e.classified, c.flags-flags1.ensures.tick, c.flags-flags2.ensures.tick);
     }

@@ -1,23 +1,32 @@
-use Rattle.std.proofs.Common.{ℕ, ◌+◌, ◌-◌, List, map, sym, ap, ◌∙◌, arith}
+use Rattle.std.proofs.Common.{ℕ, ◌+◌, ◌-◌, List, map, sym, ap, ◌∙◌, not, nat_eq, refl, arith}
+use denote.Param.{number, value_of}
 use Rattle.escape_lanes.specs.Bits.{none_set}
 use Rattle.escape_lanes.specs.Replacement.{needs_escape}
 use Rattle.escape_simd.specs.Modes.{mode_numbered}
+use Rattle.escape_simd.specs.Stretch.{rest_slack}
+use Rattle.escape_simd.proofs.RestLemmas.{rest-slack-some}
 use Rattle.escape_simd.proofs.Costs.{vectors-least}
-use Rattle.escape_simd.proofs.Stretches.{rest-bounds}
+use Rattle.escape_simd.proofs.Stretches.{rest-bounds, onward, widened}
 use Rattle.escape_simd.proofs.Lanes.{held-cut, clear_none}
 use Rattle.escape_simd.proofs.simd.chunk.whole_vector.Goals as goal
 
-pub vector_with_runs-requires : goal.vector_with_runs-requires
-vector_with_runs-requires g c =
+pub last_flagged_vector-next-requires : goal.last_flagged_vector-next-requires
+last_flagged_vector-next-requires g c =
     let mode = mode_numbered g.row.MODE in let src : List ℕ = c.args.source.now.text.now in let n : ℕ = g.row.N in let r = c.requires in
     let lanes : List ℕ = g.V.Vector.lanes c.load-v.result in let bits = g.V.Flags.BitMask.BitMask.bits c.bitmask-mask.result in (
       omega arith,
       (
         omega (arith, r.inside),
         (
-          held-cut mode src lanes c.args.at n n c.args.at (g.met.V.Vector.width c.load-v.result) (omega arith) (omega (arith, r.inside)) (c.load-v.ensures n (omega arith) (omega (arith, r.inside))) bits
-              (c.bitmask-mask.ensures ∙ c.flags-flags.ensures.lanes ∙ clear_none (map (needs_escape mode) lanes) n),
-          r.room,
+          record { whole = omega arith; near = omega arith; exact = λ e. refl; clean = λ p h k. absurd (omega (arith, h, k)) },
+          (
+            r.narrow,
+            (
+              held-cut mode src lanes c.args.at n n c.args.at (g.met.V.Vector.width c.load-v.result) (omega arith) (omega (arith, r.inside)) (c.load-v.ensures n (omega arith) (omega (arith, r.inside))) bits
+                  (c.bitmask-mask.ensures ∙ c.flags-flags.ensures.lanes ∙ clear_none (map (needs_escape mode) lanes) n),
+              r.room,
+            ),
+          ),
         ),
       ),
     )
@@ -35,14 +44,23 @@ pass-requires g c =
       ),
     )
 
-pub returns-then-not-none-clause-paid : goal.returns-then-not-none-clause-paid
-returns-then-not-none-clause-paid g c =
+pub run_on-requires : goal.run_on-requires
+run_on-requires g c =
+    let s = c.last_flagged_vector-next.ensures.stretch in (omega arith, (s.inside, omega (arith, s.limit, s.same_slice.len, c.requires.room)))
+
+pub returns-then-long-clause-stretch : goal.returns-then-long-clause-stretch
+returns-then-long-clause-stretch g c =
+    let exact = not (nat_eq (value_of (number g.row.EXACT)) 0) in
+    onward c.last_flagged_vector-next.ensures.stretch (widened (rest_slack exact g.row.N) (rest-slack-some exact g.row.N g.met.V.Vector.several) c.run_on.ensures.stretch)
+
+pub returns-then-long-clause-paid : goal.returns-then-long-clause-paid
+returns-then-long-clause-paid g c =
     let several = g.met.V.Vector.several in
-    let e = c.vector_with_runs.ensures in
-    let v = vectors-least g.row.N (omega (arith, several)) 1 (c.vector_with_runs.result.0 - c.args.at) (omega (arith, e.passed.whole)) in
+    let e = c.last_flagged_vector-next.ensures in let on = c.run_on.ensures in
+    let v = vectors-least g.row.N (omega (arith, several)) 1 (c.run_on.result.0 - c.args.at) (omega (arith, e.passed.whole, on.stretch.forward)) in
     record {
-      stored = omega (arith, e.stored, v);
-      classified = omega (arith, e.classified, c.flags-flags.ensures.tick);
+      stored = omega (arith, e.stored, on.stored, on.runs, v);
+      classified = omega (arith, e.classified, on.stored, c.flags-flags.ensures.tick);
     }
 
 pub returns-clause-paid : goal.returns-clause-paid
@@ -53,4 +71,18 @@ returns-clause-paid g c =
     record {
       stored = omega (arith, e.stored, e.no_run, v);
       classified = omega (arith, e.stored, c.flags-flags.ensures.tick);
+    }
+
+pub returns-clause-stretch : goal.returns-clause-stretch
+returns-clause-stretch g c =
+    let exact = not (nat_eq (value_of (number g.row.EXACT)) 0) in
+    widened (rest_slack exact g.row.N) (rest-slack-some exact g.row.N g.met.V.Vector.several) c.pass.ensures.stretch
+
+pub returns-then-not-none-clause-paid : goal.returns-then-not-none-clause-paid
+returns-then-not-none-clause-paid g c =
+    let several = g.met.V.Vector.several in let e = c.last_flagged_vector-next.ensures in
+    let v = vectors-least g.row.N (omega (arith, several)) 1 (c.last_flagged_vector-next.result.0 - c.args.at) (omega (arith, e.passed.whole)) in
+    record {
+      stored = omega (arith, e.stored, v);
+      classified = omega (arith, e.classified, c.flags-flags.ensures.tick);
     }

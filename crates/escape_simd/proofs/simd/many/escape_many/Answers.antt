@@ -3,15 +3,14 @@ use denote.Param.{number, value_of}
 use Rattle.escape_lanes.specs.Written.{stored_of}
 use Rattle.escape_simd.specs.Modes.{mode_numbered}
 use Rattle.escape_simd.specs.Stretch.{Stretch, Paid, rest_length, rest_slack}
-use Rattle.escape_simd.proofs.Stretches.{standing, onward, widened}
+use Rattle.escape_simd.proofs.Stretches.{standing, onward}
 use Rattle.escape_simd.proofs.Costs.{paid-onward, paid-nothing, whole-vectors}
-use Rattle.escape_simd.proofs.RestLemmas.{rest-slack-some}
 use Rattle.escape_simd.proofs.simd.many.escape_many.Goals as goal
 
 pub chunks-init : goal.chunks-init
 chunks-init g c =
     record {
-      stretch = standing (mode_numbered g.row.MODE) 8 c.whole-source.result.text.now c.args.target.now 0 c.args.to (omega arith);
+      stretch = standing (mode_numbered g.row.MODE) (rest_slack (not (nat_eq (value_of (number g.row.EXACT)) 0)) g.row.N) c.whole-source.result.text.now c.args.target.now 0 c.args.to (omega arith);
       paid = paid-nothing g.row.N (mode_numbered g.row.MODE) c.whole-source.result.text.now 0 (stored_of c.args.target.now) c.args.ticks.now;
     }
 
@@ -19,7 +18,7 @@ pub chunk-next-requires : goal.chunk-next-requires
 chunk-next-requires g c =
     let w = c.whole-source.ensures in let t = ap length w.text in let b = ap length w.bytes in
     let s = c.chunks.invariant.stretch in let r = ap (λ xs. rest_length (mode_numbered g.row.MODE) xs 0) w.text in
-    (omega arith, (w.base, (omega (arith, t, b), (omega (arith, t, c.if-src-at.true, s.inside), omega (arith, s.limit, s.same_slice.len, r, c.requires.room)))))
+    (omega arith, (w.base, (omega (arith, t, b), (omega (arith, t, c.if-src-at.true, s.inside), (c.requires.narrow, omega (arith, s.limit, s.same_slice.len, r, c.requires.room))))))
 
 pub chunks-preserved : goal.chunks-preserved
 chunks-preserved g c =
@@ -36,7 +35,7 @@ pub pair-next-requires : goal.pair-next-requires
 pair-next-requires g c =
     let w = c.whole-source.ensures in let t = ap length w.text in let b = ap length w.bytes in
     let s = c.pairs.invariant.stretch in let r = ap (λ xs. rest_length (mode_numbered g.row.MODE) xs 0) w.text in
-    (omega arith, (w.base, (omega (arith, t, b), (omega (arith, t, c.pairs-test.true, s.inside), omega (arith, s.limit, s.same_slice.len, r, c.requires.room)))))
+    (omega arith, (w.base, (omega (arith, t, b), (omega (arith, t, c.pairs-test.true, s.inside), (c.requires.narrow, omega (arith, s.limit, s.same_slice.len, r, c.requires.room))))))
 
 pub pairs-preserved : goal.pairs-preserved
 pairs-preserved g c =
@@ -53,7 +52,7 @@ pub whole_vector-next-requires : goal.whole_vector-next-requires
 whole_vector-next-requires g c =
     let w = c.whole-source.ensures in let t = ap length w.text in let b = ap length w.bytes in
     let s = c.vectors.invariant.stretch in let r = ap (λ xs. rest_length (mode_numbered g.row.MODE) xs 0) w.text in
-    (omega arith, (w.base, (omega (arith, t, b), (omega (arith, t, c.vectors-test.true, s.inside), omega (arith, s.limit, s.same_slice.len, r, c.requires.room)))))
+    (omega arith, (w.base, (omega (arith, t, b), (omega (arith, t, c.vectors-test.true, s.inside), (c.requires.narrow, omega (arith, s.limit, s.same_slice.len, r, c.requires.room))))))
 
 pub vectors-preserved : goal.vectors-preserved
 vectors-preserved g c =
@@ -63,8 +62,8 @@ vectors-preserved g c =
       paid = paid-onward (omega (arith, several)) inv.stretch.forward e.stretch.forward inv.paid e.paid;
     }
 
-pub rest-requires : goal.rest-requires
-rest-requires g c =
+pub last_vector-requires : goal.last_vector-requires
+last_vector-requires g c =
     let w = c.whole-source.ensures in let t = ap length w.text in
     let s = c.vectors.invariant.stretch in let r = ap (λ xs. rest_length (mode_numbered g.row.MODE) xs 0) w.text in
     let q = ap (λ xs. rest_length (mode_numbered g.row.MODE) xs c.vectors.at) w.text in
@@ -73,8 +72,8 @@ rest-requires g c =
 pub returns-clause-stretch : goal.returns-clause-stretch
 returns-clause-stretch g c =
     let exact = not (nat_eq (value_of (number g.row.EXACT)) 0) in
-    let s = subst (λ xs. Stretch {N = g.row.N} (mode_numbered g.row.MODE) 8 xs c.args.target.now c.vectors.target 0 c.vectors.at c.args.to c.vectors.end) c.whole-source.ensures.text c.vectors.invariant.stretch in
-    onward (widened (rest_slack exact g.row.N) (rest-slack-some exact g.row.N g.met.V.Vector.several) s) c.rest.ensures.stretch
+    let s = subst (λ xs. Stretch {N = g.row.N} (mode_numbered g.row.MODE) (rest_slack exact g.row.N) xs c.args.target.now c.vectors.target 0 c.vectors.at c.args.to c.vectors.end) c.whole-source.ensures.text c.vectors.invariant.stretch in
+    onward s c.last_vector.ensures.stretch
 
 pub returns-clause-stored : goal.returns-clause-stored
 returns-clause-stored g c =
@@ -84,4 +83,4 @@ returns-clause-stored g c =
     let v = whole-vectors g.row.N (omega (arith, several)) (c.vectors.at - 0) (length c.args.src.now - c.vectors.at) in
     let e : c.vectors.at - 0 + (length c.args.src.now - c.vectors.at) ≡ length c.args.src.now = omega (arith, inside, t) in
     let f = ap (λ m. m / g.row.N) e in
-    omega (arith, p.stored, c.rest.ensures.stored, v, f)
+    omega (arith, p.stored, c.last_vector.ensures.stored, v, f)

@@ -1,12 +1,13 @@
-use Rattle.std.proofs.Common.{length, ◌-◌}
+use Rattle.std.proofs.Common.{length, ◌-◌, not, nat_eq}
+use denote.Param.{number, value_of}
 use Rattle.escape_lanes.specs.Written.{stored_of}
 use Rattle.escape_simd.specs.Modes.{mode_numbered}
-use Rattle.escape_simd.specs.Stretch.{Stretch, Paid}
+use Rattle.escape_simd.specs.Stretch.{Stretch, Paid, rest_slack}
 use Rattle.escape_simd.proofs.simd.many.escape_many.Given as goal
 
 abbrev pub invariant-chunks : goal.invariant-chunks
 invariant-chunks g l = record {
-  stretch : Stretch (mode_numbered g.row.MODE) 8 l.source.text.now l.fn.target l.target 0 l.at l.to l.end;
+  stretch : Stretch (mode_numbered g.row.MODE) (rest_slack (not (nat_eq (value_of (number g.row.EXACT)) 0)) g.row.N) l.source.text.now l.fn.target l.target 0 l.at l.to l.end;
   paid : Paid g.row.N (mode_numbered g.row.MODE) l.source.text.now 0 l.at (stored_of l.fn.target) (stored_of l.target) l.fn.ticks l.ticks;
 }
 
@@ -15,7 +16,7 @@ decreases-chunks g l = length l.src - l.at
 
 abbrev pub invariant-pairs : goal.invariant-pairs
 invariant-pairs g l = record {
-  stretch : Stretch (mode_numbered g.row.MODE) 8 l.source.text.now l.fn.target l.target 0 l.at l.to l.end;
+  stretch : Stretch (mode_numbered g.row.MODE) (rest_slack (not (nat_eq (value_of (number g.row.EXACT)) 0)) g.row.N) l.source.text.now l.fn.target l.target 0 l.at l.to l.end;
   paid : Paid g.row.N (mode_numbered g.row.MODE) l.source.text.now 0 l.at (stored_of l.fn.target) (stored_of l.target) l.fn.ticks l.ticks;
 }
 
@@ -24,7 +25,7 @@ decreases-pairs g l = length l.src - l.at
 
 abbrev pub invariant-vectors : goal.invariant-vectors
 invariant-vectors g l = record {
-  stretch : Stretch (mode_numbered g.row.MODE) 8 l.source.text.now l.fn.target l.target 0 l.at l.to l.end;
+  stretch : Stretch (mode_numbered g.row.MODE) (rest_slack (not (nat_eq (value_of (number g.row.EXACT)) 0)) g.row.N) l.source.text.now l.fn.target l.target 0 l.at l.to l.end;
   paid : Paid g.row.N (mode_numbered g.row.MODE) l.source.text.now 0 l.at (stored_of l.fn.target) (stored_of l.target) l.fn.ticks l.ticks;
 }
 

@@ -3,12 +3,12 @@ use Rattle.std.proofs.lemmas.Bool.{cases_Bool}
 use Rattle.escape_lanes.specs.Mode.{script}
 use Rattle.escape_lanes.specs.Entry.{padded, entry_count, entry_bytes}
 use Rattle.escape_lanes.specs.Written.{bytes_of}
-use Rattle.escape_lanes.proofs.EntryLemmas.{fewest≤entry_count, entry_count≤six, take-entry_bytes, length-entry_bytes}
 use Rattle.escape_simd.specs.Modes.{mode_numbered}
 use Rattle.escape_simd.specs.Output.{begins_separator, passed, first_replacement}
 use Rattle.escape_simd.specs.Stretch.{run_reach}
 use Rattle.escape_simd.proofs.Stretches.{escaped_unit, rest-paste, ended}
-use Rattle.escape_simd.proofs.Escapes.{passed-alone, first-alone, reach-fewest, reach-six, is_script, not_script, third-at}
+use Rattle.escape_simd.proofs.Alone.{alone-stretch, alone-kept}
+use Rattle.escape_simd.proofs.Escapes.{reach-six, is_script, not_script, third-at}
 use Rattle.escape_simd.proofs.simd.util.escape.Goals.{else-this-ge-SCRIPT_MODE-via-then-this-ge-SCRIPT_MODE+else-is_separator, else-this-ge-SCRIPT_MODE-via-else-this-ge-SCRIPT_MODE}
 use Rattle.escape_simd.proofs.simd.util.escape.Goals as goal
 
@@ -43,29 +43,18 @@ returns-then-is_separator-clause-kept g c =
     ∙ rest-paste (bytes_of c.args.target.now) c.separator_entry.result.now c.args.to 8 (c.args.to + 6 + run_reach (mode_numbered g.row.MODE)) c.requires.room (omega (arith, f)) (omega (arith, six))
 
 pub returns-clause-stretch : goal.returns-clause-stretch
-returns-clause-stretch g c slack eight =
-    let mode = mode_numbered g.row.MODE in let src : List ℕ = c.args.source.now.text.now in let at : ℕ = c.args.at in let e = c.escape-2.ensures in
-    let b : ℕ = get_or src at 0 in
-    let entry = c.entry-entry in
-    let six = entry_count≤six mode b c.requires.needed in
+returns-clause-stretch g c =
+    let mode = mode_numbered g.row.MODE in let src : List ℕ = c.args.source.now.text.now in let at : ℕ = c.args.at in let e = c.escape-2.ensures in let entry = c.entry-entry in
     let none : mode ≡ script → begins_separator (drop at src) ≡ false =
     elim c.else-this-ge-SCRIPT_MODE.branch [
       | else-this-ge-SCRIPT_MODE-via-then-this-ge-SCRIPT_MODE+else-is_separator w ↦ λ e. sym w.is_separator.ensures ∙ w.if-is_separator.false
       | else-this-ge-SCRIPT_MODE-via-else-this-ge-SCRIPT_MODE w ↦ λ e. absurd (not_script g.row.MODE w.if-this-ge-SCRIPT_MODE.false e)
     ] in
-    let one = passed-alone mode src at none in
-    let count : entry.result.now.0 ≡ entry_count mode b = c.entry-entry.ensures.count ∙ ap (entry_count mode) c.byte-2.ensures in
-    let bytes : entry.result.now.1 ≡ entry_bytes mode b = c.entry-entry.ensures.bytes ∙ ap (entry_bytes mode) c.byte-2.ensures in
-    let step : at + passed mode (drop at src) ≡ at + 1 = ap (λ k. at + k) one in
-    ended (escaped_unit mode src c.args.target.now c.escape-2.new.self at c.args.to entry.result.now.1 c.requires.inside c.requires.needed entry.result.now.0 slack eight e.same_slice e.bytes c.requires.room (ap length bytes ∙ length-entry_bytes mode b) (omega (arith, count, six))
-    (ap (λ k. take k entry.result.now.1) count ∙ ap (take (entry_count mode b)) bytes ∙ take-entry_bytes mode b c.requires.needed ∙ sym (first-alone mode src at none)) e.escaped e.quotes) step refl
+    alone-stretch mode src c.args.target.now c.escape-2.new.self at c.args.to entry.result.now.0 entry.result.now.1 c.requires.needed (entry.ensures.count ∙ ap (entry_count mode) c.byte-2.ensures) (entry.ensures.bytes ∙ ap (entry_bytes mode) c.byte-2.ensures)
+    c.requires.room e.bytes c.requires.inside none e.same_slice e.escaped e.quotes
 
 pub returns-clause-kept : goal.returns-clause-kept
 returns-clause-kept g c =
-    let mode = mode_numbered g.row.MODE in let b : ℕ = get_or c.args.source.now.text.now c.args.at 0 in let e = c.escape-2.ensures in
-    let some = fewest≤entry_count mode b c.requires.needed in let reach = reach-fewest mode in
-    let count : c.entry-entry.result.now.0 ≡ entry_count mode b = c.entry-entry.ensures.count ∙ ap (entry_count mode) c.byte-2.ensures in
-    let bytes : c.entry-entry.result.now.1 ≡ entry_bytes mode b = c.entry-entry.ensures.bytes ∙ ap (entry_bytes mode) c.byte-2.ensures in
-    let long = ap length bytes ∙ length-entry_bytes mode b in
-    ap (drop (c.args.to + c.entry-entry.result.now.0 + run_reach mode)) e.bytes
-    ∙ rest-paste (bytes_of c.args.target.now) c.entry-entry.result.now.1 c.args.to 8 (c.args.to + c.entry-entry.result.now.0 + run_reach mode) c.requires.room (omega (arith, long)) (omega (arith, some, reach, count))
+    let mode = mode_numbered g.row.MODE in let e = c.escape-2.ensures in let entry = c.entry-entry in
+    alone-kept mode c.args.source.now.text.now c.args.target.now c.escape-2.new.self c.args.at c.args.to entry.result.now.0 entry.result.now.1 c.requires.needed (entry.ensures.count ∙ ap (entry_count mode) c.byte-2.ensures) (entry.ensures.bytes ∙ ap (entry_bytes mode) c.byte-2.ensures)
+    c.requires.room e.bytes

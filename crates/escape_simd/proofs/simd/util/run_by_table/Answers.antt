@@ -27,13 +27,12 @@ ends mode text p h = elim (leb_tells (length text) p) [
 ]
 
 -- the run can be written
-can : (mode : Mode) (src text : List ℕ) (at end_held : ℕ) → text ≡ src → look_ahead mode ≡ 0 → at < length src → needs_escape mode (get_or src at 0) ≡ true → length src ≤ end_held → CanRun mode text (table mode src) (λ p. Unit {0}) at end_held
+can : (mode : Mode) (src text : List ℕ) (at end_held : ℕ) → text ≡ src → look_ahead mode ≡ 0 → at < length src → needs_escape mode (get_or src at 0) ≡ true → length src ≤ end_held → CanRun mode text (table mode src) at end_held
 unfolding table
 can mode src text at end_held e none inside needed held = record {
   begins = grind (arith, nat_tests);
   inside = λ q h s. let b = has mode src q s in let l = ap length e in omega (arith, b, l);
   needed = λ q h s. let b = has mode src q s in ap (λ xs. needs_escape mode (get_or xs q 0)) e ∙ b.1;
-  askable = λ q p h s below near. tt;
   held = λ q h s. let b = has mode src q s in omega (arith, b, none, held);
 }
 

@@ -1,0 +1,42 @@
+use Rattle.std.proofs.Common.{◌≡◌, ℕ, ◌+◌, ◌-◌, not, nat_eq, List, length, take, drop, sym, ap, subst, ◌∙◌, arith}
+use denote.Param.{number, value_of}
+use Rattle.std.proofs.lemmas.List.{take_all}
+use Rattle.escape_simd.specs.Modes.{mode_numbered}
+use Rattle.escape_simd.specs.Stretch.{Stretch, room_from, rest_slack}
+use Rattle.escape_simd.proofs.Texts.{IsClean}
+use Rattle.escape_simd.proofs.Stretches.{rest-bounds, widened}
+use Rattle.escape_simd.proofs.Lanes.{held-none, clean_none}
+use Rattle.escape_simd.proofs.RestLemmas.{rest-slack-some}
+use Rattle.escape_simd.proofs.simd.flagged.last_flagged_vector.Goals as goal
+
+pub flagged_vector-requires : goal.flagged_vector-requires
+flagged_vector-requires g c =
+    let r = c.requires in (omega arith, (omega (arith, c.if-src-at.true, r.inside), (r.passed, (r.flagged, r.room))))
+
+pub load-v-requires : goal.load-v-requires
+load-v-requires g c =
+    let w = c.whole.ensures in let b = ap length w.bytes in
+    record { after = omega (arith, w.base); held = omega (arith, w.base, b, c.requires.inside) }
+
+pub pass-requires : goal.pass-requires
+pass-requires g c =
+    let mode = mode_numbered g.row.MODE in let src : List ℕ = c.args.src.now in let at : ℕ = c.args.at in let n : ℕ = g.row.N in let r = c.requires in
+    let lanes : List ℕ = g.V.Vector.lanes c.load-v.result in let bits = g.V.Flags.BitMask.BitMask.bits c.args.mask in
+    let long = rest-bounds mode src at in
+    let loaded : take n lanes ≡ take n (drop at src) = c.load-v.ensures n (omega arith) (omega (arith, ap length c.whole.ensures.text, r.inside)) ∙ ap (λ xs. take n (drop at xs)) c.whole.ensures.text in
+    let e : at + n - at ≡ n = omega arith in
+    let bytes : IsClean mode (take n (drop at src)) = subst (λ k. IsClean mode (take k (drop at src))) e (held-none mode src at n at bits r.flagged (omega arith) r.inside (sym c.all_zero.ensures ∙ c.if-all_zero.true)) in
+    let clean = clean_none mode lanes (subst (IsClean mode) (sym loaded ∙ take_all n lanes (omega (arith, g.met.V.Vector.width c.load-v.result))) bytes) in
+    let room = ap (room_from mode src) c.if-from-at.true in
+    (omega arith, (r.inside, (loaded, (clean, omega (arith, long, room, r.room, r.inside)))))
+
+pub returns-then-src-at-clause-stretch : goal.returns-then-src-at-clause-stretch
+returns-then-src-at-clause-stretch g c =
+    let exact = not (nat_eq (value_of (number g.row.EXACT)) 0) in
+    widened (rest_slack exact g.row.N) (rest-slack-some exact g.row.N g.met.V.Vector.several) c.flagged_vector.ensures.stretch
+
+pub returns-then-all_zero-clause-stretch : goal.returns-then-all_zero-clause-stretch
+returns-then-all_zero-clause-stretch g c =
+    let exact = not (nat_eq (value_of (number g.row.EXACT)) 0) in let n : ℕ = g.row.N in
+    let s = widened (rest_slack exact n) (rest-slack-some exact n g.met.V.Vector.several) c.pass.ensures.stretch in
+    subst (λ k. Stretch {N = n} (mode_numbered g.row.MODE) (rest_slack exact n) c.args.src.now c.args.target.now c.pass.new.target k (c.args.at + n) c.args.to (c.args.to + n)) (sym c.if-from-at.true) s

@@ -1,0 +1,133 @@
+use Rattle.std.proofs.Common.{◌≡◌, ℕ, ◌+◌, ◌-◌, ◌≤◌, false, List, length, drop, get_or, refl, sym, ap, subst, ◌∙◌, arith}
+use Rattle.escape_simd.specs.Modes.{mode_numbered}
+use Rattle.escape_simd.specs.Runs.{run_count}
+use Rattle.escape_simd.specs.Stretch.{HoldsFlags}
+use Rattle.escape_simd.proofs.Texts.{runs_after-≤}
+use Rattle.escape_simd.proofs.Stretches.{standing, onward, ended, clean_ahead, clean_runs, rest-bounds}
+use Rattle.escape_simd.proofs.Lanes.{first-bounds, held-none, held-further, held-rest, rest-cleared}
+use Rattle.escape_simd.proofs.Turns.{clean-each}
+use Rattle.escape_simd.proofs.simd.turn.turns.Goals as goal
+
+pub turns-init : goal.turns-init
+turns-init g c =
+    let p = c.requires.place in let e = c.as_little_endian-rest.ensures in
+    record {
+      forward = omega arith;
+      before = p.before;
+      stretch = λ slack eight narrow. standing (mode_numbered g.row.MODE) slack c.args.source.now.text.now c.args.target.now c.args.from c.args.to (omega (arith, p.before, p.inside));
+      count = ap length e ∙ p.count;
+      flags = subst (λ bs. HoldsFlags (mode_numbered g.row.MODE) c.args.source.now.text.now c.args.at c.args.taken c.args.from bs) (sym e) p.flags;
+      cleared = λ k s. c.requires.cleared k (sym (ap (λ bs. get_or bs k false) e) ∙ s);
+      ahead = c.requires.ahead;
+      stored = omega arith;
+      classified = refl;
+    }
+
+pub pass_to_escape-after-requires : goal.pass_to_escape-after-requires
+pass_to_escape-after-requires g c =
+    let inv = c.turns.invariant in let p = c.requires.place in
+    let s = inv.stretch 32 (omega arith) c.requires.narrow in (
+      omega arith,
+      (
+        record {
+          count = inv.count;
+          flags = inv.flags;
+          few = p.few;
+          inside = p.inside;
+          after = omega (arith, p.after, inv.forward);
+          before = inv.before;
+          base = p.base;
+          held = p.held;
+          room = omega (arith, s.limit, s.same_slice.len, p.room);
+        },
+        (c.requires.several, (sym c.all_zero.ensures ∙ c.turns-test.true, (inv.cleared, inv.ahead))),
+      ),
+    )
+
+pub returns-then-at-taken-clause-stretch : goal.returns-then-at-taken-clause-stretch
+returns-then-at-taken-clause-stretch g c slack eight narrow = onward (c.turns.invariant.stretch slack eight narrow) (c.pass_to_escape-after.ensures.stretch slack eight)
+
+pub returns-then-at-taken-clause-stored : goal.returns-then-at-taken-clause-stored
+returns-then-at-taken-clause-stored g c =
+    let e = c.pass_to_escape-after.ensures in let inv = c.turns.invariant in
+    let most = runs_after-≤ (mode_numbered g.row.MODE) (drop c.pass_to_escape-after.result.0 c.args.source.now.text.now) in
+    omega (arith, most, e.run, e.stored, inv.stored)
+
+pub store_ahead-requires : goal.store_ahead-requires
+store_ahead-requires g c =
+    let mode = mode_numbered g.row.MODE in let src : List ℕ = c.args.source.now.text.now in let inv = c.turns.invariant in let p = c.requires.place in
+    let at : ℕ = c.args.at in let taken : ℕ = c.args.taken in let next : ℕ = c.turns.next in let after : ℕ = c.pass_to_escape-after.result.0 in
+    let bits = g.M.BitMask.bits c.turns.rest in let e = c.take_off-rest.ensures in let x = c.pass_to_escape-after.ensures in
+    let b = first-bounds mode src at taken next bits inv.flags (omega (arith, p.after, inv.forward)) p.inside (sym c.all_zero.ensures ∙ c.turns-test.true) inv.cleared in
+    let from_here : next ≤ after = omega (arith, b, x.first) in
+    let further = held-further mode src at taken next after bits inv.flags from_here in
+    let s = inv.stretch 32 (omega arith) c.requires.narrow in let t = x.stretch 32 (omega arith) in (
+      omega arith,
+      (
+        record {
+          count = g.met.M.BitMask.count c.take_off-rest.result ∙ sym (g.met.M.BitMask.count c.turns.rest) ∙ inv.count;
+          flags = subst (λ bs. HoldsFlags mode src at taken after bs) (sym e) (held-rest mode src at taken after bits further (omega (arith, p.after, inv.forward, from_here)) p.inside);
+          few = p.few;
+          inside = p.inside;
+          after = omega (arith, p.after, inv.forward, from_here);
+          before = c.if-at-taken.false;
+          base = p.base;
+          held = p.held;
+          room = omega (arith, s.limit, s.same_slice.len, t.limit, t.same_slice.len, p.room);
+        },
+        c.requires.narrow,
+      ),
+    )
+
+pub turns-smaller : goal.turns-smaller
+turns-smaller g c =
+    let mode = mode_numbered g.row.MODE in let src : List ℕ = c.args.source.now.text.now in let inv = c.turns.invariant in let p = c.requires.place in
+    let bits = g.M.BitMask.bits c.turns.rest in
+    let b = first-bounds mode src c.args.at c.args.taken c.turns.next bits inv.flags (omega (arith, p.after, inv.forward)) p.inside (sym c.all_zero.ensures ∙ c.turns-test.true) inv.cleared in
+    omega (arith, b, c.pass_to_escape-after.ensures.first, inv.before)
+
+pub turns-preserved : goal.turns-preserved
+turns-preserved g c =
+    let mode = mode_numbered g.row.MODE in let src : List ℕ = c.args.source.now.text.now in let inv = c.turns.invariant in let p = c.requires.place in
+    let at : ℕ = c.args.at in let taken : ℕ = c.args.taken in let next : ℕ = c.turns.next in let after : ℕ = c.pass_to_escape-after.result.0 in
+    let bits = g.M.BitMask.bits c.turns.rest in let e = c.take_off-rest.ensures in let x = c.pass_to_escape-after.ensures in let a = c.store_ahead.ensures in
+    let b = first-bounds mode src at taken next bits inv.flags (omega (arith, p.after, inv.forward)) p.inside (sym c.all_zero.ensures ∙ c.turns-test.true) inv.cleared in
+    let from_here : next ≤ after = omega (arith, b, x.first) in
+    let further = held-further mode src at taken next after bits inv.flags from_here in
+    let later : at ≤ after = omega (arith, p.after, inv.forward, from_here) in
+    record {
+      forward = omega (arith, inv.forward, from_here);
+      before = c.if-at-taken.false;
+      stretch = λ slack eight narrow. onward (onward (inv.stretch slack eight narrow) (x.stretch slack eight)) (a.stretch slack eight narrow);
+      count = g.met.M.BitMask.count c.take_off-rest.result ∙ sym (g.met.M.BitMask.count c.turns.rest) ∙ inv.count;
+      flags = subst (λ bs. HoldsFlags mode src at taken after bs) (sym e) (held-rest mode src at taken after bits further later p.inside);
+      cleared = λ k s. rest-cleared mode src at taken after bits further later p.inside k (sym (ap (λ bs. get_or bs k false) e) ∙ s);
+      ahead = a.ahead;
+      stored = omega (arith, a.stored, x.run, x.stored, inv.stored);
+      classified = omega (arith, a.classified, x.stored, inv.classified);
+    }
+
+pub overflow_add-result-3 : goal.overflow_add-result-3
+overflow_add-result-3 g c =
+    let inv = c.turns.invariant in let p = c.requires.place in let s = inv.stretch 32 (omega arith) c.requires.narrow in
+    let r = rest-bounds (mode_numbered g.row.MODE) c.args.source.now.text.now c.turns.next in
+    omega (arith, r, s.limit, p.room, p.inside, inv.before)
+
+pub returns-clause-stretch : goal.returns-clause-stretch
+returns-clause-stretch g c slack eight narrow =
+    let mode = mode_numbered g.row.MODE in let src : List ℕ = c.args.source.now.text.now in let inv = c.turns.invariant in let p = c.requires.place in
+    let next : ℕ = c.turns.next in let left : ℕ = c.args.at + c.args.taken - c.turns.next in
+    let clean = held-none mode src c.args.at c.args.taken next (g.M.BitMask.bits c.turns.rest) inv.flags (omega (arith, p.after, inv.forward)) p.inside (sym c.all_zero.ensures ∙ c.turns-test.false) in
+    let whole : next + left ≡ c.args.at + c.args.taken = omega (arith, inv.before) in
+    let within : next + left ≤ length src = omega (arith, p.inside, inv.before) in
+    let stands = inv.ahead left (omega (arith, whole)) (clean-each mode src next left within clean) in
+    onward (inv.stretch slack eight narrow) (ended (clean_ahead mode slack src c.turns.target next c.turns.end left left stands (omega arith) within clean) whole refl)
+
+pub returns-clause-stored : goal.returns-clause-stored
+returns-clause-stored g c =
+    let mode = mode_numbered g.row.MODE in let src : List ℕ = c.args.source.now.text.now in let inv = c.turns.invariant in let p = c.requires.place in
+    let next : ℕ = c.turns.next in let left : ℕ = c.args.at + c.args.taken - c.turns.next in
+    let clean = held-none mode src c.args.at c.args.taken next (g.M.BitMask.bits c.turns.rest) inv.flags (omega (arith, p.after, inv.forward)) p.inside (sym c.all_zero.ensures ∙ c.turns-test.false) in
+    let whole : next + left ≡ c.args.at + c.args.taken = omega (arith, inv.before) in
+    let same = clean_runs mode src next left clean in let there = ap (λ k. run_count mode (drop k src)) whole in
+    omega (arith, same, there, inv.stored)

@@ -67,7 +67,7 @@ fn pass_over<V: Vector<N>, const MODE: u8, const N: usize>(
 /// Writes the text, which two vectors of clean bytes hold, between quotation marks to the front of the
 /// target. Answers how many bytes it became.
 #[inline(always)]
-pub(crate) fn quoted_two<V: Vector<N>, const MODE: u8, const N: usize>(
+fn quoted_two<V: Vector<N>, const MODE: u8, const N: usize>(
     src: &[u8],
     second: usize,
     v1: &V,
@@ -94,7 +94,7 @@ pub(crate) fn quoted_two<V: Vector<N>, const MODE: u8, const N: usize>(
 /// which its mask flags, between quotation marks to the front of the target. Answers how many bytes it
 /// became.
 #[inline(always)]
-pub(crate) fn quoted_three<V: Vector<N>, const MODE: u8, const N: usize, const EXACT: bool>(
+fn quoted_three<V: Vector<N>, const MODE: u8, const N: usize, const EXACT: bool>(
     src: &[u8],
     second: usize,
     v1: &V,
@@ -126,4 +126,57 @@ pub(crate) fn quoted_three<V: Vector<N>, const MODE: u8, const N: usize, const E
     let at = second + N;
     let close = pass_rest::<V, MODE, N, EXACT>(src, at, v3, mask, target, open + at);
     quote::<MODE, N>(target, close)
+}
+
+/// As `quoted_two`, to the front of `dst`.
+#[inline(always)]
+pub(crate) fn written_two<V: Vector<N>, const MODE: u8, const N: usize>(
+    src: &[u8],
+    second: usize,
+    v1: &V,
+    v2: &V,
+    dst: &mut [u8],
+) -> usize
+    requires on { second ≤ N }
+    requires whole { second + N ≡ length src.now }
+    requires loaded1 { take N (V.lanes v1.now) ≡ take N (drop 0 src.now) }
+    requires loaded2 { take N (V.lanes v2.now) ≡ take N (drop second src.now) }
+    requires clean1 { none_set (map (needs_escape (mode_numbered MODE)) (V.lanes v1.now)) ≡ true }
+    requires clean2 { none_set (map (needs_escape (mode_numbered MODE)) (V.lanes v2.now)) ≡ true }
+    requires room { bound (mode_numbered MODE) (length src.now) ≤ length dst.old }
+    ensures { IsWritten N (mode_numbered MODE) src.now dst.old dst.new result }
+{
+    let mut target = Target::<N>::new(dst);
+    quoted_two::<V, MODE, N>(src, second, v1, v2, &mut target)
+}
+
+/// As `quoted_three`, to the front of `dst`.
+#[inline(always)]
+pub(crate) fn written_three<V: Vector<N>, const MODE: u8, const N: usize, const EXACT: bool>(
+    src: &[u8],
+    second: usize,
+    v1: &V,
+    v2: &V,
+    v3: &V,
+    mask: &<V::Flags as Flags>::BitMask,
+    dst: &mut [u8],
+) -> usize
+    requires on { second ≤ N }
+    requires inside { second + N ≤ length src.now }
+    requires few { length src.now < second + N + N }
+    requires narrow { EXACT ≡ false → N ≤ 32 }
+    requires loaded1 { take N (V.lanes v1.now) ≡ take N (drop 0 src.now) }
+    requires loaded2 { take N (V.lanes v2.now) ≡ take N (drop second src.now) }
+    requires loaded3 { V.lanes v3.now ≡ drop (second + N) src.now
+        ++ replicate (N - (length src.now - (second + N))) 0 }
+    requires clean1 { none_set (map (needs_escape (mode_numbered MODE)) (V.lanes v1.now)) ≡ true }
+    requires clean2 { none_set (map (needs_escape (mode_numbered MODE)) (V.lanes v2.now)) ≡ true }
+    requires flagged { HoldsFlags (mode_numbered MODE) src.now (second + N)
+        (length src.now - (second + N)) (second + N) (V.Flags.BitMask.bits mask.now) }
+    requires clean3 { none_set (V.Flags.BitMask.bits mask.now) ≡ true }
+    requires room { bound (mode_numbered MODE) (length src.now) ≤ length dst.old }
+    ensures { IsWritten N (mode_numbered MODE) src.now dst.old dst.new result }
+{
+    let mut target = Target::<N>::new(dst);
+    quoted_three::<V, MODE, N, EXACT>(src, second, v1, v2, v3, mask, &mut target)
 }

@@ -12,7 +12,7 @@ ghost use Rattle.escape_simd.specs.Stretch.{Stretch, HoldsFlags, room_from, rest
 use crate::simd::ahead::load_at;
 use crate::simd::body::{format_many, quote};
 use crate::simd::classify::Vector;
-use crate::simd::clean::{quoted_three, quoted_two};
+use crate::simd::clean::{written_three, written_two};
 use crate::simd::flagged::{flagged_vector, last_flagged_vector};
 use crate::simd::last::load_rest;
 use crate::simd::rest::last_vector;
@@ -136,16 +136,14 @@ fn written_few<V: Vector<N>, const MODE: u8, const N: usize, const CHUNK: usize,
     }
     let at = second + N;
     if at == src.len() {
-        let mut target = Target::<N>::new(dst);
-        return quoted_two::<V, MODE, N>(src, second, &v1, &v2, &mut target);
+        return written_two::<V, MODE, N>(src, second, &v1, &v2, dst);
     }
     let (v3, mask) = load_rest::<V, MODE, N>(src, at, &mut ticks);
     if !mask.all_zero() {
         let (mask1, mask2) = (flags1.bitmask(), flags2.bitmask());
         return format_flagged::<V, MODE, N, CHUNK, EXACT>(value, dst, mask1, mask2);
     }
-    let mut target = Target::<N>::new(dst);
-    quoted_three::<V, MODE, N, EXACT>(src, second, &v1, &v2, &v3, &mask, &mut target)
+    written_three::<V, MODE, N, EXACT>(src, second, &v1, &v2, &v3, &mask, dst)
 }
 
 /// Escapes a text of as many bytes as a vector has or more, and fewer than three have, to the front of

@@ -9,11 +9,6 @@ use Rattle.escape_simd.proofs.Texts.{length-inner}
 use Rattle.escape_simd.proofs.Whole.{IsQuotedIn, parts_written, bound-quotes, quote-short}
 use Rattle.escape_simd.proofs.simd.body.format_many.Goals as goal
 
-pub quote_in-open-requires : goal.quote_in-open-requires
-quote_in-open-requires g c =
-    let b = bound-quotes (mode_numbered g.row.MODE) (length c.args.value.now) in
-    omega (arith, b, c.requires.room)
-
 pub escape_at-close-requires : goal.escape_at-close-requires
 escape_at-close-requires g c =
     let mode = mode_numbered g.row.MODE in

@@ -8,11 +8,6 @@ use Rattle.escape_simd.proofs.Stretches.{rest-bounds}
 use Rattle.escape_simd.proofs.Whole.{IsQuoted, whole_formatted, bound-quotes, quote-short}
 use Rattle.escape_simd.proofs.simd.body.quoted.Goals as goal
 
-pub quote-open-requires : goal.quote-open-requires
-quote-open-requires g c =
-    let b = bound-quotes (mode_numbered g.row.MODE) (length c.args.value.now) in
-    (omega arith, omega (arith, b, c.requires.room))
-
 pub escape_many-close-requires : goal.escape_many-close-requires
 escape_many-close-requires g c =
     let mode = mode_numbered g.row.MODE in let src : List ℕ = c.as_bytes-bytes.result.now in

@@ -44,10 +44,6 @@ pass-requires g c =
       ),
     )
 
-pub run_on-requires : goal.run_on-requires
-run_on-requires g c =
-    let s = c.last_flagged_vector-next.ensures.stretch in (omega arith, (s.inside, omega (arith, s.limit, s.same_slice.len, c.requires.room)))
-
 pub returns-then-long-clause-stretch : goal.returns-then-long-clause-stretch
 returns-then-long-clause-stretch g c =
     let exact = not (nat_eq (value_of (number g.row.EXACT)) 0) in

@@ -7,17 +7,6 @@ use Rattle.escape_simd.proofs.RestLemmas.{rest-slack-some}
 use Rattle.escape_simd.proofs.Whole.{IsQuoted, whole_written, bound-quotes, quote-short}
 use Rattle.escape_simd.proofs.simd.clean.quoted_three.Goals as goal
 
-pub quote-open-requires : goal.quote-open-requires
-quote-open-requires g c =
-    let b = bound-quotes (mode_numbered g.row.MODE) (length c.args.src.now) in
-    (omega arith, omega (arith, b, c.requires.room))
-
-pub pass_over-requires : goal.pass_over-requires
-pass_over-requires g c =
-    let mode = mode_numbered g.row.MODE in let src : List ℕ = c.args.src.now in let r = c.requires in
-    let b = bound-quotes mode (length src) in let q = quote-short mode in let o = c.quote-open.ensures in
-    (omega arith, (r.on, (r.inside, (r.loaded1, (r.loaded2, (r.clean1, (r.clean2, omega (arith, b, q, o.end, o.same_slice.len, r.inside, r.room))))))))
-
 pub pass_rest-close-requires : goal.pass_rest-close-requires
 pass_rest-close-requires g c =
     let mode = mode_numbered g.row.MODE in let src : List ℕ = c.args.src.now in let r = c.requires in

@@ -5,11 +5,6 @@ use Rattle.escape_simd.proofs.Stretches.{rest-bounds}
 use Rattle.escape_simd.proofs.Whole.{IsQuoted, whole_written, bound-quotes, quote-short}
 use Rattle.escape_simd.proofs.simd.few.quoted_few.Goals as goal
 
-pub quote-open-requires : goal.quote-open-requires
-quote-open-requires g c =
-    let b = bound-quotes (mode_numbered g.row.MODE) (length c.args.src.now) in
-    (omega arith, omega (arith, b, c.requires.room))
-
 pub escape_few-close-requires : goal.escape_few-close-requires
 escape_few-close-requires g c =
     let mode = mode_numbered g.row.MODE in let src : List ℕ = c.args.src.now in let r = c.requires in

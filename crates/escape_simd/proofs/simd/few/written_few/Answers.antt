@@ -1,50 +1,52 @@
-use Rattle.std.proofs.Common.{ℕ, ◌+◌, ◌<◌, ◌≤◌, List, length, sym, ap, subst, ◌∙◌, arith}
+use Rattle.std.proofs.Common.{◌≡◌, ℕ, List, length, sym, ap, subst, ◌∙◌, arith}
 use Rattle.std.proofs.lemmas.List.{take_all}
 use Rattle.escape_lanes.specs.Bits.{none_set}
-use Rattle.escape_lanes.specs.Written.{bytes_of}
 use Rattle.escape_simd.specs.Modes.{mode_numbered}
-use Rattle.escape_simd.specs.Output.{bound}
-use Rattle.escape_simd.proofs.Lanes.{none_set-joined}
+use Rattle.escape_simd.specs.Stretch.{HoldsFlags}
+use Rattle.escape_simd.proofs.Lanes.{none_set-joined, held-whole}
 use Rattle.escape_simd.proofs.simd.few.written_few.Goals.{then-src, else-src}
 use Rattle.escape_simd.proofs.simd.few.written_few.Goals as goal
 
-pub quoted_two-requires : goal.quoted_two-requires
-quoted_two-requires g c =
-    let mode = mode_numbered g.row.MODE in let n : ℕ = g.row.N in let r = c.requires in
-    let src : List ℕ = c.as_bytes-src.result.now in let second : ℕ = c.if-src.second in
-    let lanes = g.V.Vector.lanes in let t = g.V.Flags.Flags.truths in let w = g.met.V.Flags.Flags.width in
-    let same = ap length c.as_bytes-src.ensures.value in
-    let on : second ≤ n = elim c.if-src.branch [
-      | then-src b ↦ omega (arith, b.second-is)
-      | else-src b ↦ omega (arith, b.second-is)
-    ] in
+pub written_two-requires-clause-clean1 : goal.written_two-requires-clause-clean1
+written_two-requires-clause-clean1 g c =
+    let t = g.V.Flags.Flags.truths in let w = g.met.V.Flags.Flags.width in
     let nones = none_set-joined (t c.flags-flags1.result) (t c.flags-flags2.result) (w c.flags-flags1.result ∙ sym (w c.flags-flags2.result)) (ap none_set (sym c.join.ensures) ∙ sym c.none.ensures ∙ c.if-not-none.false) in
-    let clean1 = ap none_set (sym c.flags-flags1.ensures.lanes) ∙ nones.0 in
-    let clean2 = ap none_set (sym c.flags-flags2.ensures.lanes) ∙ nones.1 in
-    let loaded1 = take_all n (lanes c.load_at-v1.result) (omega (arith, g.met.V.Vector.width c.load_at-v1.result)) ∙ c.load_at-v1.ensures in
-    let loaded2 = take_all n (lanes c.load_at-v2.result) (omega (arith, g.met.V.Vector.width c.load_at-v2.result)) ∙ c.load_at-v2.ensures in
-    let room = subst (λ k. bound mode k ≤ length (bytes_of c.new-target.result)) (sym same) (omega (arith, r.room, ap length c.new-target.ensures.bytes)) in
-    (omega arith, (on, (omega (arith, c.if-at-src.true), (loaded1, (loaded2, (clean1, (clean2, room)))))))
+    ap none_set (sym c.flags-flags1.ensures.lanes) ∙ nones.0
 
-pub quoted_three-requires : goal.quoted_three-requires
-quoted_three-requires g c =
-    let mode = mode_numbered g.row.MODE in let n : ℕ = g.row.N in let r = c.requires in
-    let src : List ℕ = c.as_bytes-src.result.now in let second : ℕ = c.if-src.second in
-    let lanes = g.V.Vector.lanes in let t = g.V.Flags.Flags.truths in let w = g.met.V.Flags.Flags.width in
-    let same = ap length c.as_bytes-src.ensures.value in
-    let on : second ≤ n = elim c.if-src.branch [
-      | then-src b ↦ omega (arith, b.second-is)
-      | else-src b ↦ omega (arith, b.second-is)
-    ] in
+pub written_two-requires-clause-clean2 : goal.written_two-requires-clause-clean2
+written_two-requires-clause-clean2 g c =
+    let t = g.V.Flags.Flags.truths in let w = g.met.V.Flags.Flags.width in
     let nones = none_set-joined (t c.flags-flags1.result) (t c.flags-flags2.result) (w c.flags-flags1.result ∙ sym (w c.flags-flags2.result)) (ap none_set (sym c.join.ensures) ∙ sym c.none.ensures ∙ c.if-not-none.false) in
-    let clean1 = ap none_set (sym c.flags-flags1.ensures.lanes) ∙ nones.0 in
-    let clean2 = ap none_set (sym c.flags-flags2.ensures.lanes) ∙ nones.1 in
-    let loaded1 = take_all n (lanes c.load_at-v1.result) (omega (arith, g.met.V.Vector.width c.load_at-v1.result)) ∙ c.load_at-v1.ensures in
-    let loaded2 = take_all n (lanes c.load_at-v2.result) (omega (arith, g.met.V.Vector.width c.load_at-v2.result)) ∙ c.load_at-v2.ensures in
-    let few : (second + n ≤ length src) × (length src < second + n + n) = elim c.if-src.branch [
-      | then-src b ↦ (omega (arith, b.second-is, b.if-src.true), omega (arith, b.second-is, same, r.few))
-      | else-src b ↦ (omega (arith, b.second-is, same, r.some), omega (arith, b.second-is, b.if-src.false))
+    ap none_set (sym c.flags-flags2.ensures.lanes) ∙ nones.1
+
+pub written_three-requires-clause-clean1 : goal.written_three-requires-clause-clean1
+written_three-requires-clause-clean1 g c =
+    let t = g.V.Flags.Flags.truths in let w = g.met.V.Flags.Flags.width in
+    let nones = none_set-joined (t c.flags-flags1.result) (t c.flags-flags2.result) (w c.flags-flags1.result ∙ sym (w c.flags-flags2.result)) (ap none_set (sym c.join.ensures) ∙ sym c.none.ensures ∙ c.if-not-none.false) in
+    ap none_set (sym c.flags-flags1.ensures.lanes) ∙ nones.0
+
+pub written_three-requires-clause-clean2 : goal.written_three-requires-clause-clean2
+written_three-requires-clause-clean2 g c =
+    let t = g.V.Flags.Flags.truths in let w = g.met.V.Flags.Flags.width in
+    let nones = none_set-joined (t c.flags-flags1.result) (t c.flags-flags2.result) (w c.flags-flags1.result ∙ sym (w c.flags-flags2.result)) (ap none_set (sym c.join.ensures) ∙ sym c.none.ensures ∙ c.if-not-none.false) in
+    ap none_set (sym c.flags-flags2.ensures.lanes) ∙ nones.1
+
+pub format_flagged-requires-then-not-all_zero-clause-flagged1 : goal.format_flagged-requires-then-not-all_zero-clause-flagged1
+format_flagged-requires-then-not-all_zero-clause-flagged1 g c =
+    let mode = mode_numbered g.row.MODE in let n : ℕ = g.row.N in
+    let bits = g.V.Flags.BitMask.BitMask.bits c.bitmask-mask1-then-not-all_zero.result in
+    let held = held-whole mode c.as_bytes-src.result.now (g.V.Vector.lanes c.load_at-v1.result) 0 n bits (g.met.V.Vector.width c.load_at-v1.result) (omega (arith, c.requires.some, ap length c.as_bytes-src.ensures.value)) (take_all n (g.V.Vector.lanes c.load_at-v1.result) (omega (arith, g.met.V.Vector.width c.load_at-v1.result)) ∙ c.load_at-v1.ensures) (c.bitmask-mask1-then-not-all_zero.ensures ∙ c.flags-flags1.ensures.lanes) in
+    subst (λ xs. HoldsFlags mode xs 0 n 0 bits) c.as_bytes-src.ensures.value held
+
+pub format_flagged-requires-then-not-all_zero-clause-flagged2 : goal.format_flagged-requires-then-not-all_zero-clause-flagged2
+format_flagged-requires-then-not-all_zero-clause-flagged2 g c long =
+    let mode = mode_numbered g.row.MODE in let n : ℕ = g.row.N in
+    let src : List ℕ = c.as_bytes-src.result.now in let second : ℕ = c.if-src.second in
+    let same = ap length c.as_bytes-src.ensures.value in
+    let bits = g.V.Flags.BitMask.BitMask.bits c.bitmask-mask2-then-not-all_zero.result in
+    let at : second ≡ n = elim c.if-src.branch [
+      | then-src b ↦ b.second-is
+      | else-src b ↦ absurd (omega (arith, b.if-src.false, same, long))
     ] in
-    let room = subst (λ k. bound mode k ≤ length (bytes_of c.new-target-2.result)) (sym same) (omega (arith, r.room, ap length c.new-target-2.ensures.bytes)) in
-    let l = c.load_rest-v3.ensures in
-    (omega arith, (on, (few.0, (few.1, (r.narrow, (loaded1, (loaded2, (l.loaded, (clean1, (clean2, (l.flagged, (sym c.all_zero.ensures ∙ c.if-not-all_zero.false, room))))))))))))
+    let held = held-whole mode src (g.V.Vector.lanes c.load_at-v2.result) second n bits (g.met.V.Vector.width c.load_at-v2.result) (omega (arith, at, same, long)) (take_all n (g.V.Vector.lanes c.load_at-v2.result) (omega (arith, g.met.V.Vector.width c.load_at-v2.result)) ∙ c.load_at-v2.ensures) (c.bitmask-mask2-then-not-all_zero.ensures ∙ c.flags-flags2.ensures.lanes) in
+    subst (λ xs. HoldsFlags mode xs n n n bits) c.as_bytes-src.ensures.value (subst (λ k. HoldsFlags mode src k n k bits) at held)

@@ -14,12 +14,6 @@ chunks-init g c =
       paid = paid-nothing g.row.N (mode_numbered g.row.MODE) c.whole-source.result.text.now 0 (stored_of c.args.target.now) c.args.ticks.now;
     }
 
-pub chunk-next-requires : goal.chunk-next-requires
-chunk-next-requires g c =
-    let w = c.whole-source.ensures in let t = ap length w.text in let b = ap length w.bytes in
-    let s = c.chunks.invariant.stretch in let r = ap (λ xs. rest_length (mode_numbered g.row.MODE) xs 0) w.text in
-    (omega arith, (w.base, (omega (arith, t, b), (omega (arith, t, c.if-src-at.true, s.inside), (c.requires.narrow, omega (arith, s.limit, s.same_slice.len, r, c.requires.room))))))
-
 pub chunks-preserved : goal.chunks-preserved
 chunks-preserved g c =
     let e = c.chunk-next.ensures in let inv = c.chunks.invariant in let several = g.met.V.Vector.several in
@@ -30,12 +24,6 @@ chunks-preserved g c =
 
 pub pairs-init : goal.pairs-init
 pairs-init g c = record { stretch = c.chunks.invariant.stretch; paid = c.chunks.invariant.paid }
-
-pub pair-next-requires : goal.pair-next-requires
-pair-next-requires g c =
-    let w = c.whole-source.ensures in let t = ap length w.text in let b = ap length w.bytes in
-    let s = c.pairs.invariant.stretch in let r = ap (λ xs. rest_length (mode_numbered g.row.MODE) xs 0) w.text in
-    (omega arith, (w.base, (omega (arith, t, b), (omega (arith, t, c.pairs-test.true, s.inside), (c.requires.narrow, omega (arith, s.limit, s.same_slice.len, r, c.requires.room))))))
 
 pub pairs-preserved : goal.pairs-preserved
 pairs-preserved g c =
@@ -48,12 +36,6 @@ pairs-preserved g c =
 pub vectors-init : goal.vectors-init
 vectors-init g c = record { stretch = c.pairs.invariant.stretch; paid = c.pairs.invariant.paid }
 
-pub whole_vector-next-requires : goal.whole_vector-next-requires
-whole_vector-next-requires g c =
-    let w = c.whole-source.ensures in let t = ap length w.text in let b = ap length w.bytes in
-    let s = c.vectors.invariant.stretch in let r = ap (λ xs. rest_length (mode_numbered g.row.MODE) xs 0) w.text in
-    (omega arith, (w.base, (omega (arith, t, b), (omega (arith, t, c.vectors-test.true, s.inside), (c.requires.narrow, omega (arith, s.limit, s.same_slice.len, r, c.requires.room))))))
-
 pub vectors-preserved : goal.vectors-preserved
 vectors-preserved g c =
     let e = c.whole_vector-next.ensures in let inv = c.vectors.invariant in let several = g.met.V.Vector.several in
@@ -61,13 +43,6 @@ vectors-preserved g c =
       stretch = onward inv.stretch e.stretch;
       paid = paid-onward (omega (arith, several)) inv.stretch.forward e.stretch.forward inv.paid e.paid;
     }
-
-pub last_vector-requires : goal.last_vector-requires
-last_vector-requires g c =
-    let w = c.whole-source.ensures in let t = ap length w.text in
-    let s = c.vectors.invariant.stretch in let r = ap (λ xs. rest_length (mode_numbered g.row.MODE) xs 0) w.text in
-    let q = ap (λ xs. rest_length (mode_numbered g.row.MODE) xs c.vectors.at) w.text in
-    (omega arith, (omega (arith, s.inside, t), (omega (arith, c.vectors-test.false, s.inside, t), (c.requires.narrow, omega (arith, s.limit, s.same_slice.len, r, q, c.requires.room)))))
 
 pub returns-clause-stretch : goal.returns-clause-stretch
 returns-clause-stretch g c =

@@ -23,32 +23,6 @@ whole_as_slice-put g c = let few = g.met.V.Vector.few in omega (arith, few)
 pub shared_whole_as_slice-as_flattened : goal.shared_whole_as_slice-as_flattened
 shared_whole_as_slice-as_flattened g c = let few = g.met.V.Vector.few in omega (arith, few)
 
-pub as_flattened-requires : goal.as_flattened-requires
-as_flattened-requires g c = let few = g.met.V.Vector.few in (omega (arith, few), λ e. absurd (omega (arith, e)))
-
-pub vector_apart-requires : goal.vector_apart-requires
-vector_apart-requires g c =
-    let mode = mode_numbered g.row.MODE in let src : List ℕ = c.args.src.now in let at : ℕ = c.args.at in let n : ℕ = g.row.N in let r = c.requires in
-    let bits = g.V.Flags.BitMask.BitMask.bits c.load_rest-v.result.1 in
-    let w = c.padded-source.ensures in let b = ap length w.bytes in
-    let l = c.as_flattened.ensures.len in (
-      omega arith,
-      (
-        subst (λ xs. IsVectorAt mode n xs c.padded-source.result.base (c.padded-source.result.base + length c.padded-source.result.bytes.now) at (length src - at) at c.args.to (length (bytes_of c.args.target.now)) bits) (sym w.text) (record {
-          count = g.met.V.Flags.BitMask.BitMask.count c.load_rest-v.result.1 ∙ g.met.V.Vector.flag_width;
-          flags = c.load_rest-v.ensures.flagged;
-          few = omega (arith, r.few);
-          inside = omega (arith, r.inside);
-          after = omega arith;
-          before = omega (arith, r.inside, c.if-at-src.false);
-          base = omega (arith, w.base);
-          held = omega (arith, w.base, b, l);
-          room = r.room;
-        }),
-        (λ e. omega (arith, r.narrow e), λ k s. omega arith),
-      ),
-    )
-
 pub returns-then-not-all_zero-clause-stretch : goal.returns-then-not-all_zero-clause-stretch
 returns-then-not-all_zero-clause-stretch g c =
     let exact = not (nat_eq (value_of (number g.row.EXACT)) 0) in
@@ -59,16 +33,6 @@ returns-then-not-all_zero-clause-stretch g c =
     let p = c.vector_apart.ensures.passed.whole in
     let end : c.vector_apart.result.0 ≡ length src = omega (arith, p, s.inside, c.requires.inside) in
     ended s end refl
-
-pub pass_rest-requires : goal.pass_rest-requires
-pass_rest-requires g c =
-    let r = c.requires in let l = c.load_rest-v.ensures in (
-      omega arith,
-      (
-        omega (arith, r.inside),
-        (r.few, (r.narrow, (l.loaded, (l.flagged, (sym c.all_zero.ensures ∙ c.if-not-all_zero.false, r.room))))),
-      ),
-    )
 
 pub returns-then-at-src-clause-stretch : goal.returns-then-at-src-clause-stretch
 returns-then-at-src-clause-stretch g c =

@@ -15,9 +15,6 @@ whole_as_slice-put g c = let few = g.met.V.Vector.few in omega (arith, few)
 pub shared_whole_as_slice-as_flattened : goal.shared_whole_as_slice-as_flattened
 shared_whole_as_slice-as_flattened g c = let few = g.met.V.Vector.few in omega (arith, few)
 
-pub as_flattened-requires : goal.as_flattened-requires
-as_flattened-requires g c = let few = g.met.V.Vector.few in (omega (arith, few), λ e. absurd (omega (arith, e)))
-
 pub padded-source-requires : goal.padded-source-requires
 padded-source-requires g c =
     let src : List ℕ = c.args.src.now in let n : ℕ = g.row.N in let r = c.requires in
@@ -26,11 +23,6 @@ padded-source-requires g c =
     λ k h.
     held-once src lanes _ n 0 (omega arith) (omega (arith, r.few)) (g.met.V.Vector.width c.load_last-v.result) (whole-is src lanes n c.load_last-v.ensures)
     (c.as_flattened.ensures.value ∙ ap (λ xs. xs ++ (zeros n ++ (zeros n ++ []))) first) k
-
-pub quote-open-requires : goal.quote-open-requires
-quote-open-requires g c =
-    let b = bound-quotes (mode_numbered g.row.MODE) (length c.args.src.now) in
-    (omega arith, omega (arith, b, c.requires.room))
 
 pub vector-close-requires : goal.vector-close-requires
 vector-close-requires g c =

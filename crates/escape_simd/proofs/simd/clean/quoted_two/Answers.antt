@@ -1,7 +1,7 @@
-use Rattle.std.proofs.Common.{ℕ, ◌+◌, true, true≢false, List, length, ◌∙◌, arith}
+use Rattle.std.proofs.Common.{ℕ, ◌+◌, true, true≢false, length, ◌∙◌, arith}
 use Rattle.escape_simd.specs.Modes.{mode_numbered}
 use Rattle.escape_simd.proofs.Stretches.{ended}
-use Rattle.escape_simd.proofs.Whole.{IsQuoted, whole_written, bound-quotes, quote-short}
+use Rattle.escape_simd.proofs.Whole.{IsQuoted, whole_written}
 use Rattle.escape_simd.proofs.simd.clean.quoted_two.Goals as goal
 
 pub returns-clause-same_slice : goal.returns-clause-same_slice

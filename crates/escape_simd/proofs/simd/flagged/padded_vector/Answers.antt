@@ -34,6 +34,41 @@ padded-source-requires g c =
     (held-then src last (zeros n ++ []) (at + n) n (g.met.V.Vector.width c.load_last-w.result) (λ i b. last-lane src last n (at + n) r.inside (omega (arith, r.few)) (last-is src last n (at + n) r.inside c.load_last-w.ensures) i)
     (held-zeros src (zeros n ++ []) (at + n + n) (omega (arith, r.few)) (zeros-once n))) k
 
+pub vector-requires : goal.vector-requires
+vector-requires g c =
+    let mode = mode_numbered g.row.MODE in let src : List ℕ = c.args.src.now in let at : ℕ = c.args.at in let from : ℕ = c.args.from in let n : ℕ = g.row.N in let r = c.requires in
+    let lanes = g.V.Vector.lanes in let taken : ℕ = at + n - from in
+    let bits = g.V.Flags.BitMask.BitMask.bits c.args.mask in
+    let w = c.padded-source.ensures in let b = ap length w.bytes in let t = ap length w.text in
+    let l = c.as_flattened.ensures.len in
+    let several = g.met.V.Vector.several in
+    let loaded = c.load-v.ensures n (omega arith) (omega (arith, ap length c.whole.ensures.text, r.inside)) ∙ ap (λ xs. take n (drop at xs)) c.whole.ensures.text in
+    let first : take taken (lanes c.if-from-at.first) ≡ take taken (drop from c.padded-source.result.text.now) =
+    elim c.if-from-at.branch [
+      | then-from-at b ↦
+          let same : from ≡ at = b.if-from-at.true in
+          let all : taken ≡ n = omega (arith, same) in
+          subst (λ k. take k (lanes c.if-from-at.first) ≡ take k (drop from c.padded-source.result.text.now)) (sym all)
+          (ap (λ v. take n (lanes v)) b.first-is ∙ loaded ∙ ap₂ (λ k xs. take n (drop k xs)) (sym same) (sym w.text))
+      | else-from-at b ↦ ap (λ v. take taken (lanes v)) b.first-is ∙ b.load-first.ensures taken (omega (arith, r.passed.whole)) (omega (arith, t, r.inside, r.passed.near, several))
+    ] in (
+      omega arith,
+      (
+        subst (λ xs. IsVectorAt mode n xs c.padded-source.result.base (c.padded-source.result.base + length c.padded-source.result.bytes.now) at n from c.args.to (length (bytes_of c.args.target.now)) bits) (sym w.text) (record {
+          count = g.met.V.Flags.BitMask.BitMask.count c.args.mask ∙ g.met.V.Vector.flag_width;
+          flags = held-further mode src at n at from bits r.flagged r.passed.whole;
+          few = omega arith;
+          inside = r.inside;
+          after = r.passed.whole;
+          before = omega (arith, several, r.passed.near);
+          base = omega (arith, w.base);
+          held = omega (arith, w.base, b, l);
+          room = r.room;
+        }),
+        (λ e. omega (arith, r.narrow e), (none-before mode src at n from bits r.flagged r.passed.clean, first)),
+      ),
+    )
+
 pub returns-clause-stretch : goal.returns-clause-stretch
 returns-clause-stretch g c =
     let exact = not (nat_eq (value_of (number g.row.EXACT)) 0) in

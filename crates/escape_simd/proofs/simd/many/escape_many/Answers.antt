@@ -14,6 +14,12 @@ chunks-init g c =
       paid = paid-nothing g.row.N (mode_numbered g.row.MODE) c.whole-source.result.text.now 0 (stored_of c.args.target.now) c.args.ticks.now;
     }
 
+pub chunk-next-requires : goal.chunk-next-requires
+chunk-next-requires g c =
+    let w = c.whole-source.ensures in let t = ap length w.text in let b = ap length w.bytes in
+    let s = c.chunks.invariant.stretch in let r = ap (λ xs. rest_length (mode_numbered g.row.MODE) xs 0) w.text in
+    (omega arith, (w.base, (omega (arith, t, b), (omega (arith, t, c.if-src-at.true, s.inside), (c.requires.narrow, omega (arith, s.limit, s.same_slice.len, r, c.requires.room))))))
+
 pub chunks-preserved : goal.chunks-preserved
 chunks-preserved g c =
     let e = c.chunk-next.ensures in let inv = c.chunks.invariant in let several = g.met.V.Vector.several in

@@ -1,8 +1,7 @@
-use Rattle.std.proofs.Common.{◌≡◌, ℕ, ◌+◌, ◌-◌, [], ◌++◌, not, nat_eq, List, length, refl, sym, ap, subst, ◌∙◌, arith}
+use Rattle.std.proofs.Common.{◌≡◌, ℕ, ◌+◌, ◌-◌, [], ◌++◌, not, nat_eq, List, length, refl, ap, subst, ◌∙◌, arith}
 use denote.Param.{number, value_of}
-use Rattle.escape_lanes.specs.Written.{bytes_of}
 use Rattle.escape_simd.specs.Modes.{mode_numbered}
-use Rattle.escape_simd.specs.Stretch.{Stretch, IsVectorAt, rest_slack}
+use Rattle.escape_simd.specs.Stretch.{Stretch, rest_slack}
 use Rattle.escape_simd.proofs.Stretches.{standing, ended}
 use Rattle.escape_simd.proofs.Rows.{row-written}
 use Rattle.escape_simd.proofs.RestLemmas.{zeros, held-once, rest-narrow, rest-slack-some}

@@ -1,7 +1,5 @@
-use Rattle.std.proofs.Common.{◌≡◌, ℕ, ◌-◌, ◌≤◌, ◌++◌, List, length, replicate, sym, ap, subst, ◌∙◌, arith}
-use Rattle.escape_lanes.specs.Written.{bytes_of}
+use Rattle.std.proofs.Common.{◌≡◌, ◌-◌, length, sym, ap, subst, ◌∙◌, arith}
 use Rattle.escape_simd.specs.Modes.{mode_numbered}
-use Rattle.escape_simd.specs.Output.{bound}
 use Rattle.escape_simd.specs.Stretch.{HoldsFlags}
 use Rattle.escape_simd.proofs.Lanes.{held-some}
 use Rattle.escape_simd.proofs.simd.short.written_short.Goals as goal

@@ -9,6 +9,10 @@ use Rattle.escape_simd.proofs.Lanes.{held-none, clean_none}
 use Rattle.escape_simd.proofs.RestLemmas.{rest-slack-some}
 use Rattle.escape_simd.proofs.simd.flagged.last_flagged_vector.Goals as goal
 
+pub flagged_vector-requires : goal.flagged_vector-requires
+flagged_vector-requires g c =
+    let r = c.requires in (omega arith, (omega (arith, c.if-src-at.true, r.inside), (r.passed, (r.flagged, r.room))))
+
 pub pass-requires : goal.pass-requires
 pass-requires g c =
     let mode = mode_numbered g.row.MODE in let src : List ℕ = c.args.src.now in let at : ℕ = c.args.at in let n : ℕ = g.row.N in let r = c.requires in

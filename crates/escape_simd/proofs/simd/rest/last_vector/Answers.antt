@@ -1,7 +1,8 @@
-use Rattle.std.proofs.Common.{◌≡◌, ℕ, ◌+◌, ◌-◌, [], ◌++◌, not, nat_eq, List, length, refl, ap, subst, ◌∙◌, arith}
+use Rattle.std.proofs.Common.{◌≡◌, ℕ, ◌+◌, ◌-◌, [], ◌++◌, not, nat_eq, List, length, refl, sym, ap, subst, ◌∙◌, arith}
 use denote.Param.{number, value_of}
+use Rattle.escape_lanes.specs.Written.{bytes_of}
 use Rattle.escape_simd.specs.Modes.{mode_numbered}
-use Rattle.escape_simd.specs.Stretch.{Stretch, rest_slack}
+use Rattle.escape_simd.specs.Stretch.{Stretch, IsVectorAt, rest_slack}
 use Rattle.escape_simd.proofs.Stretches.{standing, ended}
 use Rattle.escape_simd.proofs.Rows.{row-written}
 use Rattle.escape_simd.proofs.RestLemmas.{zeros, held-once, rest-narrow, rest-slack-some}
@@ -21,6 +22,29 @@ whole_as_slice-put g c = let few = g.met.V.Vector.few in omega (arith, few)
 
 pub shared_whole_as_slice-as_flattened : goal.shared_whole_as_slice-as_flattened
 shared_whole_as_slice-as_flattened g c = let few = g.met.V.Vector.few in omega (arith, few)
+
+pub vector_apart-requires : goal.vector_apart-requires
+vector_apart-requires g c =
+    let mode = mode_numbered g.row.MODE in let src : List ℕ = c.args.src.now in let at : ℕ = c.args.at in let n : ℕ = g.row.N in let r = c.requires in
+    let bits = g.V.Flags.BitMask.BitMask.bits c.load_rest-v.result.1 in
+    let w = c.padded-source.ensures in let b = ap length w.bytes in
+    let l = c.as_flattened.ensures.len in (
+      omega arith,
+      (
+        subst (λ xs. IsVectorAt mode n xs c.padded-source.result.base (c.padded-source.result.base + length c.padded-source.result.bytes.now) at (length src - at) at c.args.to (length (bytes_of c.args.target.now)) bits) (sym w.text) (record {
+          count = g.met.V.Flags.BitMask.BitMask.count c.load_rest-v.result.1 ∙ g.met.V.Vector.flag_width;
+          flags = c.load_rest-v.ensures.flagged;
+          few = omega (arith, r.few);
+          inside = omega (arith, r.inside);
+          after = omega arith;
+          before = omega (arith, r.inside, c.if-at-src.false);
+          base = omega (arith, w.base);
+          held = omega (arith, w.base, b, l);
+          room = r.room;
+        }),
+        (λ e. omega (arith, r.narrow e), λ k s. omega arith),
+      ),
+    )
 
 pub returns-then-not-all_zero-clause-stretch : goal.returns-then-not-all_zero-clause-stretch
 returns-then-not-all_zero-clause-stretch g c =

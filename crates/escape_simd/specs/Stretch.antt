@@ -1,6 +1,7 @@
 -- What a stretch of a text did to a target, and what it cost.
-use Rattle.std.specs.Prelude.{◌≡◌, ℕ, ◌+◌, ◌-◌, ◌/◌, ◌<◌, ◌≤◌, Bool, true, false, List, ◌++◌, length, take, drop, slice_index, slice_index_or, if◌then◌else◌}
+use Rattle.std.specs.Prelude.{◌≡◌, ℕ, ◌+◌, ◌-◌, ◌/◌, ◌<◌, ◌≤◌, Bool, true, false, List, ◌++◌, length, take, drop, map, slice_index, slice_index_or, if◌then◌else◌}
 use Rattle.std.specs.List.{prefix_len}
+use Rattle.escape_lanes.specs.Bits.{none_set}
 use Rattle.escape_lanes.specs.Mode.{Mode, json, html, script}
 use Rattle.escape_lanes.specs.Replacement.{needs_escape}
 use Rattle.escape_lanes.specs.Written.{bytes_of, stored_of, escaped_of, quotes_of, IsSameSlice}
@@ -50,6 +51,11 @@ stored_lanes exact n taken = if exact then taken else n
 pub record HoldsFlags (mode : Mode) (src : List ℕ) (at taken from : ℕ) (bits : List Bool) : Type 0 where
   pub set : (k : ℕ) → slice_index_or bits k false ≡ true → (k < taken) × (needs_escape mode (slice_index src (at + k)) ≡ true)
   pub unset : (k : ℕ) → slice_index_or bits k false ≡ false → from ≤ at + k → k < taken → needs_escape mode (slice_index src (at + k)) ≡ false
+
+-- the first n lanes of a vector are the text's bytes from `at` on, and none of its lanes needs an escape
+pub record HoldsClean (mode : Mode) (n : ℕ) (src : List ℕ) (at : ℕ) (lanes : List ℕ) : Type 0 where
+  pub loaded : take n lanes ≡ take n (drop at src)
+  pub clean : none_set (map (needs_escape mode) lanes) ≡ true
 
 -- what stands for a byte is told by that byte alone
 abbrev pub IsByteWise : Mode → Type 0

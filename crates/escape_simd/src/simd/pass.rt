@@ -1,11 +1,9 @@
 //! Clean vectors of a text: stored as they are.
-ghost use Rattle.std.specs.Prelude.{◌≡◌, ℕ, ◌+◌, ◌*◌, ◌≤◌, true, length, take, drop, map};
-ghost use Rattle.escape_lanes.specs.Bits.{none_set};
-ghost use Rattle.escape_lanes.specs.Replacement.{needs_escape};
+ghost use Rattle.std.specs.Prelude.{◌≡◌, ℕ, ◌+◌, ◌*◌, ◌≤◌, length, drop};
 ghost use Rattle.escape_lanes.specs.Written.{bytes_of, stored_of};
 ghost use Rattle.escape_simd.specs.Modes.{mode_numbered};
 ghost use Rattle.escape_simd.specs.Runs.{run_count};
-ghost use Rattle.escape_simd.specs.Stretch.{Stretch};
+ghost use Rattle.escape_simd.specs.Stretch.{Stretch, HoldsClean};
 
 use crate::simd::classify::{Vector, store_whole};
 use escape_lanes::simd::Flags;
@@ -21,8 +19,7 @@ pub(crate) fn pass<V: Vector<N>, const MODE: u8, const N: usize>(
     v: &V,
 )
     requires inside { at + N ≤ length src.now }
-    requires loaded { take N (V.lanes v.now) ≡ take N (drop at src.now) }
-    requires clean { none_set (map (needs_escape (mode_numbered MODE)) (V.lanes v.now)) ≡ true }
+    requires clean { HoldsClean (mode_numbered MODE) N src.now at (V.lanes v.now) }
     requires room { to + N ≤ length (bytes_of target.old) }
     ensures stretch { Stretch (mode_numbered MODE) 8 src.now
         target.old target.new at (at + N) to (to + N) }
@@ -47,10 +44,8 @@ pub(crate) fn pass_two<V: Vector<N>, const MODE: u8, const N: usize>(
     v2: &V,
 )
     requires inside { at + 2 * N ≤ length src.now }
-    requires loaded1 { take N (V.lanes v1.now) ≡ take N (drop at src.now) }
-    requires loaded2 { take N (V.lanes v2.now) ≡ take N (drop (at + N) src.now) }
-    requires clean1 { none_set (map (needs_escape (mode_numbered MODE)) (V.lanes v1.now)) ≡ true }
-    requires clean2 { none_set (map (needs_escape (mode_numbered MODE)) (V.lanes v2.now)) ≡ true }
+    requires clean1 { HoldsClean (mode_numbered MODE) N src.now at (V.lanes v1.now) }
+    requires clean2 { HoldsClean (mode_numbered MODE) N src.now (at + N) (V.lanes v2.now) }
     requires room { to + 2 * N ≤ length (bytes_of target.old) }
     ensures stretch { Stretch (mode_numbered MODE) 8 src.now
         target.old target.new at (at + 2 * N) to (to + 2 * N) }

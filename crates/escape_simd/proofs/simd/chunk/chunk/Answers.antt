@@ -46,10 +46,10 @@ pass_two-requires g c =
       (
         omega (arith, inside),
         (
-          c.load-v1.ensures g.row.N (omega arith) (omega (arith, inside)),
+          record { loaded = c.load-v1.ensures g.row.N (omega arith) (omega (arith, inside)); clean = ap none_set (sym c.flags-flags1.ensures.lanes) ∙ nones.0 },
           (
-            c.load-v2.ensures g.row.N (omega arith) (omega (arith, inside)),
-            (ap none_set (sym c.flags-flags1.ensures.lanes) ∙ nones.0, (ap none_set (sym c.flags-flags2.ensures.lanes) ∙ nones.1, omega (arith, r, c.requires.room, inside))),
+            record { loaded = c.load-v2.ensures g.row.N (omega arith) (omega (arith, inside)); clean = ap none_set (sym c.flags-flags2.ensures.lanes) ∙ nones.1 },
+            omega (arith, r, c.requires.room, inside),
           ),
         ),
       ),
@@ -67,10 +67,13 @@ pass_two-requires-2 g c =
       (
         omega (arith, inside),
         (
-          c.load-v3.ensures g.row.N (omega arith) (omega (arith, inside)),
+          record { loaded = c.load-v3.ensures g.row.N (omega arith) (omega (arith, inside)); clean = ap none_set (sym c.flags-flags3.ensures.lanes) ∙ nones.2 },
           (
-            c.load-v4.ensures g.row.N (omega arith) (omega (arith, inside)) ∙ ap (λ k. take g.row.N (drop k src)) (sym e),
-            (ap none_set (sym c.flags-flags3.ensures.lanes) ∙ nones.2, (ap none_set (sym c.flags-flags4.ensures.lanes) ∙ nones.3, omega (arith, r, c.requires.room, inside, c.pass_two.ensures.stretch.same_slice.len))),
+            record {
+              loaded = c.load-v4.ensures g.row.N (omega arith) (omega (arith, inside)) ∙ ap (λ k. take g.row.N (drop k src)) (sym e);
+              clean = ap none_set (sym c.flags-flags4.ensures.lanes) ∙ nones.3;
+            },
+            omega (arith, r, c.requires.room, inside, c.pass_two.ensures.stretch.same_slice.len),
           ),
         ),
       ),

@@ -38,10 +38,10 @@ pass_two-requires g c =
       (
         omega (arith, inside),
         (
-          c.load-v1.ensures g.row.N (omega arith) (omega (arith, inside)),
+          record { loaded = c.load-v1.ensures g.row.N (omega arith) (omega (arith, inside)); clean = ap none_set (sym f1.ensures.lanes) ∙ nones.0 },
           (
-            c.load-v2.ensures g.row.N (omega arith) (omega (arith, inside)),
-            (ap none_set (sym f1.ensures.lanes) ∙ nones.0, (ap none_set (sym f2.ensures.lanes) ∙ nones.1, omega (arith, r, c.requires.room, inside))),
+            record { loaded = c.load-v2.ensures g.row.N (omega arith) (omega (arith, inside)); clean = ap none_set (sym f2.ensures.lanes) ∙ nones.1 },
+            omega (arith, r, c.requires.room, inside),
           ),
         ),
       ),

@@ -38,8 +38,8 @@ pass-requires g c =
       (
         omega (arith, c.requires.inside),
         (
-          c.load-v.ensures g.row.N (omega arith) (omega (arith, c.requires.inside)),
-          (ap none_set (sym c.flags-flags.ensures.lanes) ∙ sym c.none.ensures ∙ c.if-not-none.false, omega (arith, r, c.requires.room, c.requires.inside)),
+          record { loaded = c.load-v.ensures g.row.N (omega arith) (omega (arith, c.requires.inside)); clean = ap none_set (sym c.flags-flags.ensures.lanes) ∙ sym c.none.ensures ∙ c.if-not-none.false },
+          omega (arith, r, c.requires.room, c.requires.inside),
         ),
       ),
     )

@@ -9,27 +9,43 @@ use Rattle.escape_simd.proofs.simd.few.written_few.Goals as goal
 
 pub written_two-requires-clause-clean1 : goal.written_two-requires-clause-clean1
 written_two-requires-clause-clean1 g c =
+    let lanes : List ℕ = g.V.Vector.lanes c.load_at-v1.result in
     let t = g.V.Flags.Flags.truths in let w = g.met.V.Flags.Flags.width in
     let nones = none_set-joined (t c.flags-flags1.result) (t c.flags-flags2.result) (w c.flags-flags1.result ∙ sym (w c.flags-flags2.result)) (ap none_set (sym c.join.ensures) ∙ sym c.none.ensures ∙ c.if-not-none.false) in
-    ap none_set (sym c.flags-flags1.ensures.lanes) ∙ nones.0
+    record {
+      loaded = take_all g.row.N lanes (omega (arith, g.met.V.Vector.width c.load_at-v1.result)) ∙ c.load_at-v1.ensures;
+      clean = ap none_set (sym c.flags-flags1.ensures.lanes) ∙ nones.0;
+    }
 
 pub written_two-requires-clause-clean2 : goal.written_two-requires-clause-clean2
 written_two-requires-clause-clean2 g c =
+    let lanes : List ℕ = g.V.Vector.lanes c.load_at-v2.result in
     let t = g.V.Flags.Flags.truths in let w = g.met.V.Flags.Flags.width in
     let nones = none_set-joined (t c.flags-flags1.result) (t c.flags-flags2.result) (w c.flags-flags1.result ∙ sym (w c.flags-flags2.result)) (ap none_set (sym c.join.ensures) ∙ sym c.none.ensures ∙ c.if-not-none.false) in
-    ap none_set (sym c.flags-flags2.ensures.lanes) ∙ nones.1
+    record {
+      loaded = take_all g.row.N lanes (omega (arith, g.met.V.Vector.width c.load_at-v2.result)) ∙ c.load_at-v2.ensures;
+      clean = ap none_set (sym c.flags-flags2.ensures.lanes) ∙ nones.1;
+    }
 
 pub written_three-requires-clause-clean1 : goal.written_three-requires-clause-clean1
 written_three-requires-clause-clean1 g c =
+    let lanes : List ℕ = g.V.Vector.lanes c.load_at-v1.result in
     let t = g.V.Flags.Flags.truths in let w = g.met.V.Flags.Flags.width in
     let nones = none_set-joined (t c.flags-flags1.result) (t c.flags-flags2.result) (w c.flags-flags1.result ∙ sym (w c.flags-flags2.result)) (ap none_set (sym c.join.ensures) ∙ sym c.none.ensures ∙ c.if-not-none.false) in
-    ap none_set (sym c.flags-flags1.ensures.lanes) ∙ nones.0
+    record {
+      loaded = take_all g.row.N lanes (omega (arith, g.met.V.Vector.width c.load_at-v1.result)) ∙ c.load_at-v1.ensures;
+      clean = ap none_set (sym c.flags-flags1.ensures.lanes) ∙ nones.0;
+    }
 
 pub written_three-requires-clause-clean2 : goal.written_three-requires-clause-clean2
 written_three-requires-clause-clean2 g c =
+    let lanes : List ℕ = g.V.Vector.lanes c.load_at-v2.result in
     let t = g.V.Flags.Flags.truths in let w = g.met.V.Flags.Flags.width in
     let nones = none_set-joined (t c.flags-flags1.result) (t c.flags-flags2.result) (w c.flags-flags1.result ∙ sym (w c.flags-flags2.result)) (ap none_set (sym c.join.ensures) ∙ sym c.none.ensures ∙ c.if-not-none.false) in
-    ap none_set (sym c.flags-flags2.ensures.lanes) ∙ nones.1
+    record {
+      loaded = take_all g.row.N lanes (omega (arith, g.met.V.Vector.width c.load_at-v2.result)) ∙ c.load_at-v2.ensures;
+      clean = ap none_set (sym c.flags-flags2.ensures.lanes) ∙ nones.1;
+    }
 
 pub format_flagged-requires-then-not-all_zero-clause-flagged1 : goal.format_flagged-requires-then-not-all_zero-clause-flagged1
 format_flagged-requires-then-not-all_zero-clause-flagged1 g c =

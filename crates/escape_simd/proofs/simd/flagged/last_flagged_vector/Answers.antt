@@ -23,7 +23,7 @@ pass-requires g c =
     let bytes : IsClean mode (take n (drop at src)) = subst (λ k. IsClean mode (take k (drop at src))) e (held-none mode src at n at bits r.flagged (omega arith) r.inside (sym c.all_zero.ensures ∙ c.if-all_zero.true)) in
     let clean = clean_none mode lanes (subst (IsClean mode) (sym loaded ∙ take_all n lanes (omega (arith, g.met.V.Vector.width c.load-v.result))) bytes) in
     let room = ap (room_from mode src) c.if-from-at.true in
-    (omega arith, (r.inside, (loaded, (clean, omega (arith, long, room, r.room, r.inside)))))
+    (omega arith, (r.inside, (record { loaded = loaded; clean = clean }, omega (arith, long, room, r.room, r.inside))))
 
 pub returns-then-src-at-clause-stretch : goal.returns-then-src-at-clause-stretch
 returns-then-src-at-clause-stretch g c =

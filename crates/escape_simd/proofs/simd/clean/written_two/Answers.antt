@@ -1,21 +1,18 @@
-use Rattle.std.proofs.Common.{ℕ, ◌+◌, true, true≢false, length, ◌∙◌, arith}
+use Rattle.std.proofs.Common.{rules, ℕ, ◌+◌, true, true≢false, length, ap, arith}
 use Rattle.escape_simd.specs.Modes.{mode_numbered}
 use Rattle.escape_simd.proofs.Stretches.{ended}
 use Rattle.escape_simd.proofs.Whole.{IsQuoted, whole_written}
-use Rattle.escape_simd.proofs.simd.clean.quoted_two.Goals as goal
+use Rattle.escape_simd.proofs.simd.clean.written_two.Goals as goal
 
-pub returns-clause-same_slice : goal.returns-clause-same_slice
-returns-clause-same_slice g c =
-    let q = c.quote-open.ensures.same_slice in let s = c.pass_over.ensures.same_slice in let r = c.quote.ensures.same_slice in
-    record { reference = r.reference ∙ s.reference ∙ q.reference; len = r.len ∙ s.len ∙ q.len }
-
-pub returns-clause-written : goal.returns-clause-written
-returns-clause-written g c =
+pub returns : goal.returns
+returns g c =
     let mode = mode_numbered g.row.MODE in let n : ℕ = g.row.N in let several = g.met.V.Vector.several in
     let q = c.quote-open.ensures in let r = c.quote.ensures in
-    let before : IsQuoted {N = n} mode c.args.target.now c.quote-open.new.target 0 c.quote-open.result =
+    let before : IsQuoted {N = n} mode c.new-target.result c.quote-open.new.target 0 c.quote-open.result =
     record { same_slice = q.same_slice; ends = q.end; written = q.written; kept = q.kept; stored = q.stored; escaped = q.escaped; quotes = q.quotes } in
     let after : IsQuoted {N = n} mode c.pass_over.new.target c.quote.new.target (c.quote-open.result + length c.args.src.now) c.quote.result =
     record { same_slice = r.same_slice; ends = r.end; written = r.written; kept = r.kept; stored = r.stored; escaped = r.escaped; quotes = r.quotes } in
     let whole = ended c.pass_over.ensures c.requires.whole (omega (arith, c.requires.whole)) in
-    whole_written {exact = true} before whole after c.requires.room (λ e. absurd (true≢false e)) (omega (arith, several))
+    let l = ap length c.new-target.ensures.bytes in
+    let w = whole_written {exact = true} before whole after (omega (arith, l, c.requires.room)) (λ e. absurd (true≢false e)) (omega (arith, several)) in
+    search (rules, w)

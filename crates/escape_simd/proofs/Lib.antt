@@ -7,6 +7,7 @@ pub mod Costs
 pub mod Whole
 pub mod Escapes
 pub mod Alone
+pub mod Each
 pub mod Turns
 pub mod RestLemmas
 pub mod Rows

@@ -250,9 +250,28 @@ module _ (mode : Mode) where
           let h = ap (run_count mode) here in let a = ap (run_count_after mode true) here in
           omega (arith, t, f, h, a)
 
+      -- it is passed alone
+      pub passed_clean-here : passed mode (drop i src) ≡ 1
+      passed_clean-here = ap (passed mode) here ∙ passed-clean mode (get_or src i 0) (drop (i + 1) src) clean
+
+      -- it is not escaped
+      pub escaped_clean-here : escaped_count mode (drop i src) ≡ escaped_count mode (drop (i + 1) src)
+      escaped_clean-here = ap (escaped_count mode) here ∙ escaped_one [] (get_or src i 0) (drop (i + 1) src) clean
+
+      -- it begins no run
+      pub runs_clean-here : run_count mode (drop i src) ≡ run_count mode (drop (i + 1) src)
+      runs_clean-here = ap (run_count mode) here ∙ runs-clean (get_or src i 0) (drop (i + 1) src) mode false clean
+
       -- a run ends there
       pub run_end-stop : run_end mode src i ≡ i
       run_end-stop = let e = prefix_len-drop_no (needs_escape mode) src i 0 inside clean in omega (arith, e)
+
+    -- one step on no more runs begin
+    pub runs-step : run_count mode (drop (i + passed mode (drop i src)) src) ≤ run_count mode (drop i src)
+    runs-step = elim (cases_Bool (needs_escape mode (get_or src i 0))) [
+      | inl needed ↦ let f = first-here needed in let most = runs_after-≤ (drop (i + passed mode (drop i src)) src) in omega (arith, f, most)
+      | inr clean ↦ let one = ap (λ k. run_count mode (drop (i + k) src)) (passed_clean-here clean) in let same = runs_clean-here clean in omega (arith, one, same)
+    ]
 
   -- the same at the end
   module _ (src : List ℕ) (i : ℕ) (over : length src ≤ i) where

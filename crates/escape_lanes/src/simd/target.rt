@@ -1,5 +1,5 @@
 //! The bytes that a kernel writes to, and how often it did.
-ghost use Rattle.std.specs.Prelude.{◌≡◌, ℕ, ◌+◌, ◌<◌, ◌≤◌, length, slice_set, take};
+ghost use Rattle.std.specs.Prelude.{◌≡◌, ℕ, ◌+◌, ◌<◌, ◌≤◌, length, slice_set, take, if◌then◌else◌};
 ghost use Rattle.std.proofs.Math.Seq.{paste};
 ghost use Rattle.escape_lanes.specs.Written.{bytes_of, stored_of, escaped_of, quotes_of, IsOver, IsSameSlice};
 
@@ -135,10 +135,27 @@ impl<'a, const N: usize> Target<'a, N> {
         ensures escaped { escaped_of self.new ≡ escaped_of self.old + 1 }
         ensures quotes { quotes_of self.new ≡ quotes_of self.old }
     {
+        self.put_word(at, entry, true);
+    }
+
+    /// Writes the eight bytes of a word at `at`: those of an escape, or of a byte that stands for itself.
+    ///
+    /// The target has eight bytes from `at` on.
+    #[inline(always)]
+    pub fn put_word(&mut self, at: usize, word: &[u8; 8], escape: bool)
+        requires { at + 8 ≤ length (bytes_of self.old) }
+        ensures same_slice { IsSameSlice self.old self.new }
+        ensures bytes { bytes_of self.new ≡ paste (bytes_of self.old) at word.now 8 }
+        ensures stored { stored_of self.new ≡ stored_of self.old }
+        ensures escaped { escaped_of self.new ≡ escaped_of self.old + (if escape then 1 else 0) }
+        ensures quotes { quotes_of self.new ≡ quotes_of self.old }
+    {
         // A copy from a local is one move of eight bytes: it can't overlap the target.
-        let bytes = *entry;
+        let bytes = *word;
         self.slice[at..at + 8].copy_from_slice(&bytes);
-        self.escaped.raise();
+        if escape {
+            self.escaped.raise();
+        }
     }
 
     /// Writes a quotation mark, 0x22, at `at`.

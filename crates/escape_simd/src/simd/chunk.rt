@@ -11,19 +11,16 @@ use crate::simd::classify::Vector;
 use crate::simd::flagged::{four_with_runs, last_flagged_vector, two_with_runs};
 use crate::simd::pass::{pass, pass_two};
 use crate::simd::source::Source;
-use crate::simd::util::run_on;
 use escape_lanes::simd::Flags;
 use escape_lanes::simd::target::{Target, Ticks};
 
-/// One vector of the text, and where `long` what is left of a run that reaches past it. Answers the places
-/// reached.
+/// One vector of the text. Answers the places reached.
 #[inline(always)]
 pub(crate) fn whole_vector<V: Vector<N>, const MODE: u8, const N: usize, const EXACT: bool>(
     source: &Source<'_>,
     at: usize,
     target: &mut Target<'_, N>,
     to: usize,
-    long: bool,
     ticks: &mut Ticks,
 ) -> (usize, usize)
     requires whole { source.now.base ≡ 0 }
@@ -41,7 +38,7 @@ pub(crate) fn whole_vector<V: Vector<N>, const MODE: u8, const N: usize, const E
     let flags = v.flags(MODE, ticks);
     if !flags.none() {
         let mask = flags.bitmask();
-        let (next, end) = last_flagged_vector::<V, MODE, N, EXACT>(
+        return last_flagged_vector::<V, MODE, N, EXACT>(
             source.text,
             at,
             at,
@@ -50,24 +47,18 @@ pub(crate) fn whole_vector<V: Vector<N>, const MODE: u8, const N: usize, const E
             mask,
             ticks,
         );
-        if long {
-            return run_on::<MODE, N>(source.text, next, target, end);
-        }
-        return (next, end);
     }
     pass::<V, MODE, N>(source.text, at, target, to, &v);
     (at + N, to + N)
 }
 
-/// Two vectors of the text, classified at once, since most are clean, and where `long` what is left of a
-/// run that reaches past them. Answers the places reached.
+/// Two vectors of the text, classified at once, since most are clean. Answers the places reached.
 #[inline(always)]
 pub(crate) fn pair<V: Vector<N>, const MODE: u8, const N: usize, const EXACT: bool>(
     source: &Source<'_>,
     at: usize,
     target: &mut Target<'_, N>,
     to: usize,
-    long: bool,
     ticks: &mut Ticks,
 ) -> (usize, usize)
     requires whole { source.now.base ≡ 0 }
@@ -87,7 +78,7 @@ pub(crate) fn pair<V: Vector<N>, const MODE: u8, const N: usize, const EXACT: bo
     let flags2 = v2.flags(MODE, ticks);
     if !flags1.join(&flags2).none() {
         let (mask1, mask2) = (flags1.bitmask(), flags2.bitmask());
-        let (next, end) = two_with_runs::<V, MODE, N, EXACT>(
+        return two_with_runs::<V, MODE, N, EXACT>(
             source.text,
             at,
             target,
@@ -96,17 +87,12 @@ pub(crate) fn pair<V: Vector<N>, const MODE: u8, const N: usize, const EXACT: bo
             mask2,
             ticks,
         );
-        if long {
-            return run_on::<MODE, N>(source.text, next, target, end);
-        }
-        return (next, end);
     }
     pass_two::<V, MODE, N>(source.text, at, target, to, &v1, &v2);
     (at + 2 * N, to + 2 * N)
 }
 
-/// Four vectors of the text, classified at once, since most are clean, and what is left of a run that
-/// reaches past them. Answers the places reached.
+/// Four vectors of the text, classified at once, since most are clean. Answers the places reached.
 #[inline(always)]
 pub(crate) fn chunk<V: Vector<N>, const MODE: u8, const N: usize, const EXACT: bool>(
     source: &Source<'_>,
@@ -136,7 +122,7 @@ pub(crate) fn chunk<V: Vector<N>, const MODE: u8, const N: usize, const EXACT: b
     let flags3 = v3.flags(MODE, ticks);
     let flags4 = v4.flags(MODE, ticks);
     if !flags1.join(&flags2).join(&flags3.join(&flags4)).none() {
-        let (next, end) = four_with_runs::<V, MODE, N, EXACT>(
+        return four_with_runs::<V, MODE, N, EXACT>(
             source.text,
             at,
             target,
@@ -147,7 +133,6 @@ pub(crate) fn chunk<V: Vector<N>, const MODE: u8, const N: usize, const EXACT: b
             flags4.bitmask(),
             ticks,
         );
-        return run_on::<MODE, N>(source.text, next, target, end);
     }
     pass_two::<V, MODE, N>(source.text, at, target, to, &v1, &v2);
     pass_two::<V, MODE, N>(source.text, third, target, to + 2 * N, &v3, &v4);

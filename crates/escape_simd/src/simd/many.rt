@@ -48,7 +48,6 @@ pub(crate) fn escape_many<
             at,
             target,
             end,
-            CHUNK == 2,
             ticks,
         );
         at = next;
@@ -60,7 +59,6 @@ pub(crate) fn escape_many<
             at,
             target,
             end,
-            CHUNK == 1,
             ticks,
         );
         at = next;

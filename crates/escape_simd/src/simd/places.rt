@@ -1,4 +1,4 @@
-//! Where a run of escapes goes on: told by its end, or by the table.
+//! Where a run of escapes goes on: told by the table.
 ghost use Rattle.std.specs.Prelude.{◌≡◌, ℕ, Bool, ◌&&◌, nat_lt, length, slice_index};
 ghost use Rattle.escape_lanes.specs.Replacement.{needs_escape};
 ghost use Rattle.escape_simd.specs.Modes.{mode_numbered};
@@ -11,21 +11,6 @@ pub(crate) trait Flagged {
 
     fn is_flagged(&self, at: usize) -> bool
         ensures { result ≡ flagged self.now at };
-}
-
-/// Up to a place that is known: the run's end.
-#[derive(Drop)]
-pub(crate) struct Until {
-    pub end: usize,
-}
-
-impl Flagged for Until {
-    ghost flagged = { λ u at. nat_lt at u.end };
-
-    #[inline(always)]
-    fn is_flagged(&self, at: usize) -> bool {
-        at < self.end
-    }
 }
 
 /// By the table of the mode numbered `MODE`.

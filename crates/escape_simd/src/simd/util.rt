@@ -1,50 +1,18 @@
-//! The run of escapes.
+//! The run of escapes, and what stands for bytes many of which need one.
 ghost use Rattle.std.specs.Prelude.{◌≡◌, ℕ, ◌+◌, ◌-◌, ◌*◌, ◌<◌, ◌≤◌, ◌++◌, true, false, IsTrue, length, take, drop, slice_index, slice_range};
-ghost use Rattle.escape_lanes.specs.Entry.{entry_count, entry_bytes};
-ghost use Rattle.escape_lanes.specs.Mode.{mode_of, script};
+ghost use Rattle.escape_lanes.specs.Mode.{mode_of};
 ghost use Rattle.escape_lanes.specs.Replacement.{needs_escape};
 ghost use Rattle.escape_lanes.specs.Written.{bytes_of, stored_of, escaped_of, quotes_of, IsSameSlice};
 ghost use Rattle.escape_simd.specs.Modes.{mode_numbered};
-ghost use Rattle.escape_simd.specs.Output.{inner, passed, begins_separator};
+ghost use Rattle.escape_simd.specs.Output.{inner, passed};
 ghost use Rattle.escape_simd.specs.Runs.{run_count, run_count_after};
-ghost use Rattle.escape_simd.specs.Stretch.{Stretch, run_end, rest_length, IsByteWise, CanRun, look_ahead, room_from, run_reach};
+ghost use Rattle.escape_simd.specs.Stretch.{Stretch, run_end, rest_length, IsByteWise, CanRun, Passed, look_ahead, room_from, run_reach};
 
 use crate::simd::classify::{HTML_MODE, JSON_MODE, SCRIPT_MODE};
-use crate::simd::entry::{entry, is_separator, separator_entry};
+use crate::simd::entry::{entry, is_separator, separator_entry, word};
 use crate::simd::places::{ByTable, Flagged};
 use crate::simd::source::Source;
 use escape_lanes::simd::target::Target;
-
-/// Writes what stands for the byte at `at`, with which no separator begins: its entry. Answers the place
-/// after it.
-#[inline(always)]
-fn escape_alone<const MODE: u8, const N: usize>(
-    _text: &[u8],
-    _at: usize,
-    entry: &(u8, [u8; 8]),
-    target: &mut Target<'_, N>,
-    to: usize,
-) -> usize
-    requires inside { _at < length _text.now }
-    requires needed { IsTrue (needs_escape (mode_numbered MODE) (slice_index _text.now _at)) }
-    requires alone { mode_numbered MODE ≡ script → begins_separator (drop _at _text.now) ≡ false }
-    requires count { entry.now.0 ≡ entry_count (mode_numbered MODE) (slice_index _text.now _at) }
-    requires bytes { entry.now.1 ≡ entry_bytes (mode_numbered MODE) (slice_index _text.now _at) }
-    requires room { to + 8 ≤ length (bytes_of target.old) }
-    ensures one { passed (mode_numbered MODE) (drop _at _text.now) ≡ 1 }
-    ensures stretch { (slack : ℕ)
-        → 8 ≤ slack
-        → Stretch (mode_numbered MODE) slack _text.now
-        target.old target.new _at (_at + 1) to result }
-    ensures kept { drop (result + run_reach (mode_numbered MODE)) (bytes_of target.new)
-        ≡ drop (result + run_reach (mode_numbered MODE)) (bytes_of target.old) }
-    ensures further { to ≤ result }
-    ensures escaped { escaped_of target.new ≡ escaped_of target.old + 1 }
-    ensures stored { stored_of target.new ≡ stored_of target.old }
-{
-    target.escape(to, &entry.1);
-    to + entry.0 as usize
-}
 
 /// Writes what stands for the byte at `at`, or for the separator that begins with it. Answers the
 /// places after both.
@@ -158,32 +126,68 @@ fn run_by_table<const MODE: u8, const N: usize>(
     run::<_, MODE, N>(&source, at, target, to, &flags)
 }
 
-/// Goes on with the run of escapes that is at `at`, if one is, by the table: so what is left of a run as
-/// long as several vectors takes no masks. It stops where a separator may begin.
+/// Writes what stands for the byte at `at`, be it an escape or the byte itself, or for the separator that
+/// begins with it. Answers the places after both.
 #[inline(always)]
-pub(crate) fn run_on<const MODE: u8, const N: usize>(
-    src: &[u8],
+fn escape_any<const MODE: u8, const N: usize>(
+    source: &Source<'_>,
     at: usize,
     target: &mut Target<'_, N>,
     to: usize,
 ) -> (usize, usize)
-    requires inside { at ≤ length src.now }
-    requires room { to + room_from (mode_numbered MODE) src.now at ≤ length (bytes_of target.old) }
-    ensures stretch { Stretch (mode_numbered MODE) 8 src.now target.old target.new at result.0 to result.1 }
-    ensures runs { run_count (mode_numbered MODE) (drop result.0 src.now)
-        ≤ run_count (mode_numbered MODE) (drop at src.now) }
+    requires inside { at < length source.now.text.now }
+    requires after { source.now.base ≤ at }
+    requires held { at + look_ahead (mode_numbered MODE) < source.now.base + length source.now.bytes.now }
+    requires room { to + 8 ≤ length (bytes_of target.old) }
+    ensures place { result.0 ≡ at + passed (mode_numbered MODE) (drop at source.now.text.now) }
+    ensures stretch { (slack : ℕ)
+        → 8 ≤ slack
+        → Stretch (mode_numbered MODE) slack source.now.text.now
+        target.old target.new at result.0 to result.1 }
+    ensures stored { stored_of target.new ≡ stored_of target.old }
+{
+    let b = source.byte(at);
+    if SCRIPT_MODE <= MODE && b == 0xe2 {
+        return escape::<MODE, N>(source, at, target, to);
+    }
+    let word = word::<MODE>(b);
+    // Whether it is an escape is for the count alone, and costs nothing.
+    target.put_word(to, word, entry::<MODE>(b).0 != 0);
+    (at + 1, to + word[7] as usize)
+}
+
+/// Writes what stands for the text's bytes from `at` up to `border`, one after another, and for what of a
+/// separator goes past it. Answers the places reached.
+///
+/// No branch hangs on what the bytes are: so where many of them need an escape it is faster than a mask.
+#[inline(always)]
+pub(crate) fn escape_each<const MODE: u8, const N: usize>(
+    source: &Source<'_>,
+    at: usize,
+    border: usize,
+    target: &mut Target<'_, N>,
+    to: usize,
+) -> (usize, usize)
+    requires some { at < border }
+    requires inside { border ≤ length source.now.text.now }
+    requires base { source.now.base ≤ at }
+    requires held { border + 2 ≤ source.now.base + length source.now.bytes.now }
+    requires room { to + room_from (mode_numbered MODE) source.now.text.now at ≤ length (bytes_of target.old) }
+    ensures stretch { (slack : ℕ)
+        → 8 ≤ slack
+        → Stretch (mode_numbered MODE) slack source.now.text.now
+        target.old target.new at result.0 to result.1 }
+    ensures passed { Passed (mode_numbered MODE) source.now.text.now border result.0 }
+    ensures runs { run_count (mode_numbered MODE) (drop result.0 source.now.text.now)
+        ≤ run_count (mode_numbered MODE) (drop at source.now.text.now) }
     ensures stored { stored_of target.new ≡ stored_of target.old }
 {
     let mut next = at;
     let mut end = to;
-    'run: while next < src.len() {
-        let entry = entry::<MODE>(src[next]);
-        // None, or e2 in script, for which one byte stands.
-        if entry.0 < 2 {
-            return (next, end);
-        }
-        end = escape_alone::<MODE, N>(src, next, entry, target, end);
-        next += 1;
+    'bytes: while next < border {
+        let (after, reached) = escape_any::<MODE, N>(source, next, target, end);
+        next = after;
+        end = reached;
     }
     (next, end)
 }

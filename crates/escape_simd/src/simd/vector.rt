@@ -1,56 +1,23 @@
 //! A vector of a text with its runs of escapes: one mask serves all of them.
-ghost use Rattle.std.specs.Prelude.{◌≡◌, ℕ, ◌+◌, ◌-◌, ◌<◌, ◌≤◌, true, false, length, take, drop, slice_index, slice_index_or};
-ghost use Rattle.escape_lanes.specs.Replacement.{needs_escape};
+ghost use Rattle.std.specs.Prelude.{◌≡◌, ℕ, ◌+◌, ◌-◌, ◌<◌, ◌≤◌, true, false, length, take, drop, slice_index_or};
 ghost use Rattle.escape_lanes.specs.Written.{bytes_of, stored_of};
 ghost use Rattle.escape_simd.specs.Modes.{mode_numbered};
 ghost use Rattle.escape_simd.specs.Runs.{run_count};
 ghost use Rattle.escape_simd.specs.Stretch.{Stretch, IsVectorAt, Passed, room_from};
 
 use crate::simd::classify::{Vector, store};
-use crate::simd::places::Until;
 use crate::simd::source::Source;
 use crate::simd::turn::turns;
-use crate::simd::util::run;
+use crate::simd::util::escape_each;
 use escape_lanes::simd::target::{Target, Ticks};
 use escape_lanes::simd::{Flags, LaneMask};
-
-/// The `taken` bytes of the text at `at`, each of which needs an escape: one run, whose end is known, so
-/// that no mask is asked. Answers the places reached.
-#[inline(always)]
-fn only_run<const MODE: u8, const N: usize>(
-    source: &Source<'_>,
-    at: usize,
-    taken: usize,
-    target: &mut Target<'_, N>,
-    to: usize,
-) -> (usize, usize)
-    requires some { 0 < taken }
-    requires inside { at + taken ≤ length source.now.text.now }
-    requires needed { (p : ℕ)
-        → at ≤ p
-        → p < at + taken
-        → needs_escape (mode_numbered MODE) (slice_index source.now.text.now p) ≡ true }
-    requires base { source.now.base ≤ at }
-    requires held { at + taken + 2 ≤ source.now.base + length source.now.bytes.now }
-    requires room { to + room_from (mode_numbered MODE) source.now.text.now at ≤ length (bytes_of target.old) }
-    ensures stretch { (slack : ℕ)
-        → 8 ≤ slack
-        → Stretch (mode_numbered MODE) slack source.now.text.now
-        target.old target.new at result.0 to result.1 }
-    ensures passed { Passed (mode_numbered MODE) source.now.text.now (at + taken) result.0 }
-    ensures runs { run_count (mode_numbered MODE) (drop result.0 source.now.text.now)
-        ≤ run_count (mode_numbered MODE) (drop at source.now.text.now) }
-    ensures stored { stored_of target.new ≡ stored_of target.old }
-{
-    let end = at + taken;
-    run::<_, MODE, N>(source, at, target, to, &Until { end })
-}
 
 /// The vector at `at`, which holds `taken` bytes of the text: these bytes from `from` on, and what of
 /// a separator goes past them. Answers the places reached.
 ///
 /// The vector `v` holds the text's bytes from `from` on. No place in the text waits for what is
-/// written: all are told by the one mask.
+/// written: all are told by the one mask. Where a quarter of its lanes is flagged, each byte is looked up
+/// instead.
 #[inline(always)]
 pub(crate) fn vector<V: Vector<N>, const MODE: u8, const N: usize, const EXACT: bool>(
     source: &Source<'_>,
@@ -83,8 +50,8 @@ pub(crate) fn vector<V: Vector<N>, const MODE: u8, const N: usize, const EXACT: 
     ensures classified { ticks.new + stored_of target.old + 1 ≡ ticks.old + stored_of target.new }
 {
     store::<V, N>(v, source.text, from, at + taken - from, EXACT, target, to);
-    if mask.count_set() == taken {
-        return only_run::<MODE, N>(source, from, taken, target, to);
+    if N / 4 <= mask.count_set() {
+        return escape_each::<MODE, N>(source, from, at + taken, target, to);
     }
     turns::<V, _, MODE, N, EXACT>(source, at, taken, from, target, to, mask, ticks)
 }

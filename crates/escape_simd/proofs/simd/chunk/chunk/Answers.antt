@@ -10,8 +10,8 @@ use Rattle.escape_simd.proofs.Stretches.{rest-bounds, onward, ended, widened}
 use Rattle.escape_simd.proofs.Lanes.{none_set-four, held-whole}
 use Rattle.escape_simd.proofs.simd.chunk.chunk.Goals as goal
 
-pub four_with_runs-next-requires : goal.four_with_runs-next-requires
-four_with_runs-next-requires g c =
+pub four_with_runs-requires : goal.four_with_runs-requires
+four_with_runs-requires g c =
     let mode = mode_numbered g.row.MODE in let src : List ℕ = c.args.source.now.text.now in let at : ℕ = c.args.at in let n : ℕ = g.row.N in let r = c.requires in
     let lanes = g.V.Vector.lanes in let bits = g.V.Flags.BitMask.BitMask.bits in let width = g.met.V.Vector.width in (
       omega arith,
@@ -79,19 +79,13 @@ pass_two-requires-2 g c =
       ),
     )
 
-pub returns-then-not-none-clause-stretch : goal.returns-then-not-none-clause-stretch
-returns-then-not-none-clause-stretch g c =
-    let exact = not (nat_eq (value_of (number g.row.EXACT)) 0) in
-    onward c.four_with_runs-next.ensures.stretch (widened (rest_slack exact g.row.N) (rest-slack-some exact g.row.N g.met.V.Vector.several) c.run_on.ensures.stretch)
-
 pub returns-then-not-none-clause-paid : goal.returns-then-not-none-clause-paid
 returns-then-not-none-clause-paid g c =
-    let several = g.met.V.Vector.several in
-    let e = c.four_with_runs-next.ensures in let on = c.run_on.ensures in
-    let v = vectors-least g.row.N (omega (arith, several)) 4 (c.run_on.result.0 - c.args.at) (omega (arith, e.passed.whole, on.stretch.forward)) in
+    let several = g.met.V.Vector.several in let e = c.four_with_runs.ensures in
+    let v = vectors-least g.row.N (omega (arith, several)) 4 (c.four_with_runs.result.0 - c.args.at) (omega (arith, e.passed.whole)) in
     record {
-      stored = omega (arith, e.stored, on.stored, on.runs, v);
-      classified = omega (arith, e.classified, on.stored, c.flags-flags1.ensures.tick, c.flags-flags2.ensures.tick, c.flags-flags3.ensures.tick, c.flags-flags4.ensures.tick);
+      stored = omega (arith, e.stored, v);
+      classified = omega (arith, e.classified, c.flags-flags1.ensures.tick, c.flags-flags2.ensures.tick, c.flags-flags3.ensures.tick, c.flags-flags4.ensures.tick);
     }
 
 pub returns-clause-paid : goal.returns-clause-paid

@@ -9,8 +9,8 @@ use Rattle.escape_simd.proofs.Stretches.{rest-bounds, onward, widened}
 use Rattle.escape_simd.proofs.Lanes.{none_set-joined, held-whole}
 use Rattle.escape_simd.proofs.simd.chunk.pair.Goals as goal
 
-pub two_with_runs-next-requires : goal.two_with_runs-next-requires
-two_with_runs-next-requires g c =
+pub two_with_runs-requires : goal.two_with_runs-requires
+two_with_runs-requires g c =
     let mode = mode_numbered g.row.MODE in let src : List ℕ = c.args.source.now.text.now in let at : ℕ = c.args.at in let n : ℕ = g.row.N in let r = c.requires in
     let lanes = g.V.Vector.lanes in let bits = g.V.Flags.BitMask.BitMask.bits in let width = g.met.V.Vector.width in (
       omega arith,
@@ -47,21 +47,6 @@ pass_two-requires g c =
       ),
     )
 
-pub returns-then-long-clause-stretch : goal.returns-then-long-clause-stretch
-returns-then-long-clause-stretch g c =
-    let exact = not (nat_eq (value_of (number g.row.EXACT)) 0) in
-    onward c.two_with_runs-next.ensures.stretch (widened (rest_slack exact g.row.N) (rest-slack-some exact g.row.N g.met.V.Vector.several) c.run_on.ensures.stretch)
-
-pub returns-then-long-clause-paid : goal.returns-then-long-clause-paid
-returns-then-long-clause-paid g c =
-    let several = g.met.V.Vector.several in
-    let e = c.two_with_runs-next.ensures in let on = c.run_on.ensures in
-    let v = vectors-least g.row.N (omega (arith, several)) 2 (c.run_on.result.0 - c.args.at) (omega (arith, e.passed.whole, on.stretch.forward)) in
-    record {
-      stored = omega (arith, e.stored, on.stored, on.runs, v);
-      classified = omega (arith, e.classified, on.stored, c.flags-flags1.ensures.tick, c.flags-flags2.ensures.tick);
-    }
-
 pub returns-clause-paid : goal.returns-clause-paid
 returns-clause-paid g c =
     let several = g.met.V.Vector.several in
@@ -79,8 +64,8 @@ returns-clause-stretch g c =
 
 pub returns-then-not-none-clause-paid : goal.returns-then-not-none-clause-paid
 returns-then-not-none-clause-paid g c =
-    let several = g.met.V.Vector.several in let e = c.two_with_runs-next.ensures in
-    let v = vectors-least g.row.N (omega (arith, several)) 2 (c.two_with_runs-next.result.0 - c.args.at) (omega (arith, e.passed.whole)) in
+    let several = g.met.V.Vector.several in let e = c.two_with_runs.ensures in
+    let v = vectors-least g.row.N (omega (arith, several)) 2 (c.two_with_runs.result.0 - c.args.at) (omega (arith, e.passed.whole)) in
     record {
       stored = omega (arith, e.stored, v);
       classified = omega (arith, e.classified, c.flags-flags1.ensures.tick, c.flags-flags2.ensures.tick);

@@ -24,33 +24,19 @@ store-requires g c =
       ),
     )
 
--- where as many lanes are set as bytes are taken, none of these was passed
-whole : (at taken from : ℕ) → at ≤ from → from < at + taken → ((k : ℕ) → k < taken → from ≤ at + k) → from ≡ at
-whole at taken from after before cleared = let c = cleared 0 (omega (arith, after, before)) in omega (arith, c, after)
+pub escape_each-requires : goal.escape_each-requires
+escape_each-requires g c =
+    let p = c.requires.place in
+    (omega arith, (p.before, (p.inside, (omega (arith, p.base, p.after), (omega (arith, p.held, p.few, g.met.V.Vector.several), omega (arith, p.room, c.store.ensures.same_slice.len))))))
 
-pub only_run-requires : goal.only_run-requires
-only_run-requires g c =
-    let mode = mode_numbered g.row.MODE in let src : List ℕ = c.args.source.now.text.now in let p = c.requires.place in
-    let bits = g.V.Flags.BitMask.BitMask.bits c.args.mask.now in
-    let all = sym c.count_set.ensures ∙ c.if-count_set-taken.true in
-    let here = whole c.args.at c.args.taken c.args.from p.after p.before (λ k h. c.requires.cleared k (set-all bits c.args.taken (λ i s. (p.flags.set i s).0) all k h)) in
-    (omega arith, (omega (arith, p.after, p.before), (omega (arith, here, p.inside), (λ q after before. held-all mode src c.args.at c.args.taken c.args.from bits p.flags all q (omega (arith, here, after)) (omega (arith, here, before)), (omega (arith, here, p.base), (omega (arith, here, p.held, p.few, g.met.V.Vector.several), omega (arith, p.room, c.store.ensures.same_slice.len)))))))
-
-pub returns-then-count_set-taken-clause-stretch : goal.returns-then-count_set-taken-clause-stretch
-returns-then-count_set-taken-clause-stretch g c slack eight narrow =
+pub returns-then-count_set-clause-stretch : goal.returns-then-count_set-clause-stretch
+returns-then-count_set-clause-stretch g c slack eight narrow =
     let exact = not (nat_eq (value_of (number g.row.EXACT)) 0) in
     let mode = mode_numbered g.row.MODE in let src : List ℕ = c.args.source.now.text.now in let p = c.requires.place in
     let r = rest-bounds mode src c.args.from in
     let low = stored-low exact g.row.N (c.args.at + c.args.taken - c.args.from) (rest_length mode src c.args.from) (length src - (c.args.at + c.args.taken)) slack (omega (arith, p.few, p.after)) (omega (arith, r, p.inside, p.before)) narrow in
     onward (stored_ahead mode slack exact src c.args.target.now c.store.new.target c.args.from (c.args.at + c.args.taken - c.args.from) c.args.to c.store.ensures (omega (arith, p.inside, p.before)) low)
-    (c.only_run.ensures.stretch slack eight)
-
-pub returns-then-count_set-taken-clause-passed : goal.returns-then-count_set-taken-clause-passed
-returns-then-count_set-taken-clause-passed g c =
-    let p = c.requires.place in let bits = g.V.Flags.BitMask.BitMask.bits c.args.mask.now in
-    let all = sym c.count_set.ensures ∙ c.if-count_set-taken.true in
-    let here = whole c.args.at c.args.taken c.args.from p.after p.before (λ k h. c.requires.cleared k (set-all bits c.args.taken (λ i s. (p.flags.set i s).0) all k h)) in
-    subst (λ k. Passed (mode_numbered g.row.MODE) c.args.source.now.text.now (k + c.args.taken) c.only_run.result.0) here c.only_run.ensures.passed
+    (c.escape_each.ensures.stretch slack eight)
 
 pub turns-requires : goal.turns-requires
 turns-requires g c =

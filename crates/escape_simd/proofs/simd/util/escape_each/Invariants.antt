@@ -1,0 +1,19 @@
+use Rattle.std.proofs.Common.{◌≡◌, ℕ, ◌-◌, ◌≤◌, drop}
+use Rattle.escape_lanes.specs.Written.{stored_of}
+use Rattle.escape_simd.specs.Modes.{mode_numbered}
+use Rattle.escape_simd.specs.Runs.{run_count}
+use Rattle.escape_simd.specs.Stretch.{Stretch, Passed}
+use Rattle.escape_simd.proofs.simd.util.escape_each.Given as goal
+
+abbrev pub invariant-bytes : goal.invariant-bytes
+invariant-bytes g l =
+    let mode = mode_numbered g.row.MODE in
+    record {
+      stretch : (slack : ℕ) → 8 ≤ slack → Stretch mode slack l.source.text.now l.initial.target l.target l.at l.next l.to l.end;
+      passed : l.border ≤ l.next → Passed mode l.source.text.now l.border l.next;
+      runs : run_count mode (drop l.next l.source.text.now) ≤ run_count mode (drop l.at l.source.text.now);
+      stored : stored_of l.target ≡ stored_of l.initial.target;
+    }
+
+abbrev pub decreases-bytes : goal.decreases-bytes
+decreases-bytes g l = l.border - l.next

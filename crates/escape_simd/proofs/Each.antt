@@ -10,13 +10,13 @@ use Rattle.escape_lanes.specs.Replacement.{needs_escape, replacement}
 use Rattle.escape_lanes.specs.Written.{bytes_of, escaped_of, quotes_of, IsSameSlice}
 use Rattle.escape_lanes.specs.declared.simd.target.Target.{Target}
 use Rattle.escape_lanes.proofs.EntryLemmas.{fewest≤entry_count, one≤fewest, entry_count-clean}
-use Rattle.escape_simd.specs.Output.{inner, begins_separator, passed, first_replacement}
+use Rattle.escape_simd.specs.Output.{inner, begins_separator, passed}
 use Rattle.escape_simd.specs.Runs.{escaped_count}
 use Rattle.escape_simd.specs.Stretch.{Stretch}
 use Rattle.escape_simd.proofs.Escapes.{begins-at, passed-alone, first-alone}
 use Rattle.escape_simd.proofs.ReplacementLemmas.{length-replacement}
 use Rattle.escape_simd.proofs.Stretches.{pasted, ended}
-use Rattle.escape_simd.proofs.Texts.{inner-here, escaped-here, escaped_clean-here, passed≤length}
+use Rattle.escape_simd.proofs.Texts.{inner-here, escaped-here, escaped_clean-here}
 
 -- no separator begins with another byte than e2
 pub other_byte : (src : List ℕ) (at : ℕ) → (get_or src at 0 ≡ 226 → ⊥) → begins_separator (drop at src) ≡ false

@@ -73,14 +73,6 @@ run_reach json = 6
 run_reach html = 6
 run_reach script = 7
 
--- A run of escapes can be written from `at` on: what says where it goes on is set there, is set only at bytes of
--- the text that need an escape, and what it looks at can be read.
-pub record CanRun (mode : Mode) (src : List ℕ) (flagged : ℕ → Bool) (at end_held : ℕ) : Type 0 where
-  pub begins : flagged at ≡ true
-  pub inside : (q : ℕ) → at ≤ q → flagged q ≡ true → q < length src
-  pub needed : (q : ℕ) → at ≤ q → flagged q ≡ true → needs_escape mode (slice_index src q) ≡ true
-  pub held : (q : ℕ) → at ≤ q → flagged q ≡ true → q + look_ahead mode < end_held
-
 -- how far past what the rest of a text becomes the stores of its last bytes reach: a vector, and where they
 -- are exact no more than an escape
 abbrev pub rest_slack : Bool → ℕ → ℕ

@@ -15,7 +15,6 @@ mod last;
 mod many;
 pub mod neon;
 mod pass;
-mod places;
 mod rest;
 mod short;
 mod source;

@@ -78,15 +78,7 @@ pub(crate) fn pair<V: Vector<N>, const MODE: u8, const N: usize, const EXACT: bo
     let flags2 = v2.flags(MODE, ticks);
     if !flags1.join(&flags2).none() {
         let (mask1, mask2) = (flags1.bitmask(), flags2.bitmask());
-        return two_with_runs::<V, MODE, N, EXACT>(
-            source.text,
-            at,
-            target,
-            to,
-            mask1,
-            mask2,
-            ticks,
-        );
+        return two_with_runs::<V, MODE, N, EXACT>(source.text, at, target, to, mask1, mask2, ticks);
     }
     pass_two::<V, MODE, N>(source.text, at, target, to, &v1, &v2);
     (at + 2 * N, to + 2 * N)

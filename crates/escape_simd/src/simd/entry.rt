@@ -7,8 +7,8 @@ ghost use Rattle.escape_simd.specs.Output.{begins_separator};
 use crate::simd::classify::{HTML_MODE, JSON_MODE};
 use crate::simd::source::Source;
 use escape_lanes::tables::{
-    LINE_SEPARATOR, PARAGRAPH_SEPARATOR, html_entry, html_word, json_entry, json_word, script_entry,
-    script_word,
+    LINE_SEPARATOR, PARAGRAPH_SEPARATOR, html_entry, html_word, json_entry, json_word,
+    script_entry, script_word,
 };
 
 /// How many bytes stand for the byte, 0 where it stands for itself, and these bytes with zeros

@@ -43,24 +43,12 @@ pub(crate) fn escape_many<
         end = reached;
     }
     'pairs: while 1 < CHUNK && 2 * N <= src.len() - at {
-        let (next, reached) = pair::<V, MODE, N, EXACT>(
-            &source,
-            at,
-            target,
-            end,
-            ticks,
-        );
+        let (next, reached) = pair::<V, MODE, N, EXACT>(&source, at, target, end, ticks);
         at = next;
         end = reached;
     }
     'vectors: while N <= src.len() - at {
-        let (next, reached) = whole_vector::<V, MODE, N, EXACT>(
-            &source,
-            at,
-            target,
-            end,
-            ticks,
-        );
+        let (next, reached) = whole_vector::<V, MODE, N, EXACT>(&source, at, target, end, ticks);
         at = next;
         end = reached;
     }

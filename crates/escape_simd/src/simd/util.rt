@@ -5,12 +5,11 @@ ghost use Rattle.escape_lanes.specs.Replacement.{needs_escape};
 ghost use Rattle.escape_lanes.specs.Written.{bytes_of, stored_of, escaped_of, quotes_of, IsSameSlice};
 ghost use Rattle.escape_simd.specs.Modes.{mode_numbered};
 ghost use Rattle.escape_simd.specs.Output.{inner, passed};
-ghost use Rattle.escape_simd.specs.Runs.{run_count, run_count_after};
-ghost use Rattle.escape_simd.specs.Stretch.{Stretch, run_end, rest_length, IsByteWise, CanRun, Passed, look_ahead, room_from, run_reach};
+ghost use Rattle.escape_simd.specs.Runs.{run_count};
+ghost use Rattle.escape_simd.specs.Stretch.{Stretch, run_end, IsByteWise, Passed, look_ahead, room_from, run_reach};
 
 use crate::simd::classify::{HTML_MODE, JSON_MODE, SCRIPT_MODE};
 use crate::simd::entry::{entry, is_separator, separator_entry, word};
-use crate::simd::places::{ByTable, Flagged};
 use crate::simd::source::Source;
 use escape_lanes::simd::target::Target;
 
@@ -33,10 +32,6 @@ pub(crate) fn escape<const MODE: u8, const N: usize>(
         → 8 ≤ slack
         → Stretch (mode_numbered MODE) slack source.now.text.now
         target.old target.new at result.0 to result.1 }
-    ensures kept { drop (result.1 + run_reach (mode_numbered MODE)) (bytes_of target.new)
-        ≡ drop (result.1 + run_reach (mode_numbered MODE)) (bytes_of target.old) }
-    ensures further { to ≤ result.1 }
-    ensures escaped { escaped_of target.new ≡ escaped_of target.old + 1 }
     ensures stored { stored_of target.new ≡ stored_of target.old }
 {
     if SCRIPT_MODE <= MODE && is_separator(source, at) {
@@ -48,62 +43,10 @@ pub(crate) fn escape<const MODE: u8, const N: usize>(
     (at + 1, to + entry.0 as usize)
 }
 
-/// Escapes the run that begins at `at`, as the mode numbered `MODE` does, as far as `flags` has it
-/// go on.
-#[inline(always)]
-pub(crate) fn run<F: Flagged, const MODE: u8, const N: usize>(
-    source: &Source<'_>,
-    at: usize,
-    target: &mut Target<'_, N>,
-    to: usize,
-    flags: &F,
-) -> (usize, usize)
-    requires after { source.now.base ≤ at }
-    requires run { CanRun (mode_numbered MODE) source.now.text.now (F.flagged flags.now)
-        at (source.now.base + length source.now.bytes.now) }
-    requires room { (q : ℕ)
-        → at ≤ q
-        → q < length source.now.text.now
-        → to + rest_length (mode_numbered MODE) source.now.text.now at + 8
-        ≤ length (bytes_of target.old) + rest_length (mode_numbered MODE) source.now.text.now q }
-    ensures stretch { (slack : ℕ)
-        → 8 ≤ slack
-        → Stretch (mode_numbered MODE) slack source.now.text.now
-        target.old target.new at result.0 to result.1 }
-    ensures kept { drop (result.1 + run_reach (mode_numbered MODE)) (bytes_of target.new)
-        ≡ drop (result.1 + run_reach (mode_numbered MODE)) (bytes_of target.old) }
-    ensures one_run { run_count_after (mode_numbered MODE) true (drop result.0 source.now.text.now) + 1
-        ≡ run_count (mode_numbered MODE) (drop at source.now.text.now) }
-    ensures stops { F.flagged flags.now result.0 ≡ false }
-    ensures last { (q : ℕ) × (at ≤ q) × (F.flagged flags.now q ≡ true)
-        × (result.0 ≡ q + passed (mode_numbered MODE) (drop q source.now.text.now)) }
-    ensures found { (p : ℕ)
-        → at ≤ p
-        → p < result.0
-        → needs_escape (mode_numbered MODE) (slice_index source.now.text.now p) ≡ true
-        → F.flagged flags.now p ≡ true }
-    ensures bytewise { IsByteWise (mode_numbered MODE)
-        → (run_end (mode_numbered MODE) source.now.text.now result.0
-        ≡ run_end (mode_numbered MODE) source.now.text.now at)
-        × (escaped_of target.new ≡ escaped_of target.old + (result.0 - at)) }
-    ensures stored { stored_of target.new ≡ stored_of target.old }
-{
-    let mut next = at;
-    let mut end = to;
-    'run: loop {
-        let (after, reached) = escape::<MODE, N>(source, next, target, end);
-        if !flags.is_flagged(after) {
-            return (after, reached);
-        }
-        next = after;
-        end = reached;
-    }
-}
-
 /// Escapes the run that begins at `at`, as far as the table of a mode that goes byte by byte has it go
 /// on.
 #[inline(always)]
-fn run_by_table<const MODE: u8, const N: usize>(
+fn run<const MODE: u8, const N: usize>(
     src: &[u8],
     at: usize,
     target: &mut Target<'_, N>,
@@ -112,7 +55,6 @@ fn run_by_table<const MODE: u8, const N: usize>(
     requires bytewise { IsByteWise (mode_numbered MODE) }
     requires no_further { look_ahead (mode_numbered MODE) ≡ 0 }
     requires inside { at < length src.now }
-    requires needed { IsTrue (needs_escape (mode_numbered MODE) (slice_index src.now at)) }
     requires room { to + 6 * (length src.now - at) + 2 ≤ length (bytes_of target.old) }
     ensures stretch { Stretch (mode_numbered MODE) 8 src.now target.old target.new at result.0 to result.1 }
     ensures place { result.0 ≡ run_end (mode_numbered MODE) src.now at }
@@ -121,9 +63,18 @@ fn run_by_table<const MODE: u8, const N: usize>(
     ensures escaped { escaped_of target.new ≡ escaped_of target.old + (result.0 - at) }
     ensures stored { stored_of target.new ≡ stored_of target.old }
 {
-    let source = Source::whole(src);
-    let flags = ByTable::<MODE> { text: src };
-    run::<_, MODE, N>(&source, at, target, to, &flags)
+    let mut next = at;
+    let mut end = to;
+    'run: while next < src.len() {
+        let entry = entry::<MODE>(src[next]);
+        if entry.0 == 0 {
+            return (next, end);
+        }
+        target.escape(end, &entry.1);
+        next += 1;
+        end += entry.0 as usize;
+    }
+    (next, end)
 }
 
 /// Writes what stands for the byte at `at`, be it an escape or the byte itself, or for the separator that
@@ -222,7 +173,7 @@ pub fn escape_unchecked<const HTML: bool, const N: usize>(
     ensures quotes { quotes_of target.new ≡ quotes_of target.old }
 {
     if HTML {
-        return run_by_table::<{ HTML_MODE }, N>(src, at, target, to);
+        return run::<{ HTML_MODE }, N>(src, at, target, to);
     }
-    run_by_table::<{ JSON_MODE }, N>(src, at, target, to)
+    run::<{ JSON_MODE }, N>(src, at, target, to)
 }

@@ -5,7 +5,7 @@ use Rattle.escape_simd.specs.Modes.{mode_numbered}
 use Rattle.escape_simd.specs.Stretch.{rest_slack}
 use Rattle.escape_simd.proofs.RestLemmas.{rest-slack-some}
 use Rattle.escape_simd.proofs.Costs.{vectors-least}
-use Rattle.escape_simd.proofs.Stretches.{rest-bounds, onward, widened}
+use Rattle.escape_simd.proofs.Stretches.{rest-bounds, widened}
 use Rattle.escape_simd.proofs.Lanes.{none_set-joined, held-whole}
 use Rattle.escape_simd.proofs.simd.chunk.pair.Goals as goal
 

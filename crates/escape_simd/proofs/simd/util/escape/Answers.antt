@@ -2,13 +2,11 @@ use Rattle.std.proofs.Common.{◌≡◌, ℕ, ◌+◌, true, false, ◌==◌, Li
 use Rattle.std.proofs.lemmas.Bool.{cases_Bool}
 use Rattle.escape_lanes.specs.Mode.{script}
 use Rattle.escape_lanes.specs.Entry.{padded, entry_count, entry_bytes}
-use Rattle.escape_lanes.specs.Written.{bytes_of}
 use Rattle.escape_simd.specs.Modes.{mode_numbered}
 use Rattle.escape_simd.specs.Output.{begins_separator, passed, first_replacement}
-use Rattle.escape_simd.specs.Stretch.{run_reach}
-use Rattle.escape_simd.proofs.Stretches.{escaped_unit, rest-paste, ended}
-use Rattle.escape_simd.proofs.Alone.{alone-stretch, alone-kept}
-use Rattle.escape_simd.proofs.Escapes.{reach-six, is_script, not_script, third-at}
+use Rattle.escape_simd.proofs.Stretches.{escaped_unit, ended}
+use Rattle.escape_simd.proofs.Alone.{alone-stretch}
+use Rattle.escape_simd.proofs.Escapes.{is_script, not_script, third-at}
 use Rattle.escape_simd.proofs.simd.util.escape.Goals.{else-this-ge-SCRIPT_MODE-via-then-this-ge-SCRIPT_MODE+else-is_separator, else-this-ge-SCRIPT_MODE-via-else-this-ge-SCRIPT_MODE}
 use Rattle.escape_simd.proofs.simd.util.escape.Goals as goal
 
@@ -34,14 +32,6 @@ returns-then-is_separator-clause-stretch g c slack eight =
     ended (escaped_unit mode src c.args.target.now c.escape.new.self at c.args.to c.separator_entry.result.now c.requires.inside c.requires.needed 6 slack eight e.same_slice e.bytes c.requires.room f.0 (omega arith)
     (f.1 ∙ sym (ap (λ m. first_replacement m (drop at src)) third)) e.escaped e.quotes) step refl
 
-pub returns-then-is_separator-clause-kept : goal.returns-then-is_separator-clause-kept
-returns-then-is_separator-clause-kept g c =
-    let six = reach-six (mode_numbered g.row.MODE) in let e = c.escape.ensures in
-    let begins : begins_separator (drop c.args.at c.args.source.now.text.now) ≡ true = sym c.is_separator.ensures ∙ c.if-is_separator.true in
-    let f = separator-front c.args.source.now.text.now c.args.at c.byte.result c.separator_entry.result.now begins c.byte.ensures c.separator_entry.ensures in
-    ap (drop (c.args.to + 6 + run_reach (mode_numbered g.row.MODE))) e.bytes
-    ∙ rest-paste (bytes_of c.args.target.now) c.separator_entry.result.now c.args.to 8 (c.args.to + 6 + run_reach (mode_numbered g.row.MODE)) c.requires.room (omega (arith, f)) (omega (arith, six))
-
 pub returns-clause-stretch : goal.returns-clause-stretch
 returns-clause-stretch g c =
     let mode = mode_numbered g.row.MODE in let src : List ℕ = c.args.source.now.text.now in let at : ℕ = c.args.at in let e = c.escape-2.ensures in let entry = c.entry-entry in
@@ -52,9 +42,3 @@ returns-clause-stretch g c =
     ] in
     alone-stretch mode src c.args.target.now c.escape-2.new.self at c.args.to entry.result.now.0 entry.result.now.1 c.requires.needed (entry.ensures.count ∙ ap (entry_count mode) c.byte-2.ensures) (entry.ensures.bytes ∙ ap (entry_bytes mode) c.byte-2.ensures)
     c.requires.room e.bytes c.requires.inside none e.same_slice e.escaped e.quotes
-
-pub returns-clause-kept : goal.returns-clause-kept
-returns-clause-kept g c =
-    let mode = mode_numbered g.row.MODE in let e = c.escape-2.ensures in let entry = c.entry-entry in
-    alone-kept mode c.args.source.now.text.now c.args.target.now c.escape-2.new.self c.args.at c.args.to entry.result.now.0 entry.result.now.1 c.requires.needed (entry.ensures.count ∙ ap (entry_count mode) c.byte-2.ensures) (entry.ensures.bytes ∙ ap (entry_bytes mode) c.byte-2.ensures)
-    c.requires.room e.bytes

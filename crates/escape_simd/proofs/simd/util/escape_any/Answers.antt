@@ -1,12 +1,12 @@
-use Rattle.std.proofs.Common.{◌≡◌, ℕ, ◌+◌, cond, false, List, length, drop, get_or, refl, sym, ap, ◌∙◌, arith}
+use Rattle.std.proofs.Common.{◌≡◌, ℕ, ◌+◌, cond, false, List, length, drop, get_or, refl, sym, ap, ◌∙◌}
 use Rattle.escape_lanes.specs.Entry.{entry_count, entry_word}
 use Rattle.escape_lanes.specs.Mode.{script}
-use Rattle.escape_lanes.specs.Replacement.{needs_escape, replacement}
+use Rattle.escape_lanes.specs.Replacement.{replacement}
 use Rattle.escape_lanes.specs.Written.{escaped_of}
 use Rattle.escape_simd.specs.Modes.{mode_numbered}
 use Rattle.escape_simd.specs.Output.{begins_separator}
 use Rattle.escape_simd.proofs.Each.{other_byte, last-word, counted, word-stretch}
-use Rattle.escape_simd.proofs.Escapes.{passed-alone, is_script, not_script}
+use Rattle.escape_simd.proofs.Escapes.{passed-alone, not_script}
 use Rattle.escape_simd.proofs.Stretches.{ended}
 use Rattle.escape_simd.proofs.simd.util.escape_any.Goals.{else-this-ge-SCRIPT_MODE-via-then-this-ge-SCRIPT_MODE+else-b, else-this-ge-SCRIPT_MODE-via-else-this-ge-SCRIPT_MODE}
 use Rattle.escape_simd.proofs.simd.util.escape_any.Goals as goal

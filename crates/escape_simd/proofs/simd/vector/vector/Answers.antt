@@ -1,9 +1,9 @@
-use Rattle.std.proofs.Common.{◌≡◌, ℕ, ◌+◌, ◌-◌, ◌<◌, ◌≤◌, not, nat_eq, List, length, arith, sym, subst, ◌∙◌}
+use Rattle.std.proofs.Common.{ℕ, ◌+◌, ◌-◌, not, nat_eq, List, length, arith}
 use denote.Param.{number, value_of}
 use Rattle.escape_simd.specs.Modes.{mode_numbered}
-use Rattle.escape_simd.specs.Stretch.{Passed, rest_length}
+use Rattle.escape_simd.specs.Stretch.{rest_length}
 use Rattle.escape_simd.proofs.Stretches.{onward, stored_ahead, rest-bounds}
-use Rattle.escape_simd.proofs.Lanes.{stored-low, set-all, held-all}
+use Rattle.escape_simd.proofs.Lanes.{stored-low}
 use Rattle.escape_simd.proofs.Turns.{ahead-front}
 use Rattle.escape_simd.proofs.simd.vector.vector.Goals as goal
 

@@ -8,8 +8,8 @@ use crate::simd::sse2::Simd128u;
 use crate::simd::target::{Target, Ticks};
 use crate::simd::{BitMask, Simd};
 use crate::tables::{
-    HTML_ESCAPE_TAB, HTML_NEED_ESCAPED, NEED_ESCAPED, QUOTE_TAB, html_entry, html_row, json_entry,
-    json_row,
+    HTML_ESCAPE_TAB, HTML_NEED_ESCAPED, NEED_ESCAPED, QUOTE_TAB, html_entry, html_row, html_word,
+    json_entry, json_row, json_word,
 };
 
 // Whether the byte needs an escape in JSON.
@@ -35,7 +35,7 @@ fn hex_digit(n: u8) -> u8
 }
 
 // The entry of a byte in JSON, with the digits of a control character by arithmetic.
-fn expected_json_entry(b: u8) -> (u8, [u8; 8]) {
+pub(crate) fn expected_json_entry(b: u8) -> (u8, [u8; 8]) {
     match b {
         0x08 => (2, [0x5c, 0x62, 0, 0, 0, 0, 0, 0]),
         0x09 => (2, [0x5c, 0x74, 0, 0, 0, 0, 0, 0]),
@@ -105,6 +105,29 @@ fn all_rows(rt: HostRuntime) {
     }
     assert_eq!(rt; json_needs, 34);
     assert_eq!(rt; html_needs, 6);
+}
+
+// The word of a byte with that entry: a byte without one stands for itself.
+pub(crate) fn expected_word(b: u8, entry: (u8, [u8; 8])) -> [u8; 8] {
+    if entry.0 == 0 {
+        return [b, 0, 0, 0, 0, 0, 0, 1];
+    }
+    let mut word = entry.1;
+    word[7] = entry.0;
+    word
+}
+
+#[test]
+fn words_of_all_bytes(rt: HostRuntime) {
+    assert_eq!(rt; *json_word(0x0a), [0x5c, 0x6e, 0, 0, 0, 0, 0, 2]);
+    assert_eq!(rt; *html_word(0x3c), [0x26, 0x6c, 0x74, 0x3b, 0, 0, 0, 4]);
+    assert_eq!(rt; *json_word(0x61), [0x61, 0, 0, 0, 0, 0, 0, 1]);
+    for b in 0..=u8::MAX {
+        let json = expected_word(b, expected_json_entry(b));
+        let html = expected_word(b, expected_html_entry(b));
+        assert!(rt; json_word(b) == &json, "JSON, byte {b}");
+        assert!(rt; html_word(b) == &html, "HTML, byte {b}");
+    }
 }
 
 #[test]

@@ -149,6 +149,23 @@ fn byte_loop_behind_kernel(rt: HostRuntime) {
     }
 }
 
+// A vector a quarter of whose bytes need an escape is written byte by byte: so texts with one more, as
+// many and one fewer, and with what begins with e2 among them and across the borders.
+#[test]
+fn many_escapes_in_each_width(rt: HostRuntime) -> Result<(), Fail> {
+    let parts = ["\"a", "\"aa", "\"aaa", "\"aaaa", "\"\u{2028}", "\u{2029}\u{2026}<", "\"\u{20ac}\n"];
+    for width in WIDTHS {
+        for before in 0..3 {
+            for part in parts {
+                let count = width / part.len() + 1;
+                let text = repeated(rt.alloc(), &[(before, "a"), (count, part), (1, "a\"a")])?;
+                is_right(&rt, text.as_str())?;
+            }
+        }
+    }
+    Ok(())
+}
+
 /// So it does in script mode for letters with the part at each place. What begins with e2 is told from
 /// other characters by its two other bytes, which may lie in the next vector, chunk or rest.
 fn is_right_with(rt: &(impl Abort + AllocGlobal), part: &str) -> Result<(), Fail> {

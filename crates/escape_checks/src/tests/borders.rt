@@ -153,7 +153,15 @@ fn byte_loop_behind_kernel(rt: HostRuntime) {
 // many and one fewer, and with what begins with e2 among them and across the borders.
 #[test]
 fn many_escapes_in_each_width(rt: HostRuntime) -> Result<(), Fail> {
-    let parts = ["\"a", "\"aa", "\"aaa", "\"aaaa", "\"\u{2028}", "\u{2029}\u{2026}<", "\"\u{20ac}\n"];
+    let parts = [
+        "\"a",
+        "\"aa",
+        "\"aaa",
+        "\"aaaa",
+        "\"\u{2028}",
+        "\u{2029}\u{2026}<",
+        "\"\u{20ac}\n",
+    ];
     for width in WIDTHS {
         for before in 0..3 {
             for part in parts {

@@ -45,3 +45,6 @@ bytes-preserved g c =
       runs = omega (arith, there, fewer, inv.runs);
       stored = e.stored ∙ inv.stored;
     }
+
+pub returns-clause-passed : goal.returns-clause-passed
+returns-clause-passed g c = c.bytes.invariant.passed (omega (arith, c.bytes-test.false))

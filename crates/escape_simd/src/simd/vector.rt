@@ -16,7 +16,7 @@ use escape_lanes::simd::{Flags, LaneMask};
 /// a separator goes past them. Answers the places reached.
 ///
 /// The vector `v` holds the text's bytes from `from` on. No place in the text waits for what is
-/// written: all are told by the one mask. Where a quarter of its lanes is flagged, each byte is looked up
+/// written: all are told by the one mask. Where a quarter of the bytes needs an escape, each is looked up
 /// instead.
 #[inline(always)]
 pub(crate) fn vector<V: Vector<N>, const MODE: u8, const N: usize, const EXACT: bool>(
@@ -50,7 +50,7 @@ pub(crate) fn vector<V: Vector<N>, const MODE: u8, const N: usize, const EXACT: 
     ensures classified { ticks.new + stored_of target.old + 1 ≡ ticks.old + stored_of target.new }
 {
     store::<V, N>(v, source.text, from, at + taken - from, EXACT, target, to);
-    if N / 4 <= mask.count_set() {
+    if taken / 4 <= mask.count_set() {
         return escape_each::<MODE, N>(source, from, at + taken, target, to);
     }
     turns::<V, _, MODE, N, EXACT>(source, at, taken, from, target, to, mask, ticks)

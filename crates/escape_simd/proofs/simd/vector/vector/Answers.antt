@@ -29,8 +29,8 @@ escape_each-requires g c =
     let p = c.requires.place in
     (omega arith, (p.before, (p.inside, (omega (arith, p.base, p.after), (omega (arith, p.held, p.few, g.met.V.Vector.several), omega (arith, p.room, c.store.ensures.same_slice.len))))))
 
-pub returns-then-count_set-clause-stretch : goal.returns-then-count_set-clause-stretch
-returns-then-count_set-clause-stretch g c slack eight narrow =
+pub returns-then-taken-count_set-clause-stretch : goal.returns-then-taken-count_set-clause-stretch
+returns-then-taken-count_set-clause-stretch g c slack eight narrow =
     let exact = not (nat_eq (value_of (number g.row.EXACT)) 0) in
     let mode = mode_numbered g.row.MODE in let src : List ℕ = c.args.source.now.text.now in let p = c.requires.place in
     let r = rest-bounds mode src c.args.from in

@@ -13,14 +13,10 @@ use Rattle.escape_lanes.proofs.EntryLemmas.{fewest≤entry_count, one≤fewest, 
 use Rattle.escape_simd.specs.Output.{inner, begins_separator, passed}
 use Rattle.escape_simd.specs.Runs.{escaped_count}
 use Rattle.escape_simd.specs.Stretch.{Stretch}
-use Rattle.escape_simd.proofs.Escapes.{begins-at, passed-alone, first-alone}
+use Rattle.escape_simd.proofs.Escapes.{passed-alone, first-alone}
 use Rattle.escape_simd.proofs.ReplacementLemmas.{length-replacement}
 use Rattle.escape_simd.proofs.Stretches.{pasted, ended}
 use Rattle.escape_simd.proofs.Texts.{inner-here, escaped-here, escaped_clean-here}
-
--- no separator begins with another byte than e2
-pub other_byte : (src : List ℕ) (at : ℕ) → (get_or src at 0 ≡ 226 → ⊥) → begins_separator (drop at src) ≡ false
-other_byte src at other = let e = begins-at src at in grind (arith, nat_tests, e, other)
 
 -- the word of a byte
 module _ (mode : Mode) (b : ℕ) where

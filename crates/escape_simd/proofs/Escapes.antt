@@ -1,8 +1,9 @@
 -- What one escape writes, and how far a run of escapes goes.
-use Rattle.std.proofs.Common.{◌≡◌, ℕ, zero, suc, ◌+◌, ◌<◌, ◌≤◌, false, ◌&&◌, ◌||◌, ◌==◌, List, drop, get_or, refl, ap, ◌∙◌, arith}
+use Rattle.std.proofs.Common.{◌≡◌, ℕ, zero, suc, ◌+◌, ◌<◌, ◌≤◌, true, false, ◌&&◌, ◌||◌, ◌==◌, List, drop, get_or, refl, sym, ap, ◌∙◌, arith}
+use Rattle.std.proofs.lemmas.Bool.Decides.{nat_tests}
 use Rattle.std.proofs.lemmas.List.{get_or-drop}
 use Rattle.escape_lanes.specs.Mode.{Mode, json, html, script}
-use Rattle.escape_lanes.specs.Replacement.{replacement}
+use Rattle.escape_lanes.specs.Replacement.{needs_escape, replacement}
 use Rattle.escape_lanes.proofs.EntryLemmas.{fewest}
 use Rattle.escape_simd.specs.Modes.{mode_numbered}
 use Rattle.escape_simd.specs.Output.{begins_separator, passed, first_replacement}
@@ -14,6 +15,10 @@ unfolding begins_separator
 begins-at src at =
     let e : at + 0 ≡ at = omega arith in
     rw (get_or-drop at src 0 0, get_or-drop at src 1 0, get_or-drop at src 2 0, e) refl
+
+-- it begins with a byte that is flagged
+pub separator-needed : (src : List ℕ) (at : ℕ) → begins_separator (drop at src) ≡ true → needs_escape script (get_or src at 0) ≡ true
+separator-needed src at begins = let e = sym (begins-at src at) ∙ begins in grind (arith, nat_tests, e)
 
 -- its third byte, told of the text
 pub third-at : (src : List ℕ) (at : ℕ) → get_or (drop at src) 2 0 ≡ get_or src (at + 2) 0

@@ -15,7 +15,7 @@ pub enum Kernel {
     Neon,
     /// 32 lanes, four vectors at a time.
     Avx2,
-    /// 64 lanes, four vectors at a time.
+    /// 64 lanes, two vectors at a time.
     Avx512,
 }
 

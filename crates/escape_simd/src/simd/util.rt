@@ -13,8 +13,8 @@ use crate::simd::entry::{entry, is_separator, separator_entry, word};
 use crate::simd::source::Source;
 use escape_lanes::simd::target::Target;
 
-/// Writes what stands for the byte at `at`, or for the separator that begins with it. Answers the
-/// places after both.
+/// Writes what stands for the byte at `at`, be it an escape or the byte itself, or for the separator that
+/// begins with it. Answers the places after both.
 #[inline(always)]
 pub(crate) fn escape<const MODE: u8, const N: usize>(
     source: &Source<'_>,
@@ -23,7 +23,6 @@ pub(crate) fn escape<const MODE: u8, const N: usize>(
     to: usize,
 ) -> (usize, usize)
     requires inside { at < length source.now.text.now }
-    requires needed { IsTrue (needs_escape (mode_numbered MODE) (slice_index source.now.text.now at)) }
     requires after { source.now.base ≤ at }
     requires held { at + look_ahead (mode_numbered MODE) < source.now.base + length source.now.bytes.now }
     requires room { to + 8 ≤ length (bytes_of target.old) }
@@ -38,69 +37,7 @@ pub(crate) fn escape<const MODE: u8, const N: usize>(
         target.escape(to, separator_entry(source.byte(at + 2)));
         return (at + 3, to + 6);
     }
-    let entry = entry::<MODE>(source.byte(at));
-    target.escape(to, &entry.1);
-    (at + 1, to + entry.0 as usize)
-}
-
-/// Escapes the run that begins at `at`, as far as the table of a mode that goes byte by byte has it go
-/// on.
-#[inline(always)]
-fn run<const MODE: u8, const N: usize>(
-    src: &[u8],
-    at: usize,
-    target: &mut Target<'_, N>,
-    to: usize,
-) -> (usize, usize)
-    requires bytewise { IsByteWise (mode_numbered MODE) }
-    requires no_further { look_ahead (mode_numbered MODE) ≡ 0 }
-    requires inside { at < length src.now }
-    requires room { to + 6 * (length src.now - at) + 2 ≤ length (bytes_of target.old) }
-    ensures stretch { Stretch (mode_numbered MODE) 8 src.now target.old target.new at result.0 to result.1 }
-    ensures place { result.0 ≡ run_end (mode_numbered MODE) src.now at }
-    ensures kept { drop (result.1 + run_reach (mode_numbered MODE)) (bytes_of target.new)
-        ≡ drop (result.1 + run_reach (mode_numbered MODE)) (bytes_of target.old) }
-    ensures escaped { escaped_of target.new ≡ escaped_of target.old + (result.0 - at) }
-    ensures stored { stored_of target.new ≡ stored_of target.old }
-{
-    let mut next = at;
-    let mut end = to;
-    'run: while next < src.len() {
-        let entry = entry::<MODE>(src[next]);
-        if entry.0 == 0 {
-            return (next, end);
-        }
-        target.escape(end, &entry.1);
-        next += 1;
-        end += entry.0 as usize;
-    }
-    (next, end)
-}
-
-/// Writes what stands for the byte at `at`, be it an escape or the byte itself, or for the separator that
-/// begins with it. Answers the places after both.
-#[inline(always)]
-fn escape_any<const MODE: u8, const N: usize>(
-    source: &Source<'_>,
-    at: usize,
-    target: &mut Target<'_, N>,
-    to: usize,
-) -> (usize, usize)
-    requires inside { at < length source.now.text.now }
-    requires after { source.now.base ≤ at }
-    requires held { at + look_ahead (mode_numbered MODE) < source.now.base + length source.now.bytes.now }
-    requires room { to + 8 ≤ length (bytes_of target.old) }
-    ensures place { result.0 ≡ at + passed (mode_numbered MODE) (drop at source.now.text.now) }
-    ensures stretch { (slack : ℕ)
-        → 8 ≤ slack
-        → Stretch (mode_numbered MODE) slack source.now.text.now
-        target.old target.new at result.0 to result.1 }
-    ensures stored { stored_of target.new ≡ stored_of target.old }
-{
     let b = source.byte(at);
-    if SCRIPT_MODE <= MODE && b == 0xe2 {
-        return escape::<MODE, N>(source, at, target, to);
-    }
     let word = word::<MODE>(b);
     // Whether it is an escape is for the count alone, and costs nothing.
     target.put_word(to, word, entry::<MODE>(b).0 != 0);
@@ -136,9 +73,43 @@ pub(crate) fn escape_each<const MODE: u8, const N: usize>(
     let mut next = at;
     let mut end = to;
     'bytes: while next < border {
-        let (after, reached) = escape_any::<MODE, N>(source, next, target, end);
+        let (after, reached) = escape::<MODE, N>(source, next, target, end);
         next = after;
         end = reached;
+    }
+    (next, end)
+}
+
+/// Escapes the run that begins at `at`, as far as the table of a mode that goes byte by byte has it go
+/// on.
+#[inline(always)]
+fn run<const MODE: u8, const N: usize>(
+    src: &[u8],
+    at: usize,
+    target: &mut Target<'_, N>,
+    to: usize,
+) -> (usize, usize)
+    requires bytewise { IsByteWise (mode_numbered MODE) }
+    requires no_further { look_ahead (mode_numbered MODE) ≡ 0 }
+    requires inside { at < length src.now }
+    requires room { to + 6 * (length src.now - at) + 2 ≤ length (bytes_of target.old) }
+    ensures stretch { Stretch (mode_numbered MODE) 8 src.now target.old target.new at result.0 to result.1 }
+    ensures place { result.0 ≡ run_end (mode_numbered MODE) src.now at }
+    ensures kept { drop (result.1 + run_reach (mode_numbered MODE)) (bytes_of target.new)
+        ≡ drop (result.1 + run_reach (mode_numbered MODE)) (bytes_of target.old) }
+    ensures escaped { escaped_of target.new ≡ escaped_of target.old + (result.0 - at) }
+    ensures stored { stored_of target.new ≡ stored_of target.old }
+{
+    let mut next = at;
+    let mut end = to;
+    'run: while next < src.len() {
+        let entry = entry::<MODE>(src[next]);
+        if entry.0 == 0 {
+            return (next, end);
+        }
+        target.escape(end, &entry.1);
+        next += 1;
+        end += entry.0 as usize;
     }
     (next, end)
 }

@@ -40,10 +40,9 @@ escape-requires g c =
     let first : at + first_set bits - from ≡ at + f - from = omega (arith, first_is) in
     let clean = subst (λ k. IsClean mode (take k (drop from src))) first (held-first mode src at c.args._taken from bits p.flags p.after p.inside c.requires.some c.requires.cleared) in
     let there : from + (at + f - from) ≡ at + f = omega (arith, b, first_is) in
-    let needed = ap (λ k. needs_escape mode (get_or src (at + k) 0)) first_is ∙ (p.flags.set (first_set bits) (first-set mode src at c.args._taken from bits p.flags p.after p.inside c.requires.some)).1 in
     let rest = clean_rest mode src from (at + f - from) (omega (arith, b, first_is, p.inside)) clean in
     let rest_there = ap (rest_length mode src) there in let l = look_ahead≤two mode in
-    (omega arith, (omega (arith, b, first_is, p.inside), (needed, (omega (arith, p.base), (omega (arith, l, b, first_is, p.few, p.held, c.requires.several), omega (arith, rest, rest_there, p.room))))))
+    (omega arith, (omega (arith, b, first_is, p.inside), (omega (arith, p.base), (omega (arith, l, b, first_is, p.few, p.held, c.requires.several), omega (arith, rest, rest_there, p.room)))))
 
 pub returns-clause-stretch : goal.returns-clause-stretch
 returns-clause-stretch g c slack eight =

@@ -1,12 +1,14 @@
-use Rattle.std.proofs.Common.{◌≡◌, ℕ, ◌+◌, true, false, ◌==◌, List, length, take, drop, get_or, codes, if◌then◌else◌, refl, sym, ap, ◌∙◌, arith, inl, inr}
+use Rattle.std.proofs.Common.{◌≡◌, ℕ, ◌+◌, true, false, cond, ◌==◌, List, length, take, drop, get_or, codes, if◌then◌else◌, refl, sym, ap, ◌∙◌, arith, inl, inr}
 use Rattle.std.proofs.lemmas.Bool.{cases_Bool}
 use Rattle.escape_lanes.specs.Mode.{script}
-use Rattle.escape_lanes.specs.Entry.{padded, entry_count, entry_bytes}
+use Rattle.escape_lanes.specs.Entry.{padded, entry_count, entry_word}
+use Rattle.escape_lanes.specs.Replacement.{needs_escape, replacement}
+use Rattle.escape_lanes.specs.Written.{escaped_of}
 use Rattle.escape_simd.specs.Modes.{mode_numbered}
 use Rattle.escape_simd.specs.Output.{begins_separator, passed, first_replacement}
+use Rattle.escape_simd.proofs.Each.{last-word, counted, word-stretch}
 use Rattle.escape_simd.proofs.Stretches.{escaped_unit, ended}
-use Rattle.escape_simd.proofs.Alone.{alone-stretch}
-use Rattle.escape_simd.proofs.Escapes.{is_script, not_script, third-at}
+use Rattle.escape_simd.proofs.Escapes.{is_script, not_script, third-at, separator-needed, passed-alone}
 use Rattle.escape_simd.proofs.simd.util.escape.Goals.{else-this-ge-SCRIPT_MODE-via-then-this-ge-SCRIPT_MODE+else-is_separator, else-this-ge-SCRIPT_MODE-via-else-this-ge-SCRIPT_MODE}
 use Rattle.escape_simd.proofs.simd.util.escape.Goals as goal
 
@@ -21,6 +23,14 @@ separator-front src at third entry begins is e =
       | inr paragraph ↦ let f = rw paragraph at e in (ap length f, ap (take 6) f ∙ sym (rw (begins, same, paragraph) refl))
     ]
 
+pub returns-then-is_separator-clause-place : goal.returns-then-is_separator-clause-place
+returns-then-is_separator-clause-place g c =
+    let mode = mode_numbered g.row.MODE in let src : List ℕ = c.args.source.now.text.now in let at : ℕ = c.args.at in
+    let third = is_script g.row.MODE c.if-this-ge-SCRIPT_MODE.true in
+    let begins : begins_separator (drop at src) ≡ true = sym c.is_separator.ensures ∙ c.if-is_separator.true in
+    let three : passed mode (drop at src) ≡ 3 = ap (λ m. passed m (drop at src)) third ∙ rw begins refl in
+    ap (λ k. at + k) (sym three)
+
 pub returns-then-is_separator-clause-stretch : goal.returns-then-is_separator-clause-stretch
 returns-then-is_separator-clause-stretch g c slack eight =
     let mode = mode_numbered g.row.MODE in let src : List ℕ = c.args.source.now.text.now in let at : ℕ = c.args.at in let e = c.escape.ensures in
@@ -29,16 +39,30 @@ returns-then-is_separator-clause-stretch g c slack eight =
     let f = separator-front src at c.byte.result c.separator_entry.result.now begins c.byte.ensures c.separator_entry.ensures in
     let three : passed mode (drop at src) ≡ 3 = ap (λ m. passed m (drop at src)) third ∙ rw begins refl in
     let step : at + passed mode (drop at src) ≡ at + 3 = ap (λ k. at + k) three in
-    ended (escaped_unit mode src c.args.target.now c.escape.new.self at c.args.to c.separator_entry.result.now c.requires.inside c.requires.needed 6 slack eight e.same_slice e.bytes c.requires.room f.0 (omega arith)
+    let needed = ap (λ m. needs_escape m (get_or src at 0)) third ∙ separator-needed src at begins in
+    ended (escaped_unit mode src c.args.target.now c.escape.new.self at c.args.to c.separator_entry.result.now c.requires.inside needed 6 slack eight e.same_slice e.bytes c.requires.room f.0 (omega arith)
     (f.1 ∙ sym (ap (λ m. first_replacement m (drop at src)) third)) e.escaped e.quotes) step refl
 
-pub returns-clause-stretch : goal.returns-clause-stretch
-returns-clause-stretch g c =
-    let mode = mode_numbered g.row.MODE in let src : List ℕ = c.args.source.now.text.now in let at : ℕ = c.args.at in let e = c.escape-2.ensures in let entry = c.entry-entry in
+pub returns-clause-place : goal.returns-clause-place
+returns-clause-place g c =
+    let mode = mode_numbered g.row.MODE in let src : List ℕ = c.args.source.now.text.now in let at : ℕ = c.args.at in
     let none : mode ≡ script → begins_separator (drop at src) ≡ false =
     elim c.else-this-ge-SCRIPT_MODE.branch [
       | else-this-ge-SCRIPT_MODE-via-then-this-ge-SCRIPT_MODE+else-is_separator w ↦ λ e. sym w.is_separator.ensures ∙ w.if-is_separator.false
       | else-this-ge-SCRIPT_MODE-via-else-this-ge-SCRIPT_MODE w ↦ λ e. absurd (not_script g.row.MODE w.if-this-ge-SCRIPT_MODE.false e)
     ] in
-    alone-stretch mode src c.args.target.now c.escape-2.new.self at c.args.to entry.result.now.0 entry.result.now.1 c.requires.needed (entry.ensures.count ∙ ap (entry_count mode) c.byte-2.ensures) (entry.ensures.bytes ∙ ap (entry_bytes mode) c.byte-2.ensures)
-    c.requires.room e.bytes c.requires.inside none e.same_slice e.escaped e.quotes
+    ap (λ k. at + k) (sym (passed-alone mode src at none))
+
+pub returns-clause-stretch : goal.returns-clause-stretch
+returns-clause-stretch g c slack eight =
+    let mode = mode_numbered g.row.MODE in let src : List ℕ = c.args.source.now.text.now in let at : ℕ = c.args.at in let e = c.put_word.ensures in
+    let none : mode ≡ script → begins_separator (drop at src) ≡ false =
+    elim c.else-this-ge-SCRIPT_MODE.branch [
+      | else-this-ge-SCRIPT_MODE-via-then-this-ge-SCRIPT_MODE+else-is_separator w ↦ λ e. sym w.is_separator.ensures ∙ w.if-is_separator.false
+      | else-this-ge-SCRIPT_MODE-via-else-this-ge-SCRIPT_MODE w ↦ λ e. absurd (not_script g.row.MODE w.if-this-ge-SCRIPT_MODE.false e)
+    ] in
+    let b : ℕ = get_or src at 0 in
+    let is = c.word-word.ensures ∙ ap (entry_word mode) c.byte-b.ensures in
+    let escape = ap (λ t. escaped_of c.args.target.now + cond t 1 0) (counted mode b c.entry.result.now.0 (c.entry.ensures.count ∙ ap (entry_count mode) c.byte-b.ensures)) in
+    let last : get_or c.word-word.result.now 7 0 ≡ length (replacement mode b) = ap (λ w. get_or w 7 0) is ∙ last-word mode b in
+    ended (word-stretch mode src c.args.target.now c.put_word.new.self at c.args.to c.word-word.result.now c.requires.inside none is slack eight e.same_slice e.bytes c.requires.room (e.escaped ∙ escape) e.quotes) refl (ap (λ k. c.args.to + k) (sym last))

@@ -15,22 +15,22 @@ bytes-init g c = record {
   stored = refl;
 }
 
-pub escape_any-after-requires : goal.escape_any-after-requires
-escape_any-after-requires g c =
+pub escape-after-requires : goal.escape-after-requires
+escape-after-requires g c =
     let inv = c.bytes.invariant in let s = inv.stretch 8 (omega arith) in let r = c.requires in
     let two = look_ahead≤two (mode_numbered g.row.MODE) in let rest = rest-bounds (mode_numbered g.row.MODE) c.args.source.now.text.now c.bytes.next in
     (omega arith, (omega (arith, c.bytes-test.true, r.inside), (omega (arith, s.forward, r.base), (omega (arith, two, c.bytes-test.true, r.held), omega (arith, rest, s.limit, s.same_slice.len, r.room)))))
 
 pub bytes-smaller : goal.bytes-smaller
 bytes-smaller g c =
-    let e = c.escape_any-after.ensures in
+    let e = c.escape-after.ensures in
     let some = one≤passed (mode_numbered g.row.MODE) (drop c.bytes.next c.args.source.now.text.now) in
     omega (arith, e.place, some, c.bytes-test.true)
 
 pub bytes-preserved : goal.bytes-preserved
 bytes-preserved g c =
-    let mode = mode_numbered g.row.MODE in let src : List ℕ = c.args.source.now.text.now in let next : ℕ = c.bytes.next in let after : ℕ = c.escape_any-after.result.0 in
-    let inv = c.bytes.invariant in let e = c.escape_any-after.ensures in
+    let mode = mode_numbered g.row.MODE in let src : List ℕ = c.args.source.now.text.now in let next : ℕ = c.bytes.next in let after : ℕ = c.escape-after.result.0 in
+    let inv = c.bytes.invariant in let e = c.escape-after.ensures in
     let some = one≤passed mode (drop next src) in
     let there = ap (λ k. run_count mode (drop k src)) e.place in
     let fewer = runs-step mode src next (omega (arith, c.bytes-test.true, c.requires.inside)) in

@@ -11,16 +11,19 @@ use crate::simd::classify::Vector;
 use crate::simd::flagged::{four_with_runs, last_flagged_vector, two_with_runs};
 use crate::simd::pass::{pass, pass_two};
 use crate::simd::source::Source;
+use crate::simd::util::run;
 use escape_lanes::simd::Flags;
 use escape_lanes::simd::target::{Target, Ticks};
 
-/// One vector of the text. Answers the places reached.
+/// One vector of the text, and where `long` what is left of a run that reaches past it. Answers the places
+/// reached.
 #[inline(always)]
 pub(crate) fn whole_vector<V: Vector<N>, const MODE: u8, const N: usize, const EXACT: bool>(
     source: &Source<'_>,
     at: usize,
     target: &mut Target<'_, N>,
     to: usize,
+    long: bool,
     ticks: &mut Ticks,
 ) -> (usize, usize)
     requires whole { source.now.base ≡ 0 }
@@ -38,7 +41,7 @@ pub(crate) fn whole_vector<V: Vector<N>, const MODE: u8, const N: usize, const E
     let flags = v.flags(MODE, ticks);
     if !flags.none() {
         let mask = flags.bitmask();
-        return last_flagged_vector::<V, MODE, N, EXACT>(
+        let (next, end) = last_flagged_vector::<V, MODE, N, EXACT>(
             source.text,
             at,
             at,
@@ -47,6 +50,10 @@ pub(crate) fn whole_vector<V: Vector<N>, const MODE: u8, const N: usize, const E
             mask,
             ticks,
         );
+        if long {
+            return run::<MODE, N>(source.text, next, target, end);
+        }
+        return (next, end);
     }
     pass::<V, MODE, N>(source.text, at, target, to, &v);
     (at + N, to + N)

@@ -6,7 +6,7 @@ ghost use Rattle.escape_lanes.specs.Written.{bytes_of, stored_of, escaped_of, qu
 ghost use Rattle.escape_simd.specs.Modes.{mode_numbered};
 ghost use Rattle.escape_simd.specs.Output.{inner, passed};
 ghost use Rattle.escape_simd.specs.Runs.{run_count};
-ghost use Rattle.escape_simd.specs.Stretch.{Stretch, run_end, IsByteWise, Passed, look_ahead, room_from, run_reach};
+ghost use Rattle.escape_simd.specs.Stretch.{Stretch, run_end, rest_length, Passed, look_ahead, room_from, run_reach};
 
 use crate::simd::classify::{HTML_MODE, JSON_MODE, SCRIPT_MODE};
 use crate::simd::entry::{entry, is_separator, separator_entry, word};
@@ -80,31 +80,36 @@ pub(crate) fn escape_each<const MODE: u8, const N: usize>(
     (next, end)
 }
 
-/// Escapes the run that begins at `at`, as far as the table of a mode that goes byte by byte has it go
-/// on.
+/// Escapes the run that is at `at`, if one is, as far as the table has it go on: with no mask and no vector.
+/// It stops where a separator may begin.
 #[inline(always)]
-fn run<const MODE: u8, const N: usize>(
+pub(crate) fn run<const MODE: u8, const N: usize>(
     src: &[u8],
     at: usize,
     target: &mut Target<'_, N>,
     to: usize,
 ) -> (usize, usize)
-    requires bytewise { IsByteWise (mode_numbered MODE) }
-    requires no_further { look_ahead (mode_numbered MODE) ≡ 0 }
-    requires inside { at < length src.now }
-    requires room { to + 6 * (length src.now - at) + 2 ≤ length (bytes_of target.old) }
+    requires inside { at ≤ length src.now }
+    requires room { (q : ℕ)
+        → at ≤ q
+        → q < length src.now
+        → to + rest_length (mode_numbered MODE) src.now at + 8
+        ≤ length (bytes_of target.old) + rest_length (mode_numbered MODE) src.now q }
     ensures stretch { Stretch (mode_numbered MODE) 8 src.now target.old target.new at result.0 to result.1 }
-    ensures place { result.0 ≡ run_end (mode_numbered MODE) src.now at }
+    ensures place { look_ahead (mode_numbered MODE) ≡ 0 → result.0 ≡ run_end (mode_numbered MODE) src.now at }
     ensures kept { drop (result.1 + run_reach (mode_numbered MODE)) (bytes_of target.new)
         ≡ drop (result.1 + run_reach (mode_numbered MODE)) (bytes_of target.old) }
     ensures escaped { escaped_of target.new ≡ escaped_of target.old + (result.0 - at) }
+    ensures runs { run_count (mode_numbered MODE) (drop result.0 src.now)
+        ≤ run_count (mode_numbered MODE) (drop at src.now) }
     ensures stored { stored_of target.new ≡ stored_of target.old }
 {
     let mut next = at;
     let mut end = to;
     'run: while next < src.len() {
         let entry = entry::<MODE>(src[next]);
-        if entry.0 == 0 {
+        // None, or e2 in script, for which one byte stands.
+        if entry.0 < 2 {
             return (next, end);
         }
         target.escape(end, &entry.1);

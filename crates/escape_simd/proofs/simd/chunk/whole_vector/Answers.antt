@@ -6,12 +6,12 @@ use Rattle.escape_simd.specs.Modes.{mode_numbered}
 use Rattle.escape_simd.specs.Stretch.{rest_slack}
 use Rattle.escape_simd.proofs.RestLemmas.{rest-slack-some}
 use Rattle.escape_simd.proofs.Costs.{vectors-least}
-use Rattle.escape_simd.proofs.Stretches.{rest-bounds, widened}
+use Rattle.escape_simd.proofs.Stretches.{rest-bounds, onward, widened}
 use Rattle.escape_simd.proofs.Lanes.{held-cut, clear_none}
 use Rattle.escape_simd.proofs.simd.chunk.whole_vector.Goals as goal
 
-pub last_flagged_vector-requires : goal.last_flagged_vector-requires
-last_flagged_vector-requires g c =
+pub last_flagged_vector-next-requires : goal.last_flagged_vector-next-requires
+last_flagged_vector-next-requires g c =
     let mode = mode_numbered g.row.MODE in let src : List ℕ = c.args.source.now.text.now in let n : ℕ = g.row.N in let r = c.requires in
     let lanes : List ℕ = g.V.Vector.lanes c.load-v.result in let bits = g.V.Flags.BitMask.BitMask.bits c.bitmask-mask.result in (
       omega arith,
@@ -44,6 +44,21 @@ pass-requires g c =
       ),
     )
 
+pub returns-then-long-clause-stretch : goal.returns-then-long-clause-stretch
+returns-then-long-clause-stretch g c =
+    let exact = not (nat_eq (value_of (number g.row.EXACT)) 0) in
+    onward c.last_flagged_vector-next.ensures.stretch (widened (rest_slack exact g.row.N) (rest-slack-some exact g.row.N g.met.V.Vector.several) c.run.ensures.stretch)
+
+pub returns-then-long-clause-paid : goal.returns-then-long-clause-paid
+returns-then-long-clause-paid g c =
+    let several = g.met.V.Vector.several in
+    let e = c.last_flagged_vector-next.ensures in let on = c.run.ensures in
+    let v = vectors-least g.row.N (omega (arith, several)) 1 (c.run.result.0 - c.args.at) (omega (arith, e.passed.whole, on.stretch.forward)) in
+    record {
+      stored = omega (arith, e.stored, on.stored, on.runs, v);
+      classified = omega (arith, e.classified, on.stored, c.flags-flags.ensures.tick);
+    }
+
 pub returns-clause-paid : goal.returns-clause-paid
 returns-clause-paid g c =
     let several = g.met.V.Vector.several in
@@ -61,8 +76,8 @@ returns-clause-stretch g c =
 
 pub returns-then-not-none-clause-paid : goal.returns-then-not-none-clause-paid
 returns-then-not-none-clause-paid g c =
-    let several = g.met.V.Vector.several in let e = c.last_flagged_vector.ensures in
-    let v = vectors-least g.row.N (omega (arith, several)) 1 (c.last_flagged_vector.result.0 - c.args.at) (omega (arith, e.passed.whole)) in
+    let several = g.met.V.Vector.several in let e = c.last_flagged_vector-next.ensures in
+    let v = vectors-least g.row.N (omega (arith, several)) 1 (c.last_flagged_vector-next.result.0 - c.args.at) (omega (arith, e.passed.whole)) in
     record {
       stored = omega (arith, e.stored, v);
       classified = omega (arith, e.classified, c.flags-flags.ensures.tick);

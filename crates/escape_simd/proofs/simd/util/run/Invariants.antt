@@ -1,6 +1,7 @@
 use Rattle.std.proofs.Common.{◌≡◌, ◌+◌, ◌-◌, ◌≤◌, length, drop}
 use Rattle.escape_lanes.specs.Written.{bytes_of, stored_of, escaped_of}
 use Rattle.escape_simd.specs.Modes.{mode_numbered}
+use Rattle.escape_simd.specs.Runs.{run_count}
 use Rattle.escape_simd.specs.Stretch.{Stretch, run_end, run_reach}
 use Rattle.escape_simd.proofs.simd.util.run.Given as goal
 
@@ -14,6 +15,7 @@ invariant-run g l =
       kept : drop (l.end + run_reach mode) (bytes_of l.target) ≡ drop (l.end + run_reach mode) (bytes_of l.initial.target);
       place : run_end mode l.src l.next ≡ run_end mode l.src l.at;
       escaped : escaped_of l.target ≡ escaped_of l.initial.target + (l.next - l.at);
+      runs : run_count mode (drop l.next l.src) ≤ run_count mode (drop l.at l.src);
       stored : stored_of l.target ≡ stored_of l.initial.target;
     }
 

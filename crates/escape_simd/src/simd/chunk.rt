@@ -15,13 +15,15 @@ use crate::simd::util::run;
 use escape_lanes::simd::Flags;
 use escape_lanes::simd::target::{Target, Ticks};
 
-/// One vector of the text, and what is left of a run that reaches past it. Answers the places reached.
+/// One vector of the text, and where `long` what is left of a run that reaches past it. Answers the places
+/// reached.
 #[inline(always)]
 pub(crate) fn whole_vector<V: Vector<N>, const MODE: u8, const N: usize, const EXACT: bool>(
     source: &Source<'_>,
     at: usize,
     target: &mut Target<'_, N>,
     to: usize,
+    long: bool,
     ticks: &mut Ticks,
 ) -> (usize, usize)
     requires whole { source.now.base ≡ 0 }
@@ -48,7 +50,10 @@ pub(crate) fn whole_vector<V: Vector<N>, const MODE: u8, const N: usize, const E
             mask,
             ticks,
         );
-        return run::<MODE, N>(source.text, next, target, end);
+        if long {
+            return run::<MODE, N>(source.text, next, target, end);
+        }
+        return (next, end);
     }
     pass::<V, MODE, N>(source.text, at, target, to, &v);
     (at + N, to + N)

@@ -48,7 +48,14 @@ pub(crate) fn escape_many<
         end = reached;
     }
     'vectors: while N <= src.len() - at {
-        let (next, reached) = whole_vector::<V, MODE, N, EXACT>(&source, at, target, end, ticks);
+        let (next, reached) = whole_vector::<V, MODE, N, EXACT>(
+            &source,
+            at,
+            target,
+            end,
+            CHUNK == 1,
+            ticks,
+        );
         at = next;
         end = reached;
     }

@@ -44,13 +44,13 @@ pass-requires g c =
       ),
     )
 
-pub returns-then-not-none-clause-stretch : goal.returns-then-not-none-clause-stretch
-returns-then-not-none-clause-stretch g c =
+pub returns-then-long-clause-stretch : goal.returns-then-long-clause-stretch
+returns-then-long-clause-stretch g c =
     let exact = not (nat_eq (value_of (number g.row.EXACT)) 0) in
     onward c.last_flagged_vector-next.ensures.stretch (widened (rest_slack exact g.row.N) (rest-slack-some exact g.row.N g.met.V.Vector.several) c.run.ensures.stretch)
 
-pub returns-then-not-none-clause-paid : goal.returns-then-not-none-clause-paid
-returns-then-not-none-clause-paid g c =
+pub returns-then-long-clause-paid : goal.returns-then-long-clause-paid
+returns-then-long-clause-paid g c =
     let several = g.met.V.Vector.several in
     let e = c.last_flagged_vector-next.ensures in let on = c.run.ensures in
     let v = vectors-least g.row.N (omega (arith, several)) 1 (c.run.result.0 - c.args.at) (omega (arith, e.passed.whole, on.stretch.forward)) in
@@ -73,3 +73,12 @@ pub returns-clause-stretch : goal.returns-clause-stretch
 returns-clause-stretch g c =
     let exact = not (nat_eq (value_of (number g.row.EXACT)) 0) in
     widened (rest_slack exact g.row.N) (rest-slack-some exact g.row.N g.met.V.Vector.several) c.pass.ensures.stretch
+
+pub returns-then-not-none-clause-paid : goal.returns-then-not-none-clause-paid
+returns-then-not-none-clause-paid g c =
+    let several = g.met.V.Vector.several in let e = c.last_flagged_vector-next.ensures in
+    let v = vectors-least g.row.N (omega (arith, several)) 1 (c.last_flagged_vector-next.result.0 - c.args.at) (omega (arith, e.passed.whole)) in
+    record {
+      stored = omega (arith, e.stored, v);
+      classified = omega (arith, e.classified, c.flags-flags.ensures.tick);
+    }

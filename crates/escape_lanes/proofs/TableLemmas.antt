@@ -32,9 +32,9 @@ marks script = SCRIPT_FLAGGED
 
 -- and the words
 abbrev pub words : Mode → List (List ℕ)
-words json = JSON_WORDS
-words html = HTML_WORDS
-words script = SCRIPT_WORDS
+words json = JSON_WORDS.words
+words html = HTML_WORDS.words
+words script = SCRIPT_WORDS.words
 
 -- each entry that is written out is the one that is defined, by computation
 entries_are : (mode : Mode) → entries mode ≡ map (entry mode) (range_with_len 0 256)

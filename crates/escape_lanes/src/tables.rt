@@ -56,7 +56,7 @@ pub fn script_entry(b: u8) -> &'static (u8, [u8; 8])
 pub fn json_word(b: u8) -> &'static [u8; 8]
     ensures { result.now ≡ entry_word json b }
 {
-    &JSON_WORDS[b as usize]
+    &JSON_WORDS.words[b as usize]
 }
 
 /// The byte's word in HTML: the bytes that stand for it, which are the byte itself where it needs no
@@ -67,7 +67,7 @@ pub fn json_word(b: u8) -> &'static [u8; 8]
 pub fn html_word(b: u8) -> &'static [u8; 8]
     ensures { result.now ≡ entry_word html b }
 {
-    &HTML_WORDS[b as usize]
+    &HTML_WORDS.words[b as usize]
 }
 
 /// The byte's word in a script literal, where no separator begins with it: the bytes that stand for it,
@@ -79,7 +79,7 @@ pub fn html_word(b: u8) -> &'static [u8; 8]
 pub fn script_word(b: u8) -> &'static [u8; 8]
     ensures { result.now ≡ entry_word script b }
 {
-    &SCRIPT_WORDS[b as usize]
+    &SCRIPT_WORDS.words[b as usize]
 }
 
 /// The byte's row of the JSON tables: its mark in [`NEED_ESCAPED`] and its entry in [`QUOTE_TAB`].

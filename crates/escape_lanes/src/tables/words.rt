@@ -1,10 +1,18 @@
 //! What stands for each byte of a text, be it an escape or the byte itself: eight bytes that are written
 //! at once, the last of which says how many of them count.
 
+/// The words of all bytes, each at a multiple of eight: so none lies in two lines of the cache, from which
+/// it would take twice as long to load.
+pub(crate) struct Words {
+    pub words: [[u8; 8]; 256],
+    // Of no bytes: it makes the words begin where a `u64` may.
+    pub aligned: [u64; 0],
+}
+
 /// For each byte of a JSON text what stands for it (RFC 8259, section 7), zeros up to seven bytes, and how
 /// many bytes stand for it.
 #[rattlefmt::skip]
-pub(crate) static JSON_WORDS: [[u8; 8]; 256] = [
+pub(crate) static JSON_WORDS: Words = Words { aligned: [], words: [
     *b"\\u0000\0\x06", // 00
     *b"\\u0001\0\x06", // 01
     *b"\\u0002\0\x06", // 02
@@ -96,12 +104,12 @@ pub(crate) static JSON_WORDS: [[u8; 8]; 256] = [
     [0xf4, 0, 0, 0, 0, 0, 0, 1], [0xf5, 0, 0, 0, 0, 0, 0, 1], [0xf6, 0, 0, 0, 0, 0, 0, 1], [0xf7, 0, 0, 0, 0, 0, 0, 1], // f4
     [0xf8, 0, 0, 0, 0, 0, 0, 1], [0xf9, 0, 0, 0, 0, 0, 0, 1], [0xfa, 0, 0, 0, 0, 0, 0, 1], [0xfb, 0, 0, 0, 0, 0, 0, 1], // f8
     [0xfc, 0, 0, 0, 0, 0, 0, 1], [0xfd, 0, 0, 0, 0, 0, 0, 1], [0xfe, 0, 0, 0, 0, 0, 0, 1], [0xff, 0, 0, 0, 0, 0, 0, 1], // fc
-];
+] };
 
 /// For each byte of an HTML text what stands for it, zeros up to seven bytes, and how many bytes stand for
 /// it.
 #[rattlefmt::skip]
-pub(crate) static HTML_WORDS: [[u8; 8]; 256] = [
+pub(crate) static HTML_WORDS: Words = Words { aligned: [], words: [
     [0x00, 0, 0, 0, 0, 0, 0, 1], [0x01, 0, 0, 0, 0, 0, 0, 1], [0x02, 0, 0, 0, 0, 0, 0, 1], [0x03, 0, 0, 0, 0, 0, 0, 1], // 00
     [0x04, 0, 0, 0, 0, 0, 0, 1], [0x05, 0, 0, 0, 0, 0, 0, 1], [0x06, 0, 0, 0, 0, 0, 0, 1], [0x07, 0, 0, 0, 0, 0, 0, 1], // 04
     [0x08, 0, 0, 0, 0, 0, 0, 1], [0x09, 0, 0, 0, 0, 0, 0, 1], [0x0a, 0, 0, 0, 0, 0, 0, 1], [0x0b, 0, 0, 0, 0, 0, 0, 1], // 08
@@ -174,12 +182,12 @@ pub(crate) static HTML_WORDS: [[u8; 8]; 256] = [
     [0xf4, 0, 0, 0, 0, 0, 0, 1], [0xf5, 0, 0, 0, 0, 0, 0, 1], [0xf6, 0, 0, 0, 0, 0, 0, 1], [0xf7, 0, 0, 0, 0, 0, 0, 1], // f4
     [0xf8, 0, 0, 0, 0, 0, 0, 1], [0xf9, 0, 0, 0, 0, 0, 0, 1], [0xfa, 0, 0, 0, 0, 0, 0, 1], [0xfb, 0, 0, 0, 0, 0, 0, 1], // f8
     [0xfc, 0, 0, 0, 0, 0, 0, 1], [0xfd, 0, 0, 0, 0, 0, 0, 1], [0xfe, 0, 0, 0, 0, 0, 0, 1], [0xff, 0, 0, 0, 0, 0, 0, 1], // fc
-];
+] };
 
 /// For each byte of a script literal what stands for it where no separator begins with it, zeros up to seven
 /// bytes, and how many bytes stand for it.
 #[rattlefmt::skip]
-pub(crate) static SCRIPT_WORDS: [[u8; 8]; 256] = [
+pub(crate) static SCRIPT_WORDS: Words = Words { aligned: [], words: [
     *b"\\u0000\0\x06", // 00
     *b"\\u0001\0\x06", // 01
     *b"\\u0002\0\x06", // 02
@@ -276,4 +284,4 @@ pub(crate) static SCRIPT_WORDS: [[u8; 8]; 256] = [
     [0xf4, 0, 0, 0, 0, 0, 0, 1], [0xf5, 0, 0, 0, 0, 0, 0, 1], [0xf6, 0, 0, 0, 0, 0, 0, 1], [0xf7, 0, 0, 0, 0, 0, 0, 1], // f4
     [0xf8, 0, 0, 0, 0, 0, 0, 1], [0xf9, 0, 0, 0, 0, 0, 0, 1], [0xfa, 0, 0, 0, 0, 0, 0, 1], [0xfb, 0, 0, 0, 0, 0, 0, 1], // f8
     [0xfc, 0, 0, 0, 0, 0, 0, 1], [0xfd, 0, 0, 0, 0, 0, 0, 1], [0xfe, 0, 0, 0, 0, 0, 0, 1], [0xff, 0, 0, 0, 0, 0, 0, 1], // fc
-];
+] };

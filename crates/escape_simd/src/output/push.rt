@@ -6,7 +6,7 @@ use crate::simd::{Vector, load_at};
 use std::alloc::Allocator;
 
 /// So few zeros are stores and no call.
-const FEW: usize = 128;
+const FEW: usize = 160;
 
 /// Appends the bytes to a vector that has room for them.
 #[inline(always)]

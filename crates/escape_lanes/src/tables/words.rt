@@ -2,7 +2,7 @@
 //! at once, the last of which says how many of them count.
 
 /// The words of all bytes, each at a multiple of eight: so none lies in two lines of the cache, from which
-/// it would take twice as long to load.
+/// it would be slower to load.
 pub(crate) struct Words {
     pub words: [[u8; 8]; 256],
     // Of no bytes: it makes the words begin where a `u64` may.

@@ -4,7 +4,6 @@ use Rattle.std.proofs.lemmas.Bool.Decides.{nat_tests}
 use Rattle.std.proofs.lemmas.List.{get_or-drop}
 use Rattle.escape_lanes.specs.Mode.{Mode, json, html, script}
 use Rattle.escape_lanes.specs.Replacement.{needs_escape, replacement}
-use Rattle.escape_lanes.proofs.EntryLemmas.{fewest}
 use Rattle.escape_simd.specs.Modes.{mode_numbered}
 use Rattle.escape_simd.specs.Output.{begins_separator, passed, first_replacement}
 use Rattle.escape_simd.specs.Stretch.{IsByteWise, run_reach}
@@ -48,14 +47,8 @@ module _ (mode : Mode) (src : List ℕ) (at : ℕ) where
       by_mode html none = ap (replacement html) (byte-at src at)
       by_mode script none = rw (none refl) (ap (replacement script) (byte-at src at))
 
--- eight bytes reach no further past the fewest that an escape has
-pub reach-fewest : (mode : Mode) → run_reach mode + fewest mode ≡ 8
-reach-fewest json = refl
-reach-fewest html = refl
-reach-fewest script = refl
-
--- six bytes and two zeros are eight
-pub reach-six : (mode : Mode) → 2 ≤ run_reach mode
+-- eight bytes reach no further past two
+pub reach-six : (mode : Mode) → 6 ≤ run_reach mode
 reach-six json = omega arith
 reach-six html = omega arith
 reach-six script = omega arith

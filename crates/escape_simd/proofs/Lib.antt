@@ -6,7 +6,6 @@ pub mod Lanes
 pub mod Costs
 pub mod Whole
 pub mod Escapes
-pub mod Alone
 pub mod Each
 pub mod Turns
 pub mod RestLemmas

@@ -1,7 +1,9 @@
 //! The run of escapes, and what stands for bytes many of which need one.
-ghost use Rattle.std.specs.Prelude.{◌≡◌, ℕ, ◌+◌, ◌-◌, ◌*◌, ◌<◌, ◌≤◌, ◌++◌, true, false, IsTrue, length, take, drop, slice_index, slice_range};
+ghost use Rattle.std.specs.Prelude.{◌≡◌, ℕ, ◌+◌, ◌-◌, ◌*◌, ◌<◌, ◌≤◌, ◌++◌, true, false, IsTrue, length, take, drop, slice_index, slice_range, if◌then◌else◌};
+ghost use Rattle.std.proofs.Math.Seq.{paste};
+ghost use Rattle.escape_lanes.specs.Entry.{entry_word};
 ghost use Rattle.escape_lanes.specs.Mode.{mode_of};
-ghost use Rattle.escape_lanes.specs.Replacement.{needs_escape};
+ghost use Rattle.escape_lanes.specs.Replacement.{needs_escape, replacement};
 ghost use Rattle.escape_lanes.specs.Written.{bytes_of, stored_of, escaped_of, quotes_of, IsSameSlice};
 ghost use Rattle.escape_simd.specs.Modes.{mode_numbered};
 ghost use Rattle.escape_simd.specs.Output.{inner, passed};
@@ -38,10 +40,25 @@ pub(crate) fn escape<const MODE: u8, const N: usize>(
         return (at + 3, to + 6);
     }
     let b = source.byte(at);
+    (at + 1, put_byte::<MODE, N>(b, target, to))
+}
+
+/// Writes what stands for the byte, be it an escape or the byte itself. Answers the place after it.
+#[inline(always)]
+fn put_byte<const MODE: u8, const N: usize>(b: u8, target: &mut Target<'_, N>, to: usize) -> usize
+    requires { to + 8 ≤ length (bytes_of target.old) }
+    ensures same_slice { IsSameSlice target.old target.new }
+    ensures end { result ≡ to + length (replacement (mode_numbered MODE) b) }
+    ensures bytes { bytes_of target.new ≡ paste (bytes_of target.old) to (entry_word (mode_numbered MODE) b) 8 }
+    ensures stored { stored_of target.new ≡ stored_of target.old }
+    ensures escaped { escaped_of target.new
+        ≡ escaped_of target.old + (if needs_escape (mode_numbered MODE) b then 1 else 0) }
+    ensures quotes { quotes_of target.new ≡ quotes_of target.old }
+{
     let word = word::<MODE>(b);
     // Whether it is an escape is for the count alone, and costs nothing.
     target.put_word(to, word, entry::<MODE>(b).0 != 0);
-    (at + 1, to + word[7] as usize)
+    to + word[7] as usize
 }
 
 /// Writes what stands for the text's bytes from `at` up to `border`, one after another, and for what of a
@@ -107,14 +124,13 @@ pub(crate) fn run<const MODE: u8, const N: usize>(
     let mut next = at;
     let mut end = to;
     'run: while next < src.len() {
-        let entry = entry::<MODE>(src[next]);
-        // None, or e2 in script, for which one byte stands.
-        if entry.0 < 2 {
+        let b = src[next];
+        // No escape, or e2 in script: one byte stands for it.
+        if word::<MODE>(b)[7] < 2 {
             return (next, end);
         }
-        target.escape(end, &entry.1);
+        end = put_byte::<MODE, N>(b, target, end);
         next += 1;
-        end += entry.0 as usize;
     }
     (next, end)
 }

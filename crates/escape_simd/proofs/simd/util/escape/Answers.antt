@@ -1,12 +1,11 @@
-use Rattle.std.proofs.Common.{◌≡◌, ℕ, ◌+◌, true, false, cond, ◌==◌, List, length, take, drop, get_or, codes, if◌then◌else◌, refl, sym, ap, ◌∙◌, arith, inl, inr}
+use Rattle.std.proofs.Common.{◌≡◌, ℕ, ◌+◌, true, false, ◌==◌, List, length, take, drop, get_or, codes, if◌then◌else◌, refl, sym, ap, ◌∙◌, arith, inl, inr}
 use Rattle.std.proofs.lemmas.Bool.{cases_Bool}
 use Rattle.escape_lanes.specs.Mode.{script}
-use Rattle.escape_lanes.specs.Entry.{padded, entry_count, entry_word}
-use Rattle.escape_lanes.specs.Replacement.{needs_escape, replacement}
-use Rattle.escape_lanes.specs.Written.{escaped_of}
+use Rattle.escape_lanes.specs.Entry.{padded}
+use Rattle.escape_lanes.specs.Replacement.{needs_escape}
 use Rattle.escape_simd.specs.Modes.{mode_numbered}
 use Rattle.escape_simd.specs.Output.{begins_separator, passed, first_replacement}
-use Rattle.escape_simd.proofs.Each.{last-word, counted, word-stretch}
+use Rattle.escape_simd.proofs.Each.{word-stretch}
 use Rattle.escape_simd.proofs.Stretches.{escaped_unit, ended}
 use Rattle.escape_simd.proofs.Escapes.{is_script, not_script, third-at, separator-needed, passed-alone}
 use Rattle.escape_simd.proofs.simd.util.escape.Goals.{else-this-ge-SCRIPT_MODE-via-then-this-ge-SCRIPT_MODE+else-is_separator, else-this-ge-SCRIPT_MODE-via-else-this-ge-SCRIPT_MODE}
@@ -55,14 +54,10 @@ returns-clause-place g c =
 
 pub returns-clause-stretch : goal.returns-clause-stretch
 returns-clause-stretch g c slack eight =
-    let mode = mode_numbered g.row.MODE in let src : List ℕ = c.args.source.now.text.now in let at : ℕ = c.args.at in let e = c.put_word.ensures in
+    let mode = mode_numbered g.row.MODE in let src : List ℕ = c.args.source.now.text.now in let at : ℕ = c.args.at in let e = c.put_byte.ensures in
     let none : mode ≡ script → begins_separator (drop at src) ≡ false =
     elim c.else-this-ge-SCRIPT_MODE.branch [
       | else-this-ge-SCRIPT_MODE-via-then-this-ge-SCRIPT_MODE+else-is_separator w ↦ λ e. sym w.is_separator.ensures ∙ w.if-is_separator.false
       | else-this-ge-SCRIPT_MODE-via-else-this-ge-SCRIPT_MODE w ↦ λ e. absurd (not_script g.row.MODE w.if-this-ge-SCRIPT_MODE.false e)
     ] in
-    let b : ℕ = get_or src at 0 in
-    let is = c.word-word.ensures ∙ ap (entry_word mode) c.byte-b.ensures in
-    let escape = ap (λ t. escaped_of c.args.target.now + cond t 1 0) (counted mode b c.entry.result.now.0 (c.entry.ensures.count ∙ ap (entry_count mode) c.byte-b.ensures)) in
-    let last : get_or c.word-word.result.now 7 0 ≡ length (replacement mode b) = ap (λ w. get_or w 7 0) is ∙ last-word mode b in
-    ended (word-stretch mode src c.args.target.now c.put_word.new.self at c.args.to c.word-word.result.now c.requires.inside none is slack eight e.same_slice e.bytes c.requires.room (e.escaped ∙ escape) e.quotes) refl (ap (λ k. c.args.to + k) (sym last))
+    ended (word-stretch mode c.byte-b.result c.args.target.now c.put_byte.new.target c.args.to e.bytes c.requires.room src at c.byte-b.ensures c.requires.inside none slack eight e.same_slice e.escaped e.quotes) refl (sym e.end)

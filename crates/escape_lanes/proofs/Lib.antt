@@ -1,5 +1,4 @@
 pub mod Chunks
-pub mod EntryLemmas
 pub mod FlagLemmas
 pub mod HeldLemmas
 pub mod LaneLemmas

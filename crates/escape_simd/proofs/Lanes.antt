@@ -161,6 +161,13 @@ module _ (mode : Mode) (src : List ℕ) (at taken from : ℕ) (bits : List Bool)
 pub held-further : (mode : Mode) (src : List ℕ) (at taken from next : ℕ) (bits : List Bool) → HoldsFlags mode src at taken from bits → from ≤ next → HoldsFlags mode src at taken next bits
 held-further mode src at taken from next bits held h = record { set = held.set; unset = λ k s after few. held.unset k s (omega arith) few }
 
+-- where lanes are left after a place, it is before the vector's border
+pub before-border : (mode : Mode) (src : List ℕ) (at taken from : ℕ) (bits : List Bool) → HoldsFlags mode src at taken from bits → at ≤ from → at + taken ≤ length src
+    → (rest : List Bool) → rest ≡ clear_first (from - at) bits → none_set rest ≡ false → from < at + taken
+before-border mode src at taken from bits held after inside rest e some =
+    let b = first-bounds mode src at taken from (clear_first (from - at) bits) (held-rest mode src at taken from bits held after inside) after inside (ap none_set (sym e) ∙ some) (rest-cleared mode src at taken from bits held after inside) in
+    omega (arith, b)
+
 -- a mask that is the classification of a vector, cut to the text's bytes
 module _ (mode : Mode) (src lanes : List ℕ) (at n taken from : ℕ) (long : length lanes ≡ n) (few : taken ≤ n) (inside : at + taken ≤ length src) (loaded : take taken lanes ≡ take taken (drop at src)) where
   -- its lanes

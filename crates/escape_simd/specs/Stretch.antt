@@ -78,6 +78,14 @@ run_reach script = 7
 abbrev pub rest_slack : Bool → ℕ → ℕ
 rest_slack exact n = if exact then 8 else n
 
+-- The bytes of a text were passed up to a place not before the border, and at most by the rest of a separator past it:
+-- none of those needs an escape.
+pub record Passed (mode : Mode) (src : List ℕ) (border next : ℕ) : Type 0 where
+  pub whole : border ≤ next
+  pub near : next ≤ border + 2
+  pub exact : IsByteWise mode → next ≡ border
+  pub clean : (p : ℕ) → border ≤ p → p < next → needs_escape mode (slice_index src p) ≡ false
+
 -- A mask has the flags of `taken` bytes of a text from `at` on, which a vector of N bytes holds; they are passed from
 -- `from` on, with what is written at `to`. Twice a vector's bytes can be read from there, and there is room for the rest.
 pub record IsVectorAt (mode : Mode) (N : ℕ) (src : List ℕ) (start_held end_held at taken from to size : ℕ) (bits : List Bool) : Type 0 where
@@ -90,6 +98,15 @@ pub record IsVectorAt (mode : Mode) (N : ℕ) (src : List ℕ) (start_held end_h
   pub base : start_held ≤ at
   pub held : at + N + N ≤ end_held
   pub room : to + room_from mode src from ≤ size
+
+-- All escapes of a vector were written, as a mask with no lane says: its clean bytes from `from` on are left, or the rest
+-- of a separator went past it. What is written is at `to`, and there is room for the rest.
+pub record IsVectorEnd (mode : Mode) (N : ℕ) (src : List ℕ) (start_held end_held at taken from to size : ℕ) (bits : List Bool) : Type 0 where
+  pub none : none_set bits ≡ true
+  pub inside : from ≤ length src
+  pub clean : from < at + taken → IsVectorAt mode N src start_held end_held at taken from to size bits
+  pub over : at + taken ≤ from → Passed mode src (at + taken) from
+  pub room : to + (at + taken - from) ≤ size
 
 -- a vector, whose first lanes are `taken` bytes of the text from `from` on, can be stored at `to`
 pub record CanStore (N : ℕ) (exact : Bool) (src : List ℕ) (from taken to size : ℕ) : Type 0 where
@@ -106,14 +123,6 @@ pub record IsStored {N : ℕ} (exact : Bool) (src : List ℕ) (old new : Target 
   pub stored : stored_of new ≡ stored_of old + 1
   pub escaped : escaped_of new ≡ escaped_of old
   pub quotes : quotes_of new ≡ quotes_of old
-
--- The bytes of a text were passed up to a place not before the border, and at most by the rest of a separator past it:
--- none of those needs an escape.
-pub record Passed (mode : Mode) (src : List ℕ) (border next : ℕ) : Type 0 where
-  pub whole : border ≤ next
-  pub near : next ≤ border + 2
-  pub exact : IsByteWise mode → next ≡ border
-  pub clean : (p : ℕ) → border ≤ p → p < next → needs_escape mode (slice_index src p) ≡ false
 
 -- the text's clean bytes from `from` on, as far as the border, stand in a target from `to` on
 abbrev pub CleanAhead : {N : ℕ} → Mode → List ℕ → Target N → ℕ → ℕ → ℕ → Type 0

@@ -4,7 +4,7 @@ ghost use Rattle.escape_lanes.specs.Bits.{first_set, none_set, clear_first};
 ghost use Rattle.escape_lanes.specs.Written.{bytes_of, stored_of};
 ghost use Rattle.escape_simd.specs.Modes.{mode_numbered};
 ghost use Rattle.escape_simd.specs.Runs.{run_count, run_count_after};
-ghost use Rattle.escape_simd.specs.Stretch.{Stretch, IsVectorAt, IsByteWise, CleanAhead, Passed};
+ghost use Rattle.escape_simd.specs.Stretch.{Stretch, IsVectorAt, IsVectorEnd, IsByteWise, CleanAhead, Passed};
 
 use crate::simd::classify::{SCRIPT_MODE, Vector, store};
 use crate::simd::source::Source;
@@ -55,7 +55,7 @@ fn pass_to_escape<M: LaneMask, const MODE: u8, const N: usize>(
 /// or in script that with which a separator begins.
 #[inline(always)]
 fn take_off<M: LaneMask, const MODE: u8>(mask: &M, count: usize) -> M
-    requires inside { count < M.LEN }
+    requires inside { 2 ≤ MODE → count < M.LEN }
     requires some { none_set (M.bits mask.now) ≡ false }
     requires alone { IsByteWise (mode_numbered MODE) → count ≡ first_set (M.bits mask.now) + 1 }
     ensures { M.bits result ≡ clear_first count (M.bits mask.now) }
@@ -105,6 +105,40 @@ fn store_ahead<V: Vector<N>, M: LaneMask, const MODE: u8, const N: usize, const 
     store::<V, N>(&v, source.text, from, at + taken - from, EXACT, target, to);
 }
 
+/// The clean bytes from `from` on of the vector at `at`, whose last escape was written. Answers the places
+/// reached.
+#[inline(always)]
+fn pass_to_border<V: Vector<N>, M: LaneMask, const MODE: u8, const N: usize, const EXACT: bool>(
+    source: &Source<'_>,
+    at: usize,
+    taken: usize,
+    from: usize,
+    target: &mut Target<'_, N>,
+    to: usize,
+    mask: &M,
+    ticks: &mut Ticks,
+) -> (usize, usize)
+    requires place { IsVectorEnd (mode_numbered MODE) N source.now.text.now source.now.base
+        (source.now.base + length source.now.bytes.now)
+        at taken from to (length (bytes_of target.old)) (M.bits mask.now) }
+    requires narrow { EXACT ≡ false → N ≤ length source.now.text.now - (at + taken) + 32 }
+    ensures stretch { (slack : ℕ)
+        → 8 ≤ slack
+        → (EXACT ≡ false → N ≤ length source.now.text.now - (at + taken) + slack)
+        → Stretch (mode_numbered MODE) slack source.now.text.now
+        target.old target.new from result.0 to result.1 }
+    ensures passed { Passed (mode_numbered MODE) source.now.text.now (at + taken) result.0 }
+    ensures stored { stored_of target.new + run_count (mode_numbered MODE) (drop result.0 source.now.text.now)
+        ≤ stored_of target.old + run_count_after (mode_numbered MODE) true (drop from source.now.text.now) + 1 }
+    ensures classified { ticks.new + stored_of target.old ≡ ticks.old + stored_of target.new }
+{
+    if at + taken <= from {
+        return (from, to);
+    }
+    store_ahead::<V, M, MODE, N, EXACT>(source, at, taken, from, target, to, mask, ticks);
+    (at + taken, to + (at + taken - from))
+}
+
 /// The bytes from `from` on of the vector at `at`, which holds `taken` bytes of the text, and what of a
 /// separator goes past them: each turn writes one escape and takes its lane off the mask. Answers the
 /// places reached.
@@ -147,10 +181,15 @@ pub(crate) fn turns<V: Vector<N>, M: LaneMask, const MODE: u8, const N: usize, c
         let (after, reached) = pass_to_escape::<M, MODE, N>(
             source, at, taken, next, target, end, &rest,
         );
-        if at + taken <= after {
+        if SCRIPT_MODE <= MODE && at + taken <= after {
             return (after, reached);
         }
         rest = take_off::<M, MODE>(&rest, after - at);
+        if rest.all_zero() {
+            return pass_to_border::<V, M, MODE, N, EXACT>(
+                source, at, taken, after, target, reached, &rest, ticks,
+            );
+        }
         store_ahead::<V, M, MODE, N, EXACT>(
             source, at, taken, after, target, reached, &rest, ticks,
         );

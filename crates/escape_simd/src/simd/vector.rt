@@ -3,14 +3,27 @@ ghost use Rattle.std.specs.Prelude.{◌≡◌, ℕ, ◌+◌, ◌-◌, ◌<◌, �
 ghost use Rattle.escape_lanes.specs.Written.{bytes_of, stored_of};
 ghost use Rattle.escape_simd.specs.Modes.{mode_numbered};
 ghost use Rattle.escape_simd.specs.Runs.{run_count};
-ghost use Rattle.escape_simd.specs.Stretch.{Stretch, IsVectorAt, Passed, room_from};
+ghost use Rattle.escape_simd.specs.Stretch.{Stretch, IsVectorAt, IsByteWise, Passed, room_from};
 
-use crate::simd::classify::{Vector, store};
+use crate::simd::classify::{SCRIPT_MODE, Vector, store};
 use crate::simd::source::Source;
 use crate::simd::turn::turns;
 use crate::simd::util::escape_each;
 use escape_lanes::simd::target::{Target, Ticks};
 use escape_lanes::simd::{Flags, LaneMask};
+
+/// The place reached past a vector that ends at `border`: that, or in script a place past it. So in the other
+/// modes the places of a chunk's vectors are known without what was done to the ones before.
+#[inline(always)]
+fn place_past<const MODE: u8>(border: usize, next: usize) -> usize
+    requires { IsByteWise (mode_numbered MODE) → next ≡ border }
+    ensures { result ≡ next }
+{
+    if SCRIPT_MODE <= MODE {
+        return next;
+    }
+    border
+}
 
 /// The vector at `at`, which holds `taken` bytes of the text: these bytes from `from` on, and what of
 /// a separator goes past them. Answers the places reached.
@@ -51,9 +64,13 @@ pub(crate) fn vector<V: Vector<N>, const MODE: u8, const N: usize, const EXACT: 
 {
     store::<V, N>(v, source.text, from, at + taken - from, EXACT, target, to);
     if taken / 4 <= mask.count_set() {
-        return escape_each::<MODE, N>(source, from, at + taken, target, to);
+        let (next, end) = escape_each::<MODE, N>(source, from, at + taken, target, to);
+        return (place_past::<MODE>(at + taken, next), end);
     }
-    turns::<V, _, MODE, N, EXACT>(source, at, taken, from, target, to, mask, ticks)
+    let (next, end) = turns::<V, _, MODE, N, EXACT>(
+        source, at, taken, from, target, to, mask, ticks,
+    );
+    (place_past::<MODE>(at + taken, next), end)
 }
 
 /// As [`vector`], in a function of its own: what calls it passes clean bytes with no stack frame.

@@ -4,7 +4,7 @@ use Rattle.escape_simd.specs.Runs.{run_count}
 use Rattle.escape_simd.specs.Stretch.{HoldsFlags}
 use Rattle.escape_simd.proofs.Texts.{runs_after-≤}
 use Rattle.escape_simd.proofs.Stretches.{standing, onward, ended, clean_ahead, clean_runs, rest-bounds}
-use Rattle.escape_simd.proofs.Lanes.{first-bounds, held-none, held-further, held-rest, rest-cleared}
+use Rattle.escape_simd.proofs.Lanes.{first-bounds, held-none, held-further, held-rest, rest-cleared, before-border}
 use Rattle.escape_simd.proofs.Turns.{clean-each}
 use Rattle.escape_simd.proofs.simd.turn.turns.Goals as goal
 
@@ -53,6 +53,43 @@ returns-then-at-taken-clause-stored g c =
     let most = runs_after-≤ (mode_numbered g.row.MODE) (drop c.pass_to_escape-after.result.0 c.args.source.now.text.now) in
     omega (arith, most, e.run, e.stored, inv.stored)
 
+pub pass_to_border-requires : goal.pass_to_border-requires
+pass_to_border-requires g c =
+    let mode = mode_numbered g.row.MODE in let src : List ℕ = c.args.source.now.text.now in let inv = c.turns.invariant in let p = c.requires.place in
+    let at : ℕ = c.args.at in let taken : ℕ = c.args.taken in let next : ℕ = c.turns.next in let after : ℕ = c.pass_to_escape-after.result.0 in
+    let bits = g.M.BitMask.bits c.turns.rest in let e = c.take_off-rest.ensures in let x = c.pass_to_escape-after.ensures in
+    let b = first-bounds mode src at taken next bits inv.flags (omega (arith, p.after, inv.forward)) p.inside (sym c.all_zero.ensures ∙ c.turns-test.true) inv.cleared in
+    let from_here : next ≤ after = omega (arith, b, x.first) in
+    let further = held-further mode src at taken next after bits inv.flags from_here in
+    let later : at ≤ after = omega (arith, p.after, inv.forward, from_here) in
+    let s = inv.stretch 32 (omega arith) c.requires.narrow in let t = x.stretch 32 (omega arith) in let r = rest-bounds mode src after in (
+      omega arith,
+      (
+        record {
+          none = sym c.all_zero-in-turns.ensures ∙ c.if-all_zero.true;
+          inside = t.inside;
+          clean = λ before. record {
+            count = g.met.M.BitMask.count c.take_off-rest.result ∙ sym (g.met.M.BitMask.count c.turns.rest) ∙ inv.count;
+            flags = subst (λ bs. HoldsFlags mode src at taken after bs) (sym e) (held-rest mode src at taken after bits further later p.inside);
+            few = p.few;
+            inside = p.inside;
+            after = later;
+            before = before;
+            base = p.base;
+            held = p.held;
+            room = omega (arith, s.limit, s.same_slice.len, t.limit, t.same_slice.len, p.room);
+          };
+          over = x.border;
+          room = omega (arith, r, s.limit, s.same_slice.len, t.limit, t.same_slice.len, p.room, p.inside);
+        },
+        c.requires.narrow,
+      ),
+    )
+
+pub returns-then-all_zero-clause-stretch : goal.returns-then-all_zero-clause-stretch
+returns-then-all_zero-clause-stretch g c slack eight narrow =
+    onward (onward (c.turns.invariant.stretch slack eight narrow) (c.pass_to_escape-after.ensures.stretch slack eight)) (c.pass_to_border.ensures.stretch slack eight narrow)
+
 pub store_ahead-requires : goal.store_ahead-requires
 store_ahead-requires g c =
     let mode = mode_numbered g.row.MODE in let src : List ℕ = c.args.source.now.text.now in let inv = c.turns.invariant in let p = c.requires.place in
@@ -61,6 +98,8 @@ store_ahead-requires g c =
     let b = first-bounds mode src at taken next bits inv.flags (omega (arith, p.after, inv.forward)) p.inside (sym c.all_zero.ensures ∙ c.turns-test.true) inv.cleared in
     let from_here : next ≤ after = omega (arith, b, x.first) in
     let further = held-further mode src at taken next after bits inv.flags from_here in
+    let later : at ≤ after = omega (arith, p.after, inv.forward, from_here) in
+    let within = before-border mode src at taken after bits further later p.inside (g.M.BitMask.bits c.take_off-rest.result) e (sym c.all_zero-in-turns.ensures ∙ c.if-all_zero.false) in
     let s = inv.stretch 32 (omega arith) c.requires.narrow in let t = x.stretch 32 (omega arith) in (
       omega arith,
       (
@@ -69,8 +108,8 @@ store_ahead-requires g c =
           flags = subst (λ bs. HoldsFlags mode src at taken after bs) (sym e) (held-rest mode src at taken after bits further (omega (arith, p.after, inv.forward, from_here)) p.inside);
           few = p.few;
           inside = p.inside;
-          after = omega (arith, p.after, inv.forward, from_here);
-          before = c.if-at-taken.false;
+          after = later;
+          before = within;
           base = p.base;
           held = p.held;
           room = omega (arith, s.limit, s.same_slice.len, t.limit, t.same_slice.len, p.room);
@@ -97,7 +136,7 @@ turns-preserved g c =
     let later : at ≤ after = omega (arith, p.after, inv.forward, from_here) in
     record {
       forward = omega (arith, inv.forward, from_here);
-      before = c.if-at-taken.false;
+      before = before-border mode src at taken after bits further later p.inside (g.M.BitMask.bits c.take_off-rest.result) e (sym c.all_zero-in-turns.ensures ∙ c.if-all_zero.false);
       stretch = λ slack eight narrow. onward (onward (inv.stretch slack eight narrow) (x.stretch slack eight)) (a.stretch slack eight narrow);
       count = g.met.M.BitMask.count c.take_off-rest.result ∙ sym (g.met.M.BitMask.count c.turns.rest) ∙ inv.count;
       flags = subst (λ bs. HoldsFlags mode src at taken after bs) (sym e) (held-rest mode src at taken after bits further later p.inside);

@@ -1,8 +1,8 @@
-use Rattle.std.proofs.Common.{ℕ, ◌+◌, ◌-◌, not, nat_eq, List, length, arith}
+use Rattle.std.proofs.Common.{ℕ, ◌+◌, ◌-◌, not, nat_eq, List, length, refl, sym, arith}
 use denote.Param.{number, value_of}
 use Rattle.escape_simd.specs.Modes.{mode_numbered}
 use Rattle.escape_simd.specs.Stretch.{rest_length}
-use Rattle.escape_simd.proofs.Stretches.{onward, stored_ahead, rest-bounds}
+use Rattle.escape_simd.proofs.Stretches.{onward, ended, stored_ahead, rest-bounds}
 use Rattle.escape_simd.proofs.Lanes.{stored-low}
 use Rattle.escape_simd.proofs.Turns.{ahead-front}
 use Rattle.escape_simd.proofs.simd.vector.vector.Goals as goal
@@ -24,8 +24,8 @@ store-requires g c =
       ),
     )
 
-pub escape_each-requires : goal.escape_each-requires
-escape_each-requires g c =
+pub escape_each-next-requires : goal.escape_each-next-requires
+escape_each-next-requires g c =
     let p = c.requires.place in
     (omega arith, (p.before, (p.inside, (omega (arith, p.base, p.after), (omega (arith, p.held, p.few, g.met.V.Vector.several), omega (arith, p.room, c.store.ensures.same_slice.len))))))
 
@@ -36,10 +36,10 @@ returns-then-taken-count_set-clause-stretch g c slack eight narrow =
     let r = rest-bounds mode src c.args.from in
     let low = stored-low exact g.row.N (c.args.at + c.args.taken - c.args.from) (rest_length mode src c.args.from) (length src - (c.args.at + c.args.taken)) slack (omega (arith, p.few, p.after)) (omega (arith, r, p.inside, p.before)) narrow in
     onward (stored_ahead mode slack exact src c.args.target.now c.store.new.target c.args.from (c.args.at + c.args.taken - c.args.from) c.args.to c.store.ensures (omega (arith, p.inside, p.before)) low)
-    (c.escape_each.ensures.stretch slack eight)
+    (ended (c.escape_each-next.ensures.stretch slack eight) (sym c.place_past.ensures) refl)
 
-pub turns-requires : goal.turns-requires
-turns-requires g c =
+pub turns-next-requires : goal.turns-next-requires
+turns-next-requires g c =
     let src : List ℕ = c.args.source.now.text.now in let p = c.requires.place in let t = c.store.ensures in (
       omega arith,
       (
@@ -74,4 +74,4 @@ returns-clause-stretch g c slack eight narrow =
     let r = rest-bounds mode src c.args.from in
     let low = stored-low exact g.row.N (c.args.at + c.args.taken - c.args.from) (rest_length mode src c.args.from) (length src - (c.args.at + c.args.taken)) slack (omega (arith, p.few, p.after)) (omega (arith, r, p.inside, p.before)) narrow in
     onward (stored_ahead mode slack exact src c.args.target.now c.store.new.target c.args.from (c.args.at + c.args.taken - c.args.from) c.args.to c.store.ensures (omega (arith, p.inside, p.before)) low)
-    (c.turns.ensures.stretch slack eight narrow)
+    (ended (c.turns-next.ensures.stretch slack eight narrow) (sym c.place_past-2.ensures) refl)

@@ -15,15 +15,20 @@ use crate::simd::util::run;
 use escape_lanes::simd::Flags;
 use escape_lanes::simd::target::{Target, Ticks};
 
-/// One vector of the text, and where `long` what is left of a run that reaches past it. Answers the places
-/// reached.
+/// One vector of the text, and where vectors are classified alone, what is left of a run that reaches past
+/// it. Answers the places reached.
 #[inline(always)]
-pub(crate) fn whole_vector<V: Vector<N>, const MODE: u8, const N: usize, const EXACT: bool>(
+pub(crate) fn whole_vector<
+    V: Vector<N>,
+    const MODE: u8,
+    const N: usize,
+    const CHUNK: usize,
+    const EXACT: bool,
+>(
     source: &Source<'_>,
     at: usize,
     target: &mut Target<'_, N>,
     to: usize,
-    long: bool,
     ticks: &mut Ticks,
 ) -> (usize, usize)
     requires whole { source.now.base ≡ 0 }
@@ -50,7 +55,7 @@ pub(crate) fn whole_vector<V: Vector<N>, const MODE: u8, const N: usize, const E
             mask,
             ticks,
         );
-        if long {
+        if CHUNK == 1 {
             return run::<MODE, N>(source.text, next, target, end);
         }
         return (next, end);

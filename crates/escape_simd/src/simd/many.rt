@@ -48,13 +48,8 @@ pub(crate) fn escape_many<
         end = reached;
     }
     'vectors: while N <= src.len() - at {
-        let (next, reached) = whole_vector::<V, MODE, N, EXACT>(
-            &source,
-            at,
-            target,
-            end,
-            CHUNK == 1,
-            ticks,
+        let (next, reached) = whole_vector::<V, MODE, N, CHUNK, EXACT>(
+            &source, at, target, end, ticks,
         );
         at = next;
         end = reached;

@@ -67,6 +67,17 @@ fn take_off<M: LaneMask, const MODE: u8>(mask: &M, count: usize) -> M
     mask.clear_first_set()
 }
 
+/// Classifies a vector whose flags are known from the mask that is held: for its tick alone.
+///
+/// It is made before what calls it, and no instruction is left of it: so the callers are not too large to be
+/// parts of the body.
+#[inline]
+fn classify_again<V: Vector<N>, const MODE: u8, const N: usize>(v: &V, ticks: &mut Ticks)
+    ensures { ticks.new ≡ ticks.old + 1 }
+{
+    let _ = v.flags(MODE, ticks);
+}
+
 /// Stores the vector at `at` again from `from` on, where a run of escapes has ended, so that the clean
 /// bytes up to the next run stand in the target. Where the run goes on, nothing is stored.
 ///
@@ -100,8 +111,7 @@ fn store_ahead<V: Vector<N>, M: LaneMask, const MODE: u8, const N: usize, const 
         return;
     }
     let v = V::load(source, from);
-    // What it says is known from the mask: it is called for its tick alone, and costs nothing.
-    let _ = v.flags(MODE, ticks);
+    classify_again::<V, MODE, N>(&v, ticks);
     store::<V, N>(&v, source.text, from, at + taken - from, EXACT, target, to);
 }
 

@@ -44,13 +44,13 @@ pass-requires g c =
       ),
     )
 
-pub returns-then-long-clause-stretch : goal.returns-then-long-clause-stretch
-returns-then-long-clause-stretch g c =
+pub returns-then-this-eq1-clause-stretch : goal.returns-then-this-eq1-clause-stretch
+returns-then-this-eq1-clause-stretch g c =
     let exact = not (nat_eq (value_of (number g.row.EXACT)) 0) in
     onward c.last_flagged_vector-next.ensures.stretch (widened (rest_slack exact g.row.N) (rest-slack-some exact g.row.N g.met.V.Vector.several) c.run.ensures.stretch)
 
-pub returns-then-long-clause-paid : goal.returns-then-long-clause-paid
-returns-then-long-clause-paid g c =
+pub returns-then-this-eq1-clause-paid : goal.returns-then-this-eq1-clause-paid
+returns-then-this-eq1-clause-paid g c =
     let several = g.met.V.Vector.several in
     let e = c.last_flagged_vector-next.ensures in let on = c.run.ensures in
     let v = vectors-least g.row.N (omega (arith, several)) 1 (c.run.result.0 - c.args.at) (omega (arith, e.passed.whole, on.stretch.forward)) in

@@ -63,4 +63,4 @@ returns-clause-stored g c =
     omega (arith, over, c.store.ensures.stored)
 
 pub returns-clause-classified : goal.returns-clause-classified
-returns-clause-classified g c = omega (arith, c.store.ensures.stored, c.flags.ensures.tick)
+returns-clause-classified g c = omega (arith, c.store.ensures.stored, c.classify_again.ensures)

@@ -59,8 +59,8 @@ fn json_by(kernel: Kernel, value: &str, dst: &mut [u8]) -> usize
     }
 }
 
-/// As [`json_by`], by a kernel of 16 lanes. Apart, two kernels and three are told by comparisons: five would be
-/// by a table of jumps, for which a short text waits.
+/// As [`json_by`], by a kernel of 16 lanes. Apart, two kernels and three are told by comparisons, where five would
+/// be told by a table of jumps.
 #[inline(never)]
 fn json_by_sixteen(value: &str, dst: &mut [u8], kernel: Kernel) -> usize
     requires narrow { lanes_of kernel ≡ 16 }
@@ -122,8 +122,8 @@ fn html_by(kernel: Kernel, value: &str, dst: &mut [u8]) -> usize
     }
 }
 
-/// As [`html_by`], by a kernel of 16 lanes. Apart, two kernels and three are told by comparisons: five would be
-/// by a table of jumps, for which a short text waits.
+/// As [`html_by`], by a kernel of 16 lanes. Apart, two kernels and three are told by comparisons, where five would
+/// be told by a table of jumps.
 #[inline(never)]
 fn html_by_sixteen(value: &str, dst: &mut [u8], kernel: Kernel) -> usize
     requires narrow { lanes_of kernel ≡ 16 }
@@ -185,8 +185,8 @@ fn script_by(kernel: Kernel, value: &str, dst: &mut [u8]) -> usize
     }
 }
 
-/// As [`script_by`], by a kernel of 16 lanes. Apart, two kernels and three are told by comparisons: five would be
-/// by a table of jumps, for which a short text waits.
+/// As [`script_by`], by a kernel of 16 lanes. Apart, two kernels and three are told by comparisons, where five would
+/// be told by a table of jumps.
 #[inline(never)]
 fn script_by_sixteen(value: &str, dst: &mut [u8], kernel: Kernel) -> usize
     requires narrow { lanes_of kernel ≡ 16 }

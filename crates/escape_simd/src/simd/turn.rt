@@ -67,10 +67,10 @@ fn take_off<M: LaneMask, const MODE: u8>(mask: &M, count: usize) -> M
     mask.clear_first_set()
 }
 
-/// Classifies a vector whose flags are known from the mask that is held: for its tick alone.
+/// Classifies a vector whose flags are known from the mask that is held, for the tick alone.
 ///
-/// It is made before what calls it, and no instruction is left of it: so the callers are not too large to be
-/// parts of the body.
+/// It is compiled before its callers, and nothing is left of it. So they don't count three classifiers as
+/// theirs, and are not too large to be inlined.
 #[inline]
 fn classify_again<V: Vector<N>, const MODE: u8, const N: usize>(v: &V, ticks: &mut Ticks)
     ensures { ticks.new ≡ ticks.old + 1 }

@@ -69,8 +69,8 @@ fn take_off<M: LaneMask, const MODE: u8>(mask: &M, count: usize) -> M
 
 /// Classifies a vector whose flags are known from the mask that is held, for the tick alone.
 ///
-/// It is compiled before its callers, and nothing is left of it. So they don't count three classifiers as
-/// theirs, and are not too large to be inlined.
+/// Nothing is left of it where it is built. With the classifiers in them its callers would be too large for the
+/// toolchain to inline, and the body with them.
 #[inline]
 fn classify_again<V: Vector<N>, const MODE: u8, const N: usize>(v: &V, ticks: &mut Ticks)
     ensures { ticks.new ≡ ticks.old + 1 }

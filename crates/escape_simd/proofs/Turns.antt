@@ -1,6 +1,7 @@
 -- How far the turns of a vector have come.
 use Rattle.std.proofs.Common.{◌≡◌, ℕ, zero, suc, ◌+◌, ◌-◌, ◌<◌, ◌≤◌, Bool, true, false, true≢false, List, length, take, drop, get_or, refl, sym, ap, ◌∙◌, arith, length-take-le, length-drop}
 use Rattle.std.proofs.lemmas.List.{take-take, get_or-take, get_or-drop}
+use Rattle.escape_lanes.specs.Bits.{none_set}
 use Rattle.escape_lanes.specs.Mode.{Mode}
 use Rattle.escape_lanes.specs.Replacement.{needs_escape}
 use Rattle.escape_lanes.specs.Written.{bytes_of, stored_of}
@@ -9,6 +10,8 @@ use Rattle.escape_simd.specs.Output.{passed}
 use Rattle.escape_simd.specs.Runs.{run_count}
 use Rattle.escape_simd.specs.Stretch.{Stretch, HoldsFlags, CleanAhead}
 use Rattle.escape_simd.proofs.Texts.{IsClean, passed-between}
+use Rattle.escape_simd.proofs.Stretches.{ended, clean_ahead, clean_runs}
+use Rattle.escape_simd.proofs.Lanes.{held-none}
 
 -- The bytes from `from` up to `next` were passed, of a vector whose mask now has the lanes from there on.
 pub record TurnsSoFar {N : ℕ} (mode : Mode) (exact : Bool) (src : List ℕ) (old new : Target N) (at taken from next to end : ℕ) (bits : List Bool) (ticks_old ticks_new : ℕ) : Type 0 where
@@ -47,3 +50,22 @@ pub passed-clean : (mode : Mode) (src : List ℕ) (f next q : ℕ) → next ≡ 
 passed-clean mode src f next q place after before =
     let e : f + (q - f) ≡ q = omega (arith, after) in
     ap (needs_escape mode) (ap (λ k. get_or src k 0) (sym e) ∙ sym (get_or-drop f src (q - f) 0)) ∙ passed-between mode (drop f src) (q - f) (omega (arith, after)) (omega (arith, after, before, place))
+
+-- where a mask has no lane left, the bytes up to the vector's border
+module _ (mode : Mode) (src : List ℕ) (at taken from : ℕ) (bits : List Bool) (held : HoldsFlags mode src at taken from bits) (after : at ≤ from) (before : from < at + taken) (inside : at + taken ≤ length src) (none : none_set bits ≡ true) where
+  clean-left : IsClean mode (take (at + taken - from) (drop from src))
+  clean-left = held-none mode src at taken from bits held after inside none
+
+  whole-left : from + (at + taken - from) ≡ at + taken
+  whole-left = omega (arith, before)
+
+  -- are passed as they stand in the target
+  pub border-stretch : {N : ℕ} (slack : ℕ) (target : Target N) (to : ℕ) → CleanAhead mode src target from (at + taken) to → Stretch mode slack src target target from (at + taken) to (to + (at + taken - from))
+  border-stretch slack target to ahead =
+      let within : from + (at + taken - from) ≤ length src = omega (arith, whole-left, inside) in
+      let stands = ahead (at + taken - from) (omega (arith, whole-left)) (clean-each mode src from (at + taken - from) within clean-left) in
+      ended (clean_ahead mode slack src target from to (at + taken - from) (at + taken - from) stands (omega arith) within clean-left) whole-left refl
+
+  -- and begin no run
+  pub border-runs : run_count mode (drop (at + taken) src) ≡ run_count mode (drop from src)
+  border-runs = sym (ap (λ k. run_count mode (drop k src)) whole-left) ∙ clean_runs mode src from (at + taken - from) clean-left

@@ -1,11 +1,10 @@
-use Rattle.std.proofs.Common.{◌≡◌, ℕ, ◌+◌, ◌-◌, ◌≤◌, false, List, length, drop, get_or, refl, sym, ap, subst, ◌∙◌, arith}
+use Rattle.std.proofs.Common.{ℕ, ◌≤◌, false, List, length, drop, get_or, refl, sym, ap, subst, ◌∙◌, arith}
 use Rattle.escape_simd.specs.Modes.{mode_numbered}
-use Rattle.escape_simd.specs.Runs.{run_count}
 use Rattle.escape_simd.specs.Stretch.{HoldsFlags}
 use Rattle.escape_simd.proofs.Texts.{runs_after-≤}
-use Rattle.escape_simd.proofs.Stretches.{standing, onward, ended, clean_ahead, clean_runs, rest-bounds}
-use Rattle.escape_simd.proofs.Lanes.{first-bounds, held-none, held-further, held-rest, rest-cleared, before-border}
-use Rattle.escape_simd.proofs.Turns.{clean-each}
+use Rattle.escape_simd.proofs.Stretches.{standing, onward, rest-bounds}
+use Rattle.escape_simd.proofs.Lanes.{first-bounds, held-further, held-rest, rest-cleared, before-border}
+use Rattle.escape_simd.proofs.Turns.{border-stretch, border-runs}
 use Rattle.escape_simd.proofs.simd.turn.turns.Goals as goal
 
 pub turns-init : goal.turns-init
@@ -154,19 +153,12 @@ overflow_add-result-3 g c =
 
 pub returns-clause-stretch : goal.returns-clause-stretch
 returns-clause-stretch g c slack eight narrow =
-    let mode = mode_numbered g.row.MODE in let src : List ℕ = c.args.source.now.text.now in let inv = c.turns.invariant in let p = c.requires.place in
-    let next : ℕ = c.turns.next in let left : ℕ = c.args.at + c.args.taken - c.turns.next in
-    let clean = held-none mode src c.args.at c.args.taken next (g.M.BitMask.bits c.turns.rest) inv.flags (omega (arith, p.after, inv.forward)) p.inside (sym c.all_zero.ensures ∙ c.turns-test.false) in
-    let whole : next + left ≡ c.args.at + c.args.taken = omega (arith, inv.before) in
-    let within : next + left ≤ length src = omega (arith, p.inside, inv.before) in
-    let stands = inv.ahead left (omega (arith, whole)) (clean-each mode src next left within clean) in
-    onward (inv.stretch slack eight narrow) (ended (clean_ahead mode slack src c.turns.target next c.turns.end left left stands (omega arith) within clean) whole refl)
+    let inv = c.turns.invariant in let p = c.requires.place in
+    onward (inv.stretch slack eight narrow)
+    (border-stretch (mode_numbered g.row.MODE) c.args.source.now.text.now c.args.at c.args.taken c.turns.next (g.M.BitMask.bits c.turns.rest) inv.flags (omega (arith, p.after, inv.forward)) inv.before p.inside (sym c.all_zero.ensures ∙ c.turns-test.false) slack c.turns.target c.turns.end inv.ahead)
 
 pub returns-clause-stored : goal.returns-clause-stored
 returns-clause-stored g c =
-    let mode = mode_numbered g.row.MODE in let src : List ℕ = c.args.source.now.text.now in let inv = c.turns.invariant in let p = c.requires.place in
-    let next : ℕ = c.turns.next in let left : ℕ = c.args.at + c.args.taken - c.turns.next in
-    let clean = held-none mode src c.args.at c.args.taken next (g.M.BitMask.bits c.turns.rest) inv.flags (omega (arith, p.after, inv.forward)) p.inside (sym c.all_zero.ensures ∙ c.turns-test.false) in
-    let whole : next + left ≡ c.args.at + c.args.taken = omega (arith, inv.before) in
-    let same = clean_runs mode src next left clean in let there = ap (λ k. run_count mode (drop k src)) whole in
-    omega (arith, same, there, inv.stored)
+    let inv = c.turns.invariant in let p = c.requires.place in
+    let same = border-runs (mode_numbered g.row.MODE) c.args.source.now.text.now c.args.at c.args.taken c.turns.next (g.M.BitMask.bits c.turns.rest) inv.flags (omega (arith, p.after, inv.forward)) inv.before p.inside (sym c.all_zero.ensures ∙ c.turns-test.false) in
+    omega (arith, same, inv.stored)

@@ -15,7 +15,6 @@ use Rattle.std.specs.Simd.Lanes.{number_l, digits_l}
 use lib.Dec.{T}
 use mir.Syntax.{w8}
 use mir.Val.{zeroes}
-use Rattle.escape_lanes.specs.declared.simd.last.TheConstants.{PLACES}
 
 -- each element is a byte
 abbrev pub AreSmall : List ℕ → Type 0
@@ -206,57 +205,3 @@ module _ (src : List ℕ) (count : ℕ) (small : AreSmall src) (inside : count �
       let e : drop (length src - (count - w)) src ≡ drop w last = rw (← drop-last (count - w) (omega arith)) (ap (λ i. drop i last) (omega arith)) in
       let k : w - (count - w) ≡ 2 * w - count = omega arith in
       rw (e, k) (sym (append_assoc (take w last) (drop w last) _) ∙ ap (λ xs. xs ++ replicate (2 * w - count) 0) (take-append-drop w last))
-
--- the places of 16 lanes, and then places that read as 0
-places : PLACES ≡ range_with_len 0 16 ++ replicate 16 128
-places = refl
-
--- a place of a lane
-low_place : (k : ℕ) → k < 16 → get_or PLACES k 0 ≡ k
-low_place k h = ap (λ xs. get_or xs k 0) places ∙ get_or_append_left (range_with_len 0 16) (replicate 16 128) 0 k h ∙ get_or-range_with_len 0 16 k 0 h ∙ zero-add k
-
--- a place that reads as 0
-high_place : (k : ℕ) → 16 ≤ k → k < 32 → get_or PLACES k 0 ≡ 128
-high_place k h l = ap (λ xs. get_or xs k 0) places ∙ get_or-append_right (range_with_len 0 16) (replicate 16 128) 16 k 0 refl h ∙ get_or-replicate {A = ℕ} 16 (k - 16) 128 0 (omega arith)
-
--- which can be looked up
-low_ok : (j : ℕ) → j < 16 → T (zeroes 16 w8 j || ltb j 16)
-low_ok j h = rw (lt-leb 128 j (omega arith)) (yes_ltb h)
-
--- the look-up that moves 16 lanes down, by all but count of them
-module _ (lanes js : List ℕ) (count : ℕ) (few : count < 16) (whole : length lanes ≡ 16) (is : js ≡ take 16 (drop (16 - count) PLACES)) where
-  -- the place that is looked up for a lane
-  place : (k : ℕ) → k < 16 → get_or js k 0 ≡ get_or PLACES (16 - count + k) 0
-  place k h = ap (λ xs. get_or xs k 0) is ∙ get_or-take 16 (drop (16 - count) PLACES) k 0 h ∙ get_or-drop (16 - count) PLACES k 0
-
-  -- there are 16
-  length-places : length js ≡ 16
-  length-places = ap length is ∙ length-take-le 16 (drop (16 - count) PLACES) (omega (arith, length-drop (16 - count) PLACES))
-
-  -- they can be looked up
-  pub places_ok : SwzOk w8 16 16 0 js
-  places_ok =
-      SwzOk-from_Each1 w8 16 1 16 0 js refl (omega (arith, length-places)) (Each1-from_get_or _ js 0 (λ k h.
-      let lt : k < 16 = omega (arith, length-places) in
-      elim (leb_tells count k) [
-        | inl past ↦ rw (place k lt, high_place (16 - count + k) (omega (arith, past.1)) (omega arith)) tt
-        | inr below ↦ rw (place k lt, low_place (16 - count + k) (omega (arith, below.1))) (low_ok (16 - count + k) (omega (arith, below.1)))
-      ]))
-
-  -- and give the last count lanes, and zeros
-  pub moved : swz_l w8 16 lanes 0 js ≡ drop (16 - count) lanes ++ replicate (16 - count) 0
-  moved =
-      let last = drop (16 - count) lanes in let zeros : List ℕ = replicate (16 - count) 0 in
-      let count_last : length last ≡ count = omega (arith, length-drop (16 - count) lanes) in
-      let long : length (last ++ zeros) ≡ 16 = simp (length-append, length-replicate) (omega (arith, count_last)) in
-      ext_get_or 0 _ _ (length-swz_l w8 16 lanes 0 js ∙ length-places ∙ sym long) (λ k h.
-      let lt : k < 16 = omega (arith, length-swz_l w8 16 lanes 0 js, length-places) in
-      let in_places : k < length js = omega (arith, length-places) in
-      elim (leb_tells count k) [
-        | inl past ↦ get_or-swz_l w8 16 lanes 0 js k in_places ∙ rw (place k lt, high_place (16 - count + k) (omega (arith, past.1)) (omega arith)) (sym (get_or-append_right last zeros count k 0 count_last past.1 ∙ get_or-replicate {A = ℕ} (16 - count) (k - count) 0 0 (omega (arith, past.1))))
-        | inr below ↦
-            let j : get_or js k 0 ≡ 16 - count + k = place k lt ∙ low_place (16 - count + k) (omega (arith, below.1)) in
-            get_or-swz_l_below w8 16 lanes 0 js k in_places (omega (arith, j, below.1))
-            ∙ ap (λ i. get_or lanes i 0) (omega (arith, j))
-            ∙ sym (get_or_append_left last zeros 0 k (omega (arith, below.1, count_last)) ∙ get_or-drop (16 - count) lanes k 0)
-      ])

@@ -1,4 +1,5 @@
 pub mod Chunks
+pub mod DownLemmas
 pub mod FlagLemmas
 pub mod HeldLemmas
 pub mod LaneLemmas

@@ -3,8 +3,10 @@
 pub mod avx2;
 pub mod avx512;
 pub mod bits;
+pub mod down;
 pub mod flags;
 mod front;
+mod halves;
 mod lanes;
 pub mod last;
 pub mod neon;
@@ -16,6 +18,7 @@ mod ticks;
 pub mod traits;
 pub mod v128;
 
+pub use down::MoveDown;
 pub use flags::{Flags, LaneMask};
 pub use last::LoadLast;
 pub use traits::{BitMask, Mask, Simd};

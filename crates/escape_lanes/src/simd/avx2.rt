@@ -12,6 +12,7 @@ ghost use Rattle.escape_lanes.specs.Replacement.{needs_escape};
 
 mod script;
 
+use crate::simd::down::{self, MoveDown};
 use crate::simd::flags::Flags;
 use crate::simd::lanes;
 use crate::simd::last::{self, LoadLast};
@@ -200,6 +201,15 @@ impl LoadLast for Simd256u {
     fn load_last(src: &[u8], count: usize) -> Self {
         Simd256u {
             lanes: last::last_32(src, count),
+        }
+    }
+}
+
+impl MoveDown for Simd256u {
+    #[inline(always)]
+    fn move_down(&self, count: usize) -> Self {
+        Simd256u {
+            lanes: down::down_32(&self.lanes, count),
         }
     }
 }

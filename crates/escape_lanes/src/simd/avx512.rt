@@ -11,6 +11,7 @@ ghost use Rattle.escape_lanes.specs.Replacement.{needs_escape};
 
 mod script;
 
+use crate::simd::down::{self, MoveDown};
 use crate::simd::flags::Flags;
 use crate::simd::lanes;
 use crate::simd::last::{self, LoadLast};
@@ -193,6 +194,13 @@ impl LoadLast for Simd512u {
         Simd512u {
             lanes: last::last_64(src, count),
         }
+    }
+}
+
+impl MoveDown for Simd512u {
+    #[inline(always)]
+    fn move_down(&self, count: usize) -> Self {
+        down::down_in_memory::<Self, 64>(self, count)
     }
 }
 

@@ -6,6 +6,8 @@ ghost use Rattle.std.specs.Prelude.{◌≡◌, ◌+◌, ◌*◌, ◌-◌, ◌<�
 ghost use Rattle.std.specs.Simd.Lanes.{number_l};
 ghost use Rattle.escape_lanes.specs.Lanes.{AreBytes};
 
+use crate::simd::down::down_16;
+use crate::simd::halves::{both_16, both_32};
 use crate::simd::lanes;
 use crate::simd::traits::Simd;
 use std::simd::prelude::*;
@@ -21,25 +23,6 @@ pub trait LoadLast: Simd {
         requires inside { count ≤ length src.now }
         ensures { Self.lanes result ≡ drop (length src.now - count) src.now ++ replicate (Self.LANES - count) 0 };
 }
-
-// The places of 16 lanes, and then places that read as 0.
-const PLACES: [u8; 32] = [
-    0, 1, 2, 3, 4, 5, 6, 7, 8, 9, 10, 11, 12, 13, 14, 15, 128, 128, 128, 128, 128, 128, 128, 128,
-    128, 128, 128, 128, 128, 128, 128, 128,
-];
-
-// All lanes of two vectors of 16.
-const BOTH_16: [usize; 32] = [
-    0, 1, 2, 3, 4, 5, 6, 7, 8, 9, 10, 11, 12, 13, 14, 15, 16, 17, 18, 19, 20, 21, 22, 23, 24, 25,
-    26, 27, 28, 29, 30, 31,
-];
-
-// All lanes of two vectors of 32.
-const BOTH_32: [usize; 64] = [
-    0, 1, 2, 3, 4, 5, 6, 7, 8, 9, 10, 11, 12, 13, 14, 15, 16, 17, 18, 19, 20, 21, 22, 23, 24, 25,
-    26, 27, 28, 29, 30, 31, 32, 33, 34, 35, 36, 37, 38, 39, 40, 41, 42, 43, 44, 45, 46, 47, 48, 49,
-    50, 51, 52, 53, 54, 55, 56, 57, 58, 59, 60, 61, 62, 63,
-];
 
 /// The eight bytes from `at` on, as a number.
 #[inline(always)]
@@ -137,8 +120,7 @@ fn moved_down(src: &[u8], count: usize) -> u8x16
     requires long { 16 ≤ length src.now }
     ensures { result ≡ drop (length src.now - count) src.now ++ replicate (16 - count) 0 }
 {
-    let last: u8x16 = lanes::load(&src[src.len() - 16..]);
-    last.swizzle_dyn(lanes::load(&PLACES[16 - count..]))
+    down_16(&lanes::load(&src[src.len() - 16..]), 16 - count)
 }
 
 /// The last `count` bytes, with zeros after them, in 16 lanes.
@@ -154,26 +136,6 @@ pub(crate) fn last_16(src: &[u8], count: usize) -> u8x16
     } else {
         joined(src, count)
     }
-}
-
-/// Two vectors of 16 lanes as one.
-#[inline(always)]
-fn both_16(low: u8x16, high: u8x16) -> u8x32
-    requires low { length low ≡ 16 }
-    requires high { length high ≡ 16 }
-    ensures { result ≡ low ++ high }
-{
-    low.shuffle(high, BOTH_16)
-}
-
-/// Two vectors of 32 lanes as one.
-#[inline(always)]
-fn both_32(low: u8x32, high: u8x32) -> u8x64
-    requires low { length low ≡ 32 }
-    requires high { length high ≡ 32 }
-    ensures { result ≡ low ++ high }
-{
-    low.shuffle(high, BOTH_32)
 }
 
 /// The last `count` bytes, with zeros after them, in 32 lanes.

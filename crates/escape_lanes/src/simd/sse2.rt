@@ -9,6 +9,7 @@ ghost use Rattle.escape_lanes.specs.Replacement.{needs_escape};
 
 mod script;
 
+use crate::simd::down::{self, MoveDown};
 use crate::simd::flags::Flags;
 use crate::simd::lanes;
 use crate::simd::last::{self, LoadLast};
@@ -188,6 +189,15 @@ impl LoadLast for Simd128u {
     fn load_last(src: &[u8], count: usize) -> Self {
         Simd128u {
             lanes: last::last_16(src, count),
+        }
+    }
+}
+
+impl MoveDown for Simd128u {
+    #[inline(always)]
+    fn move_down(&self, count: usize) -> Self {
+        Simd128u {
+            lanes: down::down_16(&self.lanes, count),
         }
     }
 }

@@ -15,6 +15,7 @@ ghost use Rattle.escape_lanes.specs.Words.{lanes_of_word, lanes_of_words, words-
 
 mod script;
 
+use crate::simd::down::{self, MoveDown};
 use crate::simd::flags::Flags;
 use crate::simd::last::{self, LoadLast};
 use crate::simd::target::Ticks;
@@ -320,6 +321,13 @@ impl LoadLast for Simd128u {
     fn load_last(src: &[u8], count: usize) -> Self {
         let [low, high] = last::words(src, count);
         Simd128u { low, high }
+    }
+}
+
+impl MoveDown for Simd128u {
+    #[inline(always)]
+    fn move_down(&self, count: usize) -> Self {
+        down::down_in_memory::<Self, 16>(self, count)
     }
 }
 

@@ -9,7 +9,7 @@ use Rattle.std.proofs.lemmas.List.{get_or-drop, get_or-take, get_or-append_right
 use Rattle.std.proofs.lemmas.List.FromFn.{get_or-range_with_len}
 use Rattle.std.proofs.lemmas.Bool.{lt-leb}
 use Rattle.std.proofs.lemmas.Bool.Decides.{leb_tells}
-use Rattle.std.proofs.lemmas.Simd.{swz_l, SwzOk, SwzOk-from_Each1, length-swz_l, get_or-swz_l, get_or-swz_l_below, get_or-zip2, length-zip2, Each1-from_get_or}
+use Rattle.std.proofs.lemmas.Simd.{swz_l, SwzOk, SwzOk-from_Each1, get_or-swz_l, get_or-swz_l_below, get_or-zip2, length-zip2, Each1-from_get_or}
 use lib.Dec.{T}
 use mir.Syntax.{w8}
 use mir.Val.{zeroes}

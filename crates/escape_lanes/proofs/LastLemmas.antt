@@ -1,20 +1,12 @@
 -- The last bytes of a text in a vector: words that are joined, lanes that move down, and halves.
-use Rattle.std.proofs.Common.{Fits, ltb, ◌||◌, ◌≡◌, ℕ, zero, suc, ◌+◌, ◌-◌, ◌*◌, ◌/◌, ◌%◌, ◌^◌, ◌<◌, ◌≤◌, List, [], ◌∷◌, ◌++◌, length, take, drop, replicate, get_or, bit_or, refl, sym, ap, ap₂, ◌∙◌, inl, inr, arith, length-append, length-drop}
+use Rattle.std.proofs.Common.{Fits, ◌≡◌, ℕ, zero, suc, ◌+◌, ◌-◌, ◌*◌, ◌/◌, ◌%◌, ◌^◌, ◌<◌, ◌≤◌, List, [], ◌∷◌, ◌++◌, length, take, drop, replicate, get_or, bit_or, refl, sym, ap, ap₂, ◌∙◌, arith, length-drop}
 use Rattle.std.proofs.Math.Nat.{div-div-eq-div-mul, mod-eq_of_lt, zero-div, zero-mul, zero-add, add-zero, add-sub_assoc, mul-one, mul_assoc, mul_comm, mul_left_comm}
-use Rattle.std.proofs.Math.Facts.{yes_ltb}
 use Rattle.std.proofs.Math.Pow.{pow_mono}
 use Rattle.std.proofs.lemmas.Nat.{pow-add, or_mod, or_shr}
 use Rattle.std.specs.Int.Bits.{or_self, or_zero_l, or_zero_r, or_shifted_r}
-use Rattle.std.proofs.lemmas.List.{append_assoc, take-append-drop, drop-drop, take_all, get_or-drop, get_or-take, get_or-append_right, get_or_append_left, get_or-replicate, length-replicate, length-take-le, ext_get_or, replicate-append-replicate}
-use Rattle.std.proofs.lemmas.List.FromFn.{get_or-range_with_len}
-use Rattle.std.proofs.lemmas.Bool.{lt-leb}
-use Rattle.std.proofs.lemmas.Bool.Decides.{leb_tells}
-use Rattle.std.proofs.lemmas.Simd.{swz_l, SwzOk, SwzOk-from_Each1, length-swz_l, get_or-swz_l, get_or-swz_l_below, Each1-from_get_or}
-use Rattle.std.specs.List.{range_with_len}
+use Rattle.std.proofs.lemmas.List.{append_assoc, take-append-drop, drop-drop, take_all, get_or-drop, replicate-append-replicate}
 use Rattle.std.specs.Simd.Lanes.{number_l, digits_l}
-use lib.Dec.{T}
 use mir.Syntax.{w8}
-use mir.Val.{zeroes}
 
 -- each element is a byte
 abbrev pub AreSmall : List ℕ → Type 0

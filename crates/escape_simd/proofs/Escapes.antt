@@ -1,7 +1,7 @@
 -- What one escape writes, and how far a run of escapes goes.
-use Rattle.std.proofs.Common.{◌≡◌, ℕ, zero, suc, ◌+◌, ◌<◌, ◌≤◌, true, false, ◌&&◌, ◌||◌, ◌==◌, List, drop, get_or, refl, sym, ap, ◌∙◌, arith}
-use Rattle.std.proofs.lemmas.Bool.Decides.{nat_tests}
-use Rattle.std.proofs.lemmas.List.{get_or-drop}
+use Rattle.std.proofs.Common.{◌≡◌, ℕ, zero, suc, ◌+◌, ◌<◌, ◌≤◌, true, false, ◌&&◌, ◌||◌, ◌==◌, List, length, drop, get_or, refl, sym, ap, ◌∙◌, inl, inr, arith}
+use Rattle.std.proofs.lemmas.Bool.Decides.{nat_tests, leb_tells}
+use Rattle.std.proofs.lemmas.List.{get_or-drop, get_or_past}
 use Rattle.escape_lanes.specs.Mode.{Mode, json, html, script}
 use Rattle.escape_lanes.specs.Replacement.{needs_escape, replacement}
 use Rattle.escape_simd.specs.Modes.{mode_numbered}
@@ -18,6 +18,15 @@ begins-at src at =
 -- it begins with a byte that is flagged
 pub separator-needed : (src : List ℕ) (at : ℕ) → begins_separator (drop at src) ≡ true → needs_escape script (get_or src at 0) ≡ true
 separator-needed src at begins = let e = sym (begins-at src at) ∙ begins in grind (arith, nat_tests, e)
+
+-- it has three bytes
+pub third-inside : (src : List ℕ) (at : ℕ) → begins_separator (drop at src) ≡ true → at + 2 < length src
+third-inside src at begins =
+    let e = sym (begins-at src at) ∙ begins in
+    elim (leb_tells (length src) (at + 2)) [
+      | inl past ↦ let none = get_or_past src (at + 2) 0 past.1 in absurd (grind (arith, nat_tests, e, none))
+      | inr within ↦ within.1
+    ]
 
 -- its third byte, told of the text
 pub third-at : (src : List ℕ) (at : ℕ) → get_or (drop at src) 2 0 ≡ get_or src (at + 2) 0

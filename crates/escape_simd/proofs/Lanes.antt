@@ -1,14 +1,14 @@
 -- What a mask tells of the text that its vector holds.
-use Rattle.std.proofs.Common.{◌≡◌, ℕ, zero, suc, ◌+◌, ◌-◌, ◌<◌, ◌≤◌, Bool, true, false, true≢false, cond, ◌||◌, List, [], ◌∷◌, length, take, drop, get_or, map, replicate, refl, sym, ap, ◌∙◌, arith, length-take-le, length-drop, inl, inr}
+use Rattle.std.proofs.Common.{◌≡◌, ℕ, zero, suc, ◌+◌, ◌-◌, ◌<◌, ◌≤◌, Bool, true, false, true≢false, cond, ◌||◌, List, [], ◌∷◌, ◌++◌, length, take, drop, get_or, map, replicate, refl, sym, ap, ◌∙◌, arith, length-take-le, length-drop, inl, inr}
 use Rattle.std.proofs.lemmas.Bool.Decides.{leb_tells}
-use Rattle.std.proofs.lemmas.List.{length-take, length-map, get_or-take, get_or-drop, get_or-map, get_or_past, take_all, append-nil, get_or_append_left, get_or-append_right, get_or-replicate, length-replicate}
+use Rattle.std.proofs.lemmas.List.{length-take, length-map, get_or-take, get_or-drop, get_or-map, get_or_past, take_all, append-nil, get_or_append_left, get_or-append_right, get_or-replicate, length-replicate, take-take, take-append-le, drop-take, drop-drop}
 use Rattle.std.proofs.lemmas.List.Sums.{sum_by-append}
 use Rattle.std.specs.List.{count_by}
 use Rattle.std.specs.Simd.Lanes.{zip2}
 use Rattle.escape_lanes.specs.Bits.{first_set, none_set, clear_first, clear_last}
-use Rattle.escape_lanes.specs.Mode.{Mode, json, html, script}
+use Rattle.escape_lanes.specs.Mode.{Mode}
 use Rattle.escape_lanes.specs.Replacement.{needs_escape}
-use Rattle.escape_simd.specs.Stretch.{HoldsFlags, look_ahead, stored_lanes}
+use Rattle.escape_simd.specs.Stretch.{HoldsFlags, stored_lanes}
 use Rattle.escape_simd.proofs.Texts.{IsClean}
 
 -- no lane before the first set one is set
@@ -239,11 +239,23 @@ pub stored-low : (exact : Bool) (n taken rest past slack : ℕ) → taken ≤ n 
 stored-low true n taken rest past slack few long narrow = omega arith
 stored-low false n taken rest past slack few long narrow = let m = narrow refl in omega (arith, m)
 
--- no more than two bytes are looked at past a flagged one
-pub look_ahead≤two : (mode : Mode) → look_ahead mode ≤ 2
-look_ahead≤two json = omega arith
-look_ahead≤two html = omega arith
-look_ahead≤two script = omega arith
+-- what is loaded, by its first bytes
+pub loaded-front : (lanes xs : List ℕ) (n count : ℕ) → lanes ≡ take n xs → count ≤ n → take count lanes ≡ take count xs
+loaded-front lanes xs n count loaded few = ap (take count) loaded ∙ take-take count n xs few
+
+-- what is left of a vector at `at` from `from` on
+pub left-front : (src lanes result : List ℕ) (at taken from n : ℕ) → taken ≤ n → at ≤ from → from < at + taken → length lanes ≡ n → take taken lanes ≡ take taken (drop at src)
+    → result ≡ drop (from - at) lanes ++ replicate (from - at) 0 → take (at + taken - from) result ≡ take (at + taken - from) (drop from src)
+left-front src lanes result at taken from n few after before width held moved =
+    let k : ℕ = from - at in let left : ℕ = at + taken - from in
+    let all : k + left ≡ taken = omega (arith, after, before) in
+    let there : at + k ≡ from = omega (arith, after) in
+    ap (take left) moved
+    ∙ take-append-le left (drop k lanes) (replicate k 0) (omega (arith, length-drop k lanes, width, few, after, before))
+    ∙ sym (drop-take k left lanes)
+    ∙ ap (drop k) (ap (λ m. take m lanes) all ∙ held ∙ ap (λ m. take m (drop at src)) (sym all))
+    ∙ drop-take k left (drop at src)
+    ∙ ap (take left) (drop-drop k at src ∙ ap (λ m. drop m src) there)
 
 -- where a mask sets a lane, its vector has a byte of the text
 pub held-some : (mode : Mode) (src : List ℕ) (at taken from : ℕ) (bits : List Bool) → HoldsFlags mode src at taken from bits → none_set bits ≡ false → 0 < taken

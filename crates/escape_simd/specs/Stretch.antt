@@ -87,24 +87,29 @@ pub record Passed (mode : Mode) (src : List ℕ) (border next : ℕ) : Type 0 wh
   pub clean : (p : ℕ) → border ≤ p → p < next → needs_escape mode (slice_index src p) ≡ false
 
 -- A mask has the flags of `taken` bytes of a text from `at` on, which a vector of N bytes holds; they are passed from
--- `from` on, with what is written at `to`. Twice a vector's bytes can be read from there, and there is room for the rest.
-pub record IsVectorAt (mode : Mode) (N : ℕ) (src : List ℕ) (start_held end_held at taken from to size : ℕ) (bits : List Bool) : Type 0 where
+-- `from` on, with what is written at `to`, and there is room for the rest.
+pub record IsVectorAt (mode : Mode) (N : ℕ) (src : List ℕ) (at taken from to size : ℕ) (bits : List Bool) : Type 0 where
   pub count : length bits ≡ N
   pub flags : HoldsFlags mode src at taken from bits
   pub few : taken ≤ N
   pub inside : at + taken ≤ length src
   pub after : at ≤ from
   pub before : from < at + taken
-  pub base : start_held ≤ at
-  pub held : at + N + N ≤ end_held
   pub room : to + room_from mode src from ≤ size
+
+-- A vector holds `taken` bytes of a text from `at` on. Where it may not be the text's last one, a vector can be loaded from
+-- each of them on, and where stores are not exact, the rest of the text and a vector of 32 bytes have room for one.
+pub record IsHeld (N : ℕ) (exact last : Bool) (src : List ℕ) (at taken : ℕ) (lanes : List ℕ) : Type 0 where
+  pub held : take taken lanes ≡ take taken (drop at src)
+  pub behind : last ≡ false → at + N + N ≤ length src
+  pub narrow : exact ≡ false → N ≤ length src - (at + taken) + 32
 
 -- All escapes of a vector were written, as a mask with no lane says: its clean bytes from `from` on are left, or the rest
 -- of a separator went past it. What is written is at `to`, and there is room for the rest.
-pub record IsVectorEnd (mode : Mode) (N : ℕ) (src : List ℕ) (start_held end_held at taken from to size : ℕ) (bits : List Bool) : Type 0 where
+pub record IsVectorEnd (mode : Mode) (N : ℕ) (src : List ℕ) (at taken from to size : ℕ) (bits : List Bool) : Type 0 where
   pub none : none_set bits ≡ true
   pub inside : from ≤ length src
-  pub clean : from < at + taken → IsVectorAt mode N src start_held end_held at taken from to size bits
+  pub clean : from < at + taken → IsVectorAt mode N src at taken from to size bits
   pub over : at + taken ≤ from → Passed mode src (at + taken) from
   pub room : to + (at + taken - from) ≤ size
 

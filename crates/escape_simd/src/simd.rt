@@ -17,7 +17,6 @@ pub mod neon;
 mod pass;
 mod rest;
 mod short;
-mod source;
 pub mod sse2;
 mod string;
 mod turn;
@@ -26,9 +25,9 @@ pub mod v128;
 mod vector;
 
 pub(crate) use ahead::{
-    count_or_more, is_clean, load_at, load_masked, most_between, most_of_eight, most_of_four,
+    count_or_more, is_clean, load_masked, most_between, most_of_eight, most_of_four,
 };
 pub(crate) use body::escape_at;
 pub(crate) use classify::Vector;
 pub use classify::{HTML_MODE, JSON_MODE, SCRIPT_MODE};
-pub use escape_lanes::simd::{BitMask, Flags, LaneMask, LoadLast, Mask, Simd, bits, target};
+pub use escape_lanes::simd::{BitMask, Flags, LaneMask, LoadLast, Mask, MoveDown, Simd, bits, target};

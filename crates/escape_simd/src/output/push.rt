@@ -2,7 +2,7 @@
 ghost use Rattle.std.specs.Prelude.{◌≡◌, ◌+◌, ◌*◌, ◌≤◌, ◌++◌, length, take, drop, vec_len, vec_capacity};
 ghost use Rattle.std.specs.List.{flat_map};
 
-use crate::simd::{Vector, load_at};
+use crate::simd::Vector;
 use std::alloc::Allocator;
 
 /// So few zeros are stores and no call.
@@ -73,7 +73,7 @@ pub(super) fn push_vector<V: Vector<N>, A: Allocator, const N: usize>(
     ensures capacity { vec_capacity dst.old ≤ vec_capacity dst.new }
 {
     let mut lanes = [0u8; N];
-    load_at::<V, N>(src, at).put(&mut lanes);
+    V::load(src, at).put(&mut lanes);
     dst.truncate(len);
     push_all(dst, &lanes);
 }
@@ -88,8 +88,8 @@ fn two_at<V: Vector<N>, const N: usize>(src: &[u8], at: usize) -> [[u8; N]; 2]
     ensures { flat_map (λ row. row) result ≡ take (2 * N) (drop at src.now) }
 {
     let mut rows = [[0u8; N]; 2];
-    load_at::<V, N>(src, at).put(&mut rows[0]);
-    load_at::<V, N>(src, at + N).put(&mut rows[1]);
+    V::load(src, at).put(&mut rows[0]);
+    V::load(src, at + N).put(&mut rows[1]);
     rows
 }
 

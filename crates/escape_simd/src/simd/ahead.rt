@@ -6,18 +6,8 @@ ghost use Rattle.escape_simd.specs.Ahead.{IsCleanBetween};
 ghost use Rattle.escape_simd.specs.Modes.{mode_numbered};
 
 use crate::simd::classify::Vector;
-use crate::simd::source::Source;
 use escape_lanes::simd::target::Ticks;
 use escape_lanes::simd::{BitMask, Flags, LaneMask};
-
-/// The vector of the text at `at`.
-#[inline(always)]
-pub(crate) fn load_at<V: Vector<N>, const N: usize>(src: &[u8], at: usize) -> V
-    requires { at + N ≤ length src.now }
-    ensures { V.lanes result ≡ take N (drop at src.now) }
-{
-    V::load(&Source::whole(src), at)
-}
 
 /// Which bytes of the vector of the text at `at` need an escape.
 #[inline(always)]
@@ -26,7 +16,7 @@ fn flags_at<V: Vector<N>, const MODE: u8, const N: usize>(src: &[u8], at: usize)
     ensures { V.Flags.truths result
         ≡ map (needs_escape (mode_numbered MODE)) (take N (drop at src.now)) }
 {
-    load_at::<V, N>(src, at).flags(MODE, &mut Ticks::new())
+    V::load(src, at).flags(MODE, &mut Ticks::new())
 }
 
 /// The text's last `left` bytes, fewer than a vector has, and which of them need an escape.

@@ -10,13 +10,12 @@ ghost use Rattle.escape_simd.specs.Laws.{IsOfOneText};
 ghost use Rattle.escape_simd.specs.Modes.{mode_numbered};
 
 use crate::simd::classify::{HTML_MODE, JSON_MODE, SCRIPT_MODE, Vector};
-use crate::simd::source::Source;
 use crate::simd::{body, inner, string};
 pub use escape_lanes::simd::avx512::{
     Flags512, Mask512, Simd512u, escaped_flags, escaped_mask, script_flags, script_mask,
 };
 use escape_lanes::simd::target::{Target, Ticks};
-use escape_lanes::simd::{LoadLast, Simd};
+use escape_lanes::simd::{LoadLast, MoveDown, Simd};
 
 impl Vector<64> for Simd512u {
     type Flags = Flags512;
@@ -32,13 +31,18 @@ impl Vector<64> for Simd512u {
     ghost few = { lit≤ tt };
 
     #[inline(always)]
-    fn load(source: &Source<'_>, at: usize) -> Self {
-        source.load::<Self, 64>(at)
+    fn load(text: &[u8], at: usize) -> Self {
+        Self::loadu(&text[at..])
     }
 
     #[inline(always)]
     fn load_last(text: &[u8], count: usize) -> Self {
         <Self as LoadLast>::load_last(text, count)
+    }
+
+    #[inline(always)]
+    fn move_down(&self, count: usize) -> Self {
+        <Self as MoveDown>::move_down(self, count)
     }
 
     #[inline(always)]

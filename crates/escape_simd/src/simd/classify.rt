@@ -5,7 +5,6 @@ ghost use Rattle.escape_lanes.specs.Written.{bytes_of};
 ghost use Rattle.escape_simd.specs.Modes.{mode_numbered};
 ghost use Rattle.escape_simd.specs.Stretch.{CanStore, IsStored, stored_lanes};
 
-use crate::simd::source::Source;
 use escape_lanes::simd::Flags;
 use escape_lanes::simd::target::{Target, Ticks};
 
@@ -28,14 +27,10 @@ pub(crate) trait Vector<const N: usize>: Drop {
     // The bytes, lane by lane.
     ghost lanes: { Self → List ℕ };
 
-    /// The text's bytes from `at` on, with zeros past its end.
-    fn load(source: &Source<'_>, at: usize) -> Self
-        requires after { source.now.base ≤ at }
-        requires held { at + N ≤ source.now.base + length source.now.bytes.now }
-        ensures { (taken : ℕ)
-            → taken ≤ N
-            → at + taken ≤ length source.now.text.now
-            → take taken (lanes result) ≡ take taken (drop at source.now.text.now) };
+    /// The text's bytes from `at` on.
+    fn load(text: &[u8], at: usize) -> Self
+        requires { at + N ≤ length text.now }
+        ensures { lanes result ≡ take N (drop at text.now) };
 
     /// The text's last `count` bytes, and zeros.
     fn load_last(text: &[u8], count: usize) -> Self
@@ -43,6 +38,11 @@ pub(crate) trait Vector<const N: usize>: Drop {
         requires inside { count ≤ length text.now }
         ensures { lanes result
             ≡ drop (length text.now - count) text.now ++ replicate (N - count) 0 };
+
+    /// The lanes from `count` on, and zeros after them.
+    fn move_down(&self, count: usize) -> Self
+        requires { count < N }
+        ensures { lanes result ≡ drop count (lanes self.now) ++ replicate count 0 };
 
     /// Flags the lanes whose byte needs an escape in the mode numbered `mode`, and ticks once.
     fn flags(&self, mode: u8, ticks: &mut Ticks) -> Self::Flags

@@ -5,7 +5,6 @@ ghost use Rattle.escape_simd.specs.Modes.{mode_numbered};
 ghost use Rattle.escape_simd.specs.Output.{begins_separator};
 
 use crate::simd::classify::{HTML_MODE, JSON_MODE};
-use crate::simd::source::Source;
 use escape_lanes::tables::{
     LINE_SEPARATOR, PARAGRAPH_SEPARATOR, html_entry, html_word, json_entry, json_word,
     script_entry, script_word,
@@ -44,15 +43,17 @@ pub(crate) fn word<const MODE: u8>(b: u8) -> &'static [u8; 8]
 
 /// Whether a separator begins at `at`: e2 80 a8 or e2 80 a9.
 #[inline(always)]
-pub(crate) fn is_separator(source: &Source<'_>, at: usize) -> bool
-    requires after { source.now.base ≤ at }
-    requires held { at + 2 < source.now.base + length source.now.bytes.now }
-    ensures { result ≡ begins_separator (drop at source.now.text.now) }
+pub(crate) fn is_separator(src: &[u8], at: usize) -> bool
+    requires { at < length src.now }
+    ensures { result ≡ begins_separator (drop at src.now) }
 {
-    if source.byte(at) != 0xe2 {
+    if src[at] != 0xe2 {
         return false;
     }
-    let (second, third) = (source.byte(at + 1), source.byte(at + 2));
+    if src.len() - at < 3 {
+        return false;
+    }
+    let (second, third) = (src[at + 1], src[at + 2]);
     second == 0x80 && (third == 0xa8 || third == 0xa9)
 }
 

@@ -9,7 +9,6 @@ ghost use Rattle.escape_simd.specs.Headline.{IsOnlyOutput};
 ghost use Rattle.escape_simd.specs.Laws.{IsOfOneText};
 ghost use Rattle.escape_simd.specs.Stretch.{Stretch, HoldsFlags, room_from, rest_slack};
 
-use crate::simd::ahead::load_at;
 use crate::simd::body::{format_many, quote};
 use crate::simd::classify::Vector;
 use crate::simd::clean::{written_three, written_two};
@@ -127,7 +126,7 @@ fn written_few<V: Vector<N>, const MODE: u8, const N: usize, const CHUNK: usize,
     let src = value.as_bytes();
     // Where there is no second whole vector, the first one stands for it.
     let second = if 2 * N <= src.len() { N } else { 0 };
-    let (v1, v2) = (load_at::<V, N>(src, 0), load_at::<V, N>(src, second));
+    let (v1, v2) = (V::load(src, 0), V::load(src, second));
     let mut ticks = Ticks::new();
     let (flags1, flags2) = (v1.flags(MODE, &mut ticks), v2.flags(MODE, &mut ticks));
     if !flags1.join(&flags2).none() {

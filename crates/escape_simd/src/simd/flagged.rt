@@ -7,8 +7,7 @@ ghost use Rattle.escape_simd.specs.Stretch.{Stretch, HoldsFlags, Passed, room_fr
 
 use crate::simd::classify::Vector;
 use crate::simd::pass::pass;
-use crate::simd::source::Source;
-use crate::simd::vector::vector;
+use crate::simd::vector::{last_apart, vector};
 use escape_lanes::simd::target::{Target, Ticks};
 use escape_lanes::simd::{BitMask, Flags};
 
@@ -35,48 +34,8 @@ pub(crate) fn flagged_vector<V: Vector<N>, const MODE: u8, const N: usize>(
         ≤ stored_of target.old + run_count (mode_numbered MODE) (drop from src.now) + 1 }
     ensures classified { ticks.new + stored_of target.old + 1 ≡ ticks.old + stored_of target.new }
 {
-    let source = Source::whole(src);
-    let v = V::load(&source, from);
-    vector::<V, MODE, N, false>(&source, at, N, from, target, to, &v, &mask, ticks)
-}
-
-/// The same where fewer bytes than a vector has follow the vector. They are put into memory with zeros after
-/// them, so that vectors can be loaded from any byte of this one on.
-#[inline(never)]
-fn padded_vector<V: Vector<N>, const MODE: u8, const N: usize, const EXACT: bool>(
-    src: &[u8],
-    at: usize,
-    from: usize,
-    target: &mut Target<'_, N>,
-    to: usize,
-    mask: <V::Flags as Flags>::BitMask,
-    ticks: &mut Ticks,
-) -> (usize, usize)
-    requires inside { at + N ≤ length src.now }
-    requires few { length src.now < at + 2 * N }
-    requires passed { Passed (mode_numbered MODE) src.now at from }
-    requires narrow { EXACT ≡ false → N ≤ 32 }
-    requires flagged { HoldsFlags (mode_numbered MODE) src.now at N at (V.Flags.BitMask.bits mask) }
-    requires room { to + room_from (mode_numbered MODE) src.now from ≤ length (bytes_of target.old) }
-    ensures stretch { Stretch (mode_numbered MODE) (rest_slack EXACT N) src.now
-        target.old target.new from result.0 to result.1 }
-    ensures passed { Passed (mode_numbered MODE) src.now (at + N) result.0 }
-    ensures stored { stored_of target.new + run_count (mode_numbered MODE) (drop result.0 src.now)
-        ≤ stored_of target.old + run_count (mode_numbered MODE) (drop from src.now) + 1 }
-    ensures classified { ticks.new + stored_of target.old + 1 ≡ ticks.old + stored_of target.new }
-{
-    let v = V::load(&Source::whole(src), at);
-    let w = V::load_last(src, src.len() - (at + N));
-    let mut held = [[0u8; N]; 3];
-    v.put(&mut held[0]);
-    w.put(&mut held[1]);
-    let source = Source::padded(src, at, held.as_flattened());
-    let first = if from == at {
-        v
-    } else {
-        V::load(&source, from)
-    };
-    vector::<V, MODE, N, EXACT>(&source, at, N, from, target, to, &first, &mask, ticks)
+    let v = V::load(src, at);
+    vector::<V, MODE, N, false, false>(src, at, N, from, target, to, &v, &mask, ticks)
 }
 
 /// The same wherever the vector lies.
@@ -105,12 +64,12 @@ pub(crate) fn last_flagged_vector<V: Vector<N>, const MODE: u8, const N: usize, 
     if 2 * N <= src.len() - at {
         return flagged_vector::<V, MODE, N>(src, at, from, target, to, mask, ticks);
     }
+    let v = V::load(src, at);
     if from == at && mask.all_zero() {
-        let v = V::load(&Source::whole(src), at);
         pass::<V, MODE, N>(src, at, target, to, &v);
         return (at + N, to + N);
     }
-    padded_vector::<V, MODE, N, EXACT>(src, at, from, target, to, mask, ticks)
+    last_apart::<V, MODE, N, EXACT>(src, at, N, from, target, to, &v, mask, ticks)
 }
 
 /// The two vectors of the text from `at` on, which have the flags of the masks. Answers the places

@@ -8,7 +8,6 @@ ghost use Rattle.escape_simd.specs.Stretch.{Stretch, room_from, rest_slack};
 use crate::simd::chunk::{chunk, pair, whole_vector};
 use crate::simd::classify::Vector;
 use crate::simd::rest::last_vector;
-use crate::simd::source::Source;
 use escape_lanes::simd::target::{Target, Ticks};
 
 /// Escapes the bytes to the target from `to` on, and answers the place reached.
@@ -34,22 +33,21 @@ pub(crate) fn escape_many<
         ≤ stored_of target.old + run_count (mode_numbered MODE) src.now + length src.now / N + 1 }
     ensures classified { ticks.new + stored_of target.old ≡ ticks.old + stored_of target.new }
 {
-    let source = Source::whole(src);
     let mut at = 0;
     let mut end = to;
     'chunks: while CHUNK == 4 && 4 * N <= src.len() - at {
-        let (next, reached) = chunk::<V, MODE, N, EXACT>(&source, at, target, end, ticks);
+        let (next, reached) = chunk::<V, MODE, N, EXACT>(src, at, target, end, ticks);
         at = next;
         end = reached;
     }
     'pairs: while 1 < CHUNK && 2 * N <= src.len() - at {
-        let (next, reached) = pair::<V, MODE, N, EXACT>(&source, at, target, end, ticks);
+        let (next, reached) = pair::<V, MODE, N, EXACT>(src, at, target, end, ticks);
         at = next;
         end = reached;
     }
     'vectors: while N <= src.len() - at {
         let (next, reached) = whole_vector::<V, MODE, N, CHUNK, EXACT>(
-            &source, at, target, end, ticks,
+            src, at, target, end, ticks,
         );
         at = next;
         end = reached;

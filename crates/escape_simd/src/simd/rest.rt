@@ -7,14 +7,11 @@ ghost use Rattle.escape_simd.specs.Stretch.{Stretch, room_from, rest_slack};
 
 use crate::simd::classify::Vector;
 use crate::simd::last::{load_rest, pass_rest};
-use crate::simd::source::Source;
-use crate::simd::vector::vector_apart;
+use crate::simd::vector::last_apart;
 use escape_lanes::simd::BitMask;
 use escape_lanes::simd::target::{Target, Ticks};
 
-/// The text's last bytes, fewer than a vector has, if any: where one needs an escape they are put into
-/// memory with zeros after them, so that vectors can be loaded from any of them on. Answers the place
-/// reached.
+/// The text's last bytes, fewer than a vector has, if any. Answers the place reached.
 #[inline(always)]
 pub(crate) fn last_vector<V: Vector<N>, const MODE: u8, const N: usize, const EXACT: bool>(
     src: &[u8],
@@ -38,11 +35,8 @@ pub(crate) fn last_vector<V: Vector<N>, const MODE: u8, const N: usize, const EX
     }
     let (v, mask) = load_rest::<V, MODE, N>(src, at, ticks);
     if !mask.all_zero() {
-        let mut held = [[0u8; N]; 3];
-        v.put(&mut held[0]);
-        let source = Source::padded(src, at, held.as_flattened());
         let left = src.len() - at;
-        return vector_apart::<V, MODE, N, EXACT>(&source, at, left, at, target, to, mask, ticks).1;
+        return last_apart::<V, MODE, N, EXACT>(src, at, left, at, target, to, &v, mask, ticks).1;
     }
     pass_rest::<V, MODE, N, EXACT>(src, at, &v, &mask, target, to)
 }

@@ -13,16 +13,12 @@ use crate::simd::body::{format_many, quote};
 use crate::simd::classify::Vector;
 use crate::simd::clean::quoted_one;
 use crate::simd::last::load_rest;
-use crate::simd::source::Source;
 use crate::simd::vector::vector;
 use escape_lanes::simd::target::{Target, Ticks};
 use escape_lanes::simd::{BitMask, Flags};
 
 /// Writes the text, some of whose bytes the mask flags, between quotation marks to the front of the
 /// target. Answers how many bytes it became.
-///
-/// The text is put into memory with zeros after it, so that vectors can be loaded from any of its bytes
-/// on.
 #[inline(always)]
 fn quoted_flagged<V: Vector<N>, const MODE: u8, const N: usize, const EXACT: bool>(
     src: &[u8],
@@ -41,13 +37,10 @@ fn quoted_flagged<V: Vector<N>, const MODE: u8, const N: usize, const EXACT: boo
 {
     let len = src.len();
     let v = V::load_last(src, len);
-    let mut held = [[0u8; N]; 3];
-    v.put(&mut held[0]);
-    let source = Source::padded(src, 0, held.as_flattened());
     let open = quote::<MODE, N>(target, 0);
     let mut ticks = Ticks::new();
-    let (_, close) = vector::<V, MODE, N, EXACT>(
-        &source, 0, len, 0, target, open, &v, mask, &mut ticks,
+    let (_, close) = vector::<V, MODE, N, EXACT, true>(
+        src, 0, len, 0, target, open, &v, mask, &mut ticks,
     );
     quote::<MODE, N>(target, close)
 }

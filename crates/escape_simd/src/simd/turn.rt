@@ -4,10 +4,9 @@ ghost use Rattle.escape_lanes.specs.Bits.{first_set, none_set, clear_first};
 ghost use Rattle.escape_lanes.specs.Written.{bytes_of, stored_of};
 ghost use Rattle.escape_simd.specs.Modes.{mode_numbered};
 ghost use Rattle.escape_simd.specs.Runs.{run_count, run_count_after};
-ghost use Rattle.escape_simd.specs.Stretch.{Stretch, IsVectorAt, IsVectorEnd, IsByteWise, CleanAhead, Passed};
+ghost use Rattle.escape_simd.specs.Stretch.{Stretch, IsHeld, IsVectorAt, IsVectorEnd, IsByteWise, CleanAhead, Passed};
 
 use crate::simd::classify::{SCRIPT_MODE, Vector, store};
-use crate::simd::source::Source;
 use crate::simd::util::escape;
 use escape_lanes::simd::LaneMask;
 use escape_lanes::simd::target::{Target, Ticks};
@@ -18,7 +17,7 @@ use escape_lanes::simd::target::{Target, Ticks};
 /// The mask is that of the vector at `at`, which holds `_taken` bytes of the text.
 #[inline(always)]
 fn pass_to_escape<M: LaneMask, const MODE: u8, const N: usize>(
-    source: &Source<'_>,
+    src: &[u8],
     at: usize,
     _taken: usize,
     from: usize,
@@ -26,29 +25,26 @@ fn pass_to_escape<M: LaneMask, const MODE: u8, const N: usize>(
     to: usize,
     mask: &M,
 ) -> (usize, usize)
-    requires place { IsVectorAt (mode_numbered MODE) N source.now.text.now source.now.base
-        (source.now.base + length source.now.bytes.now)
-        at _taken from to (length (bytes_of target.old)) (M.bits mask.now) }
-    requires several { 16 ≤ N }
+    requires place { IsVectorAt (mode_numbered MODE) N src.now at _taken from to (length (bytes_of target.old)) (M.bits mask.now) }
     requires some { none_set (M.bits mask.now) ≡ false }
     requires cleared { (k : ℕ)
         → slice_index_or (M.bits mask.now) k false ≡ true
         → from ≤ at + k }
-    requires ahead { CleanAhead (mode_numbered MODE) source.now.text.now target.old from (at + _taken) to }
+    requires ahead { CleanAhead (mode_numbered MODE) src.now target.old from (at + _taken) to }
     ensures stretch { (slack : ℕ)
         → 8 ≤ slack
-        → Stretch (mode_numbered MODE) slack source.now.text.now
+        → Stretch (mode_numbered MODE) slack src.now
         target.old target.new from result.0 to result.1 }
     ensures first { at + first_set (M.bits mask.now) < result.0 }
     ensures alone { IsByteWise (mode_numbered MODE) → result.0 ≡ at + first_set (M.bits mask.now) + 1 }
     ensures border { at + _taken ≤ result.0
-        → Passed (mode_numbered MODE) source.now.text.now (at + _taken) result.0 }
-    ensures run { run_count_after (mode_numbered MODE) true (drop result.0 source.now.text.now) + 1
-        ≡ run_count (mode_numbered MODE) (drop from source.now.text.now) }
+        → Passed (mode_numbered MODE) src.now (at + _taken) result.0 }
+    ensures run { run_count_after (mode_numbered MODE) true (drop result.0 src.now) + 1
+        ≡ run_count (mode_numbered MODE) (drop from src.now) }
     ensures stored { stored_of target.new ≡ stored_of target.old }
 {
     let flagged = at + mask.first_offset();
-    escape::<MODE, N>(source, flagged, target, to + (flagged - from))
+    escape::<MODE, N>(src, flagged, target, to + (flagged - from))
 }
 
 /// The mask without its first `count` lanes, of which the last that is set is the first of all: a byte's,
@@ -78,74 +74,112 @@ fn classify_again<V: Vector<N>, const MODE: u8, const N: usize>(v: &V, ticks: &m
     let _ = v.flags(MODE, ticks);
 }
 
+/// The vector of the text's bytes from `from` on. Where the vector at `at` is the text's last one, that is what is
+/// left of it: `held` has its `_taken` bytes.
+#[inline(always)]
+pub(crate) fn vector_from<V: Vector<N>, const N: usize, const LAST: bool>(
+    src: &[u8],
+    at: usize,
+    _taken: usize,
+    from: usize,
+    held: &V,
+) -> V
+    requires few { _taken ≤ N }
+    requires inside { at + _taken ≤ length src.now }
+    requires after { at ≤ from }
+    requires before { from < at + _taken }
+    requires behind { LAST ≡ false → at + N + N ≤ length src.now }
+    requires held { take _taken (V.lanes held.now) ≡ take _taken (drop at src.now) }
+    ensures { take (at + _taken - from) (V.lanes result) ≡ take (at + _taken - from) (drop from src.now) }
+{
+    if LAST {
+        return held.move_down(from - at);
+    }
+    V::load(src, from)
+}
+
 /// Stores the vector at `at` again from `from` on, where a run of escapes has ended, so that the clean
 /// bytes up to the next run stand in the target. Where the run goes on, nothing is stored.
 ///
 /// Nothing is classified to find the next run.
 #[inline(always)]
-fn store_ahead<V: Vector<N>, M: LaneMask, const MODE: u8, const N: usize, const EXACT: bool>(
-    source: &Source<'_>,
+fn store_ahead<
+    V: Vector<N>,
+    M: LaneMask,
+    const MODE: u8,
+    const N: usize,
+    const EXACT: bool,
+    const LAST: bool,
+>(
+    src: &[u8],
     at: usize,
     taken: usize,
     from: usize,
     target: &mut Target<'_, N>,
     to: usize,
+    held: &V,
     mask: &M,
     ticks: &mut Ticks,
 )
-    requires place { IsVectorAt (mode_numbered MODE) N source.now.text.now source.now.base
-        (source.now.base + length source.now.bytes.now)
-        at taken from to (length (bytes_of target.old)) (M.bits mask.now) }
-    requires narrow { EXACT ≡ false → N ≤ length source.now.text.now - (at + taken) + 32 }
+    requires place { IsVectorAt (mode_numbered MODE) N src.now at taken from to (length (bytes_of target.old)) (M.bits mask.now) }
+    requires held { IsHeld N EXACT LAST src.now at taken (V.lanes held.now) }
     ensures stretch { (slack : ℕ)
         → 8 ≤ slack
-        → (EXACT ≡ false → N ≤ length source.now.text.now - (at + taken) + slack)
-        → Stretch (mode_numbered MODE) slack source.now.text.now
+        → (EXACT ≡ false → N ≤ length src.now - (at + taken) + slack)
+        → Stretch (mode_numbered MODE) slack src.now
         target.old target.new from from to to }
-    ensures ahead { CleanAhead (mode_numbered MODE) source.now.text.now target.new from (at + taken) to }
-    ensures stored { stored_of target.new + run_count (mode_numbered MODE) (drop from source.now.text.now)
-        ≤ stored_of target.old + run_count_after (mode_numbered MODE) true (drop from source.now.text.now) + 1 }
+    ensures ahead { CleanAhead (mode_numbered MODE) src.now target.new from (at + taken) to }
+    ensures stored { stored_of target.new + run_count (mode_numbered MODE) (drop from src.now)
+        ≤ stored_of target.old + run_count_after (mode_numbered MODE) true (drop from src.now) + 1 }
     ensures classified { ticks.new + stored_of target.old ≡ ticks.old + stored_of target.new }
 {
     if mask.is_set(from - at) {
         return;
     }
-    let v = V::load(source, from);
+    let v = vector_from::<V, N, LAST>(src, at, taken, from, held);
     classify_again::<V, MODE, N>(&v, ticks);
-    store::<V, N>(&v, source.text, from, at + taken - from, EXACT, target, to);
+    store::<V, N>(&v, src, from, at + taken - from, EXACT, target, to);
 }
 
 /// The clean bytes from `from` on of the vector at `at`, whose last escape was written. Answers the places
 /// reached.
 #[inline(always)]
-fn pass_to_border<V: Vector<N>, M: LaneMask, const MODE: u8, const N: usize, const EXACT: bool>(
-    source: &Source<'_>,
+fn pass_to_border<
+    V: Vector<N>,
+    M: LaneMask,
+    const MODE: u8,
+    const N: usize,
+    const EXACT: bool,
+    const LAST: bool,
+>(
+    src: &[u8],
     at: usize,
     taken: usize,
     from: usize,
     target: &mut Target<'_, N>,
     to: usize,
+    held: &V,
     mask: &M,
     ticks: &mut Ticks,
 ) -> (usize, usize)
-    requires place { IsVectorEnd (mode_numbered MODE) N source.now.text.now source.now.base
-        (source.now.base + length source.now.bytes.now)
-        at taken from to (length (bytes_of target.old)) (M.bits mask.now) }
-    requires narrow { EXACT ≡ false → N ≤ length source.now.text.now - (at + taken) + 32 }
+    requires place { IsVectorEnd (mode_numbered MODE) N src.now at taken from to (length (bytes_of target.old)) (M.bits mask.now) }
+    requires held { IsHeld N EXACT LAST src.now at taken (V.lanes held.now) }
     ensures stretch { (slack : ℕ)
         → 8 ≤ slack
-        → (EXACT ≡ false → N ≤ length source.now.text.now - (at + taken) + slack)
-        → Stretch (mode_numbered MODE) slack source.now.text.now
+        → (EXACT ≡ false → N ≤ length src.now - (at + taken) + slack)
+        → Stretch (mode_numbered MODE) slack src.now
         target.old target.new from result.0 to result.1 }
-    ensures passed { Passed (mode_numbered MODE) source.now.text.now (at + taken) result.0 }
-    ensures stored { stored_of target.new + run_count (mode_numbered MODE) (drop result.0 source.now.text.now)
-        ≤ stored_of target.old + run_count_after (mode_numbered MODE) true (drop from source.now.text.now) + 1 }
+    ensures passed { Passed (mode_numbered MODE) src.now (at + taken) result.0 }
+    ensures stored { stored_of target.new + run_count (mode_numbered MODE) (drop result.0 src.now)
+        ≤ stored_of target.old + run_count_after (mode_numbered MODE) true (drop from src.now) + 1 }
     ensures classified { ticks.new + stored_of target.old ≡ ticks.old + stored_of target.new }
 {
     if at + taken <= from {
         return (from, to);
     }
-    store_ahead::<V, M, MODE, N, EXACT>(source, at, taken, from, target, to, mask, ticks);
+    store_ahead::<V, M, MODE, N, EXACT, LAST>(
+        src, at, taken, from, target, to, held, mask, ticks,
+    );
     (at + taken, to + (at + taken - from))
 }
 
@@ -155,33 +189,38 @@ fn pass_to_border<V: Vector<N>, M: LaneMask, const MODE: u8, const N: usize, con
 ///
 /// The target holds these bytes as they are.
 #[inline(always)]
-pub(crate) fn turns<V: Vector<N>, M: LaneMask, const MODE: u8, const N: usize, const EXACT: bool>(
-    source: &Source<'_>,
+pub(crate) fn turns<
+    V: Vector<N>,
+    M: LaneMask,
+    const MODE: u8,
+    const N: usize,
+    const EXACT: bool,
+    const LAST: bool,
+>(
+    src: &[u8],
     at: usize,
     taken: usize,
     from: usize,
     target: &mut Target<'_, N>,
     to: usize,
+    held: &V,
     mask: &M,
     ticks: &mut Ticks,
 ) -> (usize, usize)
-    requires place { IsVectorAt (mode_numbered MODE) N source.now.text.now source.now.base
-        (source.now.base + length source.now.bytes.now)
-        at taken from to (length (bytes_of target.old)) (M.bits mask.now) }
-    requires several { 16 ≤ N }
-    requires narrow { EXACT ≡ false → N ≤ length source.now.text.now - (at + taken) + 32 }
+    requires place { IsVectorAt (mode_numbered MODE) N src.now at taken from to (length (bytes_of target.old)) (M.bits mask.now) }
+    requires held { IsHeld N EXACT LAST src.now at taken (V.lanes held.now) }
     requires cleared { (k : ℕ)
         → slice_index_or (M.bits mask.now) k false ≡ true
         → from ≤ at + k }
-    requires ahead { CleanAhead (mode_numbered MODE) source.now.text.now target.old from (at + taken) to }
+    requires ahead { CleanAhead (mode_numbered MODE) src.now target.old from (at + taken) to }
     ensures stretch { (slack : ℕ)
         → 8 ≤ slack
-        → (EXACT ≡ false → N ≤ length source.now.text.now - (at + taken) + slack)
-        → Stretch (mode_numbered MODE) slack source.now.text.now
+        → (EXACT ≡ false → N ≤ length src.now - (at + taken) + slack)
+        → Stretch (mode_numbered MODE) slack src.now
         target.old target.new from result.0 to result.1 }
-    ensures passed { Passed (mode_numbered MODE) source.now.text.now (at + taken) result.0 }
-    ensures stored { stored_of target.new + run_count (mode_numbered MODE) (drop result.0 source.now.text.now)
-        ≤ stored_of target.old + run_count (mode_numbered MODE) (drop from source.now.text.now) }
+    ensures passed { Passed (mode_numbered MODE) src.now (at + taken) result.0 }
+    ensures stored { stored_of target.new + run_count (mode_numbered MODE) (drop result.0 src.now)
+        ≤ stored_of target.old + run_count (mode_numbered MODE) (drop from src.now) }
     ensures classified { ticks.new + stored_of target.old ≡ ticks.old + stored_of target.new }
 {
     let mut rest = mask.as_little_endian();
@@ -189,19 +228,19 @@ pub(crate) fn turns<V: Vector<N>, M: LaneMask, const MODE: u8, const N: usize, c
     let mut end = to;
     'turns: while !rest.all_zero() {
         let (after, reached) = pass_to_escape::<M, MODE, N>(
-            source, at, taken, next, target, end, &rest,
+            src, at, taken, next, target, end, &rest,
         );
         if SCRIPT_MODE <= MODE && at + taken <= after {
             return (after, reached);
         }
         rest = take_off::<M, MODE>(&rest, after - at);
         if rest.all_zero() {
-            return pass_to_border::<V, M, MODE, N, EXACT>(
-                source, at, taken, after, target, reached, &rest, ticks,
+            return pass_to_border::<V, M, MODE, N, EXACT, LAST>(
+                src, at, taken, after, target, reached, held, &rest, ticks,
             );
         }
-        store_ahead::<V, M, MODE, N, EXACT>(
-            source, at, taken, after, target, reached, &rest, ticks,
+        store_ahead::<V, M, MODE, N, EXACT, LAST>(
+            src, at, taken, after, target, reached, held, &rest, ticks,
         );
         next = after;
         end = reached;

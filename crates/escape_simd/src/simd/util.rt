@@ -12,34 +12,31 @@ ghost use Rattle.escape_simd.specs.Stretch.{Stretch, run_end, rest_length, Passe
 
 use crate::simd::classify::{HTML_MODE, JSON_MODE, SCRIPT_MODE};
 use crate::simd::entry::{entry, is_separator, separator_entry, word};
-use crate::simd::source::Source;
 use escape_lanes::simd::target::Target;
 
 /// Writes what stands for the byte at `at`, be it an escape or the byte itself, or for the separator that
 /// begins with it. Answers the places after both.
 #[inline(always)]
 pub(crate) fn escape<const MODE: u8, const N: usize>(
-    source: &Source<'_>,
+    src: &[u8],
     at: usize,
     target: &mut Target<'_, N>,
     to: usize,
 ) -> (usize, usize)
-    requires inside { at < length source.now.text.now }
-    requires after { source.now.base ≤ at }
-    requires held { at + look_ahead (mode_numbered MODE) < source.now.base + length source.now.bytes.now }
+    requires inside { at < length src.now }
     requires room { to + 8 ≤ length (bytes_of target.old) }
-    ensures place { result.0 ≡ at + passed (mode_numbered MODE) (drop at source.now.text.now) }
+    ensures place { result.0 ≡ at + passed (mode_numbered MODE) (drop at src.now) }
     ensures stretch { (slack : ℕ)
         → 8 ≤ slack
-        → Stretch (mode_numbered MODE) slack source.now.text.now
+        → Stretch (mode_numbered MODE) slack src.now
         target.old target.new at result.0 to result.1 }
     ensures stored { stored_of target.new ≡ stored_of target.old }
 {
-    if SCRIPT_MODE <= MODE && is_separator(source, at) {
-        target.escape(to, separator_entry(source.byte(at + 2)));
+    if SCRIPT_MODE <= MODE && is_separator(src, at) {
+        target.escape(to, separator_entry(src[at + 2]));
         return (at + 3, to + 6);
     }
-    let b = source.byte(at);
+    let b = src[at];
     (at + 1, put_byte::<MODE, N>(b, target, to))
 }
 
@@ -67,30 +64,28 @@ fn put_byte<const MODE: u8, const N: usize>(b: u8, target: &mut Target<'_, N>, t
 /// No branch hangs on what the bytes are: so where many of them need an escape it is faster than a mask.
 #[inline(always)]
 pub(crate) fn escape_each<const MODE: u8, const N: usize>(
-    source: &Source<'_>,
+    src: &[u8],
     at: usize,
     border: usize,
     target: &mut Target<'_, N>,
     to: usize,
 ) -> (usize, usize)
     requires some { at < border }
-    requires inside { border ≤ length source.now.text.now }
-    requires base { source.now.base ≤ at }
-    requires held { border + 2 ≤ source.now.base + length source.now.bytes.now }
-    requires room { to + room_from (mode_numbered MODE) source.now.text.now at ≤ length (bytes_of target.old) }
+    requires inside { border ≤ length src.now }
+    requires room { to + room_from (mode_numbered MODE) src.now at ≤ length (bytes_of target.old) }
     ensures stretch { (slack : ℕ)
         → 8 ≤ slack
-        → Stretch (mode_numbered MODE) slack source.now.text.now
+        → Stretch (mode_numbered MODE) slack src.now
         target.old target.new at result.0 to result.1 }
-    ensures passed { Passed (mode_numbered MODE) source.now.text.now border result.0 }
-    ensures runs { run_count (mode_numbered MODE) (drop result.0 source.now.text.now)
-        ≤ run_count (mode_numbered MODE) (drop at source.now.text.now) }
+    ensures passed { Passed (mode_numbered MODE) src.now border result.0 }
+    ensures runs { run_count (mode_numbered MODE) (drop result.0 src.now)
+        ≤ run_count (mode_numbered MODE) (drop at src.now) }
     ensures stored { stored_of target.new ≡ stored_of target.old }
 {
     let mut next = at;
     let mut end = to;
     'bytes: while next < border {
-        let (after, reached) = escape::<MODE, N>(source, next, target, end);
+        let (after, reached) = escape::<MODE, N>(src, next, target, end);
         next = after;
         end = reached;
     }

@@ -12,13 +12,12 @@ ghost use Rattle.escape_simd.specs.Laws.{IsOfOneText};
 ghost use Rattle.escape_simd.specs.Modes.{mode_numbered};
 
 use crate::simd::classify::{HTML_MODE, JSON_MODE, SCRIPT_MODE, Vector};
-use crate::simd::source::Source;
 use crate::simd::{body, inner, string};
 use escape_lanes::simd::target::{Target, Ticks};
 pub use escape_lanes::simd::v128::{
     Flags128, Mask128, Simd128u, escaped_flags, escaped_mask, script_flags, script_mask,
 };
-use escape_lanes::simd::{LoadLast, Simd};
+use escape_lanes::simd::{LoadLast, MoveDown, Simd};
 
 impl Vector<16> for Simd128u {
     type Flags = Flags128;
@@ -34,13 +33,18 @@ impl Vector<16> for Simd128u {
     ghost few = { lit≤ tt };
 
     #[inline(always)]
-    fn load(source: &Source<'_>, at: usize) -> Self {
-        source.load::<Self, 16>(at)
+    fn load(text: &[u8], at: usize) -> Self {
+        Self::loadu(&text[at..])
     }
 
     #[inline(always)]
     fn load_last(text: &[u8], count: usize) -> Self {
         <Self as LoadLast>::load_last(text, count)
+    }
+
+    #[inline(always)]
+    fn move_down(&self, count: usize) -> Self {
+        <Self as MoveDown>::move_down(self, count)
     }
 
     #[inline(always)]

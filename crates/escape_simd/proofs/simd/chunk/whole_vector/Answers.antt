@@ -7,12 +7,12 @@ use Rattle.escape_simd.specs.Stretch.{rest_slack}
 use Rattle.escape_simd.proofs.RestLemmas.{rest-slack-some}
 use Rattle.escape_simd.proofs.Costs.{vectors-least}
 use Rattle.escape_simd.proofs.Stretches.{rest-bounds, onward, widened}
-use Rattle.escape_simd.proofs.Lanes.{held-cut, clear_none}
+use Rattle.escape_simd.proofs.Lanes.{loaded-front, held-cut, clear_none}
 use Rattle.escape_simd.proofs.simd.chunk.whole_vector.Goals as goal
 
 pub last_flagged_vector-next-requires : goal.last_flagged_vector-next-requires
 last_flagged_vector-next-requires g c =
-    let mode = mode_numbered g.row.MODE in let src : List ℕ = c.args.source.now.text.now in let n : ℕ = g.row.N in let r = c.requires in
+    let mode = mode_numbered g.row.MODE in let src : List ℕ = c.args.src.now in let n : ℕ = g.row.N in let r = c.requires in
     let lanes : List ℕ = g.V.Vector.lanes c.load-v.result in let bits = g.V.Flags.BitMask.BitMask.bits c.bitmask-mask.result in (
       omega arith,
       (
@@ -22,7 +22,7 @@ last_flagged_vector-next-requires g c =
           (
             r.narrow,
             (
-              held-cut mode src lanes c.args.at n n c.args.at (g.met.V.Vector.width c.load-v.result) (omega arith) (omega (arith, r.inside)) (c.load-v.ensures n (omega arith) (omega (arith, r.inside))) bits
+              held-cut mode src lanes c.args.at n n c.args.at (g.met.V.Vector.width c.load-v.result) (omega arith) (omega (arith, r.inside)) (loaded-front _ _ n n c.load-v.ensures (omega arith)) bits
                   (c.bitmask-mask.ensures ∙ c.flags-flags.ensures.lanes ∙ clear_none (map (needs_escape mode) lanes) n),
               r.room,
             ),
@@ -33,12 +33,12 @@ last_flagged_vector-next-requires g c =
 
 pub pass-requires : goal.pass-requires
 pass-requires g c =
-    let r = rest-bounds (mode_numbered g.row.MODE) c.args.source.now.text.now c.args.at in (
+    let r = rest-bounds (mode_numbered g.row.MODE) c.args.src.now c.args.at in (
       omega arith,
       (
         omega (arith, c.requires.inside),
         (
-          record { loaded = c.load-v.ensures g.row.N (omega arith) (omega (arith, c.requires.inside)); clean = ap none_set (sym c.flags-flags.ensures.lanes) ∙ sym c.none.ensures ∙ c.if-not-none.false },
+          record { loaded = loaded-front _ _ g.row.N g.row.N c.load-v.ensures (omega arith); clean = ap none_set (sym c.flags-flags.ensures.lanes) ∙ sym c.none.ensures ∙ c.if-not-none.false },
           omega (arith, r, c.requires.room, c.requires.inside),
         ),
       ),

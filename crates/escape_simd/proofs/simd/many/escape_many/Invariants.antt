@@ -7,8 +7,8 @@ use Rattle.escape_simd.proofs.simd.many.escape_many.Given as goal
 
 abbrev pub invariant-chunks : goal.invariant-chunks
 invariant-chunks g l = record {
-  stretch : Stretch (mode_numbered g.row.MODE) (rest_slack (not (nat_eq (value_of (number g.row.EXACT)) 0)) g.row.N) l.source.text.now l.fn.target l.target 0 l.at l.to l.end;
-  paid : Paid g.row.N (mode_numbered g.row.MODE) l.source.text.now 0 l.at (stored_of l.fn.target) (stored_of l.target) l.fn.ticks l.ticks;
+  stretch : Stretch (mode_numbered g.row.MODE) (rest_slack (not (nat_eq (value_of (number g.row.EXACT)) 0)) g.row.N) l.src l.fn.target l.target 0 l.at l.to l.end;
+  paid : Paid g.row.N (mode_numbered g.row.MODE) l.src 0 l.at (stored_of l.fn.target) (stored_of l.target) l.fn.ticks l.ticks;
 }
 
 abbrev pub decreases-chunks : goal.decreases-chunks
@@ -16,8 +16,8 @@ decreases-chunks g l = length l.src - l.at
 
 abbrev pub invariant-pairs : goal.invariant-pairs
 invariant-pairs g l = record {
-  stretch : Stretch (mode_numbered g.row.MODE) (rest_slack (not (nat_eq (value_of (number g.row.EXACT)) 0)) g.row.N) l.source.text.now l.fn.target l.target 0 l.at l.to l.end;
-  paid : Paid g.row.N (mode_numbered g.row.MODE) l.source.text.now 0 l.at (stored_of l.fn.target) (stored_of l.target) l.fn.ticks l.ticks;
+  stretch : Stretch (mode_numbered g.row.MODE) (rest_slack (not (nat_eq (value_of (number g.row.EXACT)) 0)) g.row.N) l.src l.fn.target l.target 0 l.at l.to l.end;
+  paid : Paid g.row.N (mode_numbered g.row.MODE) l.src 0 l.at (stored_of l.fn.target) (stored_of l.target) l.fn.ticks l.ticks;
 }
 
 abbrev pub decreases-pairs : goal.decreases-pairs
@@ -25,8 +25,8 @@ decreases-pairs g l = length l.src - l.at
 
 abbrev pub invariant-vectors : goal.invariant-vectors
 invariant-vectors g l = record {
-  stretch : Stretch (mode_numbered g.row.MODE) (rest_slack (not (nat_eq (value_of (number g.row.EXACT)) 0)) g.row.N) l.source.text.now l.fn.target l.target 0 l.at l.to l.end;
-  paid : Paid g.row.N (mode_numbered g.row.MODE) l.source.text.now 0 l.at (stored_of l.fn.target) (stored_of l.target) l.fn.ticks l.ticks;
+  stretch : Stretch (mode_numbered g.row.MODE) (rest_slack (not (nat_eq (value_of (number g.row.EXACT)) 0)) g.row.N) l.src l.fn.target l.target 0 l.at l.to l.end;
+  paid : Paid g.row.N (mode_numbered g.row.MODE) l.src 0 l.at (stored_of l.fn.target) (stored_of l.target) l.fn.ticks l.ticks;
 }
 
 abbrev pub decreases-vectors : goal.decreases-vectors

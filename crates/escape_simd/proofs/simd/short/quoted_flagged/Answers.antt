@@ -1,53 +1,39 @@
-use Rattle.std.proofs.Common.{◌≡◌, ℕ, ◌+◌, ◌-◌, [], ◌++◌, not, nat_eq, List, length, take, refl, sym, ap, subst, ◌∙◌, arith}
+use Rattle.std.proofs.Common.{◌≡◌, ℕ, ◌-◌, not, nat_eq, List, length, take, refl, subst, ◌∙◌, arith}
 use denote.Param.{number, value_of}
-use Rattle.escape_lanes.specs.Written.{bytes_of}
 use Rattle.escape_simd.specs.Modes.{mode_numbered}
-use Rattle.escape_simd.specs.Stretch.{Stretch, IsVectorAt, rest_slack}
+use Rattle.escape_simd.specs.Stretch.{rest_slack}
 use Rattle.escape_simd.proofs.Stretches.{ended, rest-bounds}
-use Rattle.escape_simd.proofs.Rows.{row-written}
-use Rattle.escape_simd.proofs.RestLemmas.{zeros, whole-is, last-loaded, held-once, rest-narrow, rest-slack-some}
+use Rattle.escape_simd.proofs.RestLemmas.{whole-is, last-loaded, rest-narrow, rest-slack-some}
 use Rattle.escape_simd.proofs.Whole.{IsQuoted, whole_written, bound-quotes, quote-short}
 use Rattle.escape_simd.proofs.simd.short.quoted_flagged.Goals as goal
-
-pub whole_as_slice-put : goal.whole_as_slice-put
-whole_as_slice-put g c = let few = g.met.V.Vector.few in omega (arith, few)
-
-pub shared_whole_as_slice-as_flattened : goal.shared_whole_as_slice-as_flattened
-shared_whole_as_slice-as_flattened g c = let few = g.met.V.Vector.few in omega (arith, few)
-
-pub padded-source-requires : goal.padded-source-requires
-padded-source-requires g c =
-    let src : List ℕ = c.args.src.now in let n : ℕ = g.row.N in let r = c.requires in
-    let lanes : List ℕ = g.V.Vector.lanes c.load_last-v.result in
-    let first : c.put.new.bytes ≡ lanes = row-written lanes _ n c.put.ensures in
-    λ k h.
-    held-once src lanes _ n 0 (omega arith) (omega (arith, r.few)) (g.met.V.Vector.width c.load_last-v.result) (whole-is src lanes n c.load_last-v.ensures)
-    (c.as_flattened.ensures.value ∙ ap (λ xs. xs ++ (zeros n ++ (zeros n ++ []))) first) k
 
 pub vector-close-requires : goal.vector-close-requires
 vector-close-requires g c =
     let mode = mode_numbered g.row.MODE in let src : List ℕ = c.args.src.now in let n : ℕ = g.row.N in let r = c.requires in
-    let lanes : List ℕ = g.V.Vector.lanes c.load_last-v.result in let bits = g.V.Flags.BitMask.BitMask.bits c.args.mask.now in
-    let w = c.padded-source.ensures in let b = ap length w.bytes in
-    let l = c.as_flattened.ensures.len in
+    let lanes : List ℕ = g.V.Vector.lanes c.load_last-v.result in
     let o = c.quote-open.ensures in let q = quote-short mode in
-    let all : length src - 0 ≡ 0 + length src - 0 = omega arith in
+    let all : length src - 0 ≡ length src = omega arith in
     let long = bound-quotes mode (length src) in let bounds = rest-bounds mode src 0 in
     let loaded = last-loaded src lanes n 0 (omega arith) (omega (arith, r.few)) (whole-is src lanes n c.load_last-v.ensures) in (
       omega arith,
       (
-        subst (λ xs. IsVectorAt mode n xs c.padded-source.result.base (c.padded-source.result.base + length c.padded-source.result.bytes.now) 0 (length src) 0 c.quote-open.result (length (bytes_of c.quote-open.new.target)) bits) (sym w.text) (record {
+        record {
           count = g.met.V.Flags.BitMask.BitMask.count c.args.mask.now ∙ g.met.V.Vector.flag_width;
           flags = r.flagged;
           few = omega (arith, r.few);
           inside = omega arith;
           after = omega arith;
           before = omega (arith, r.some);
-          base = omega (arith, w.base);
-          held = omega (arith, w.base, b, l);
           room = omega (arith, long, q, bounds, o.end, o.same_slice.len, r.room);
-        }),
-        (λ e. omega (arith, r.narrow e), (λ k s. omega arith, subst (λ k. take k lanes ≡ take k c.padded-source.result.text.now) all (loaded ∙ ap (take (length src - 0)) (sym w.text)))),
+        },
+        (
+          record {
+            held = subst (λ k. take k lanes ≡ take k src) all loaded;
+            behind = λ b. absurd (cc);
+            narrow = λ e. omega (arith, r.narrow e);
+          },
+          λ k s. omega arith,
+        ),
       ),
     )
 
@@ -55,9 +41,7 @@ pub quote-requires : goal.quote-requires
 quote-requires g c =
     let exact = not (nat_eq (value_of (number g.row.EXACT)) 0) in
     let mode = mode_numbered g.row.MODE in let src : List ℕ = c.args.src.now in let n : ℕ = g.row.N in let several = g.met.V.Vector.several in
-    let w = c.padded-source.ensures in
-    let s = subst (λ xs. Stretch {N = n} mode (rest_slack exact n) xs c.quote-open.new.target c.vector-close.new.target 0 c.vector-close.result.0 c.quote-open.result c.vector-close.result.1) w.text
-    (c.vector-close.ensures.stretch (rest_slack exact n) (rest-slack-some exact n several) (λ e. rest-narrow exact n _ e)) in
+    let s = c.vector-close.ensures.stretch (rest_slack exact n) (rest-slack-some exact n several) (λ e. rest-narrow exact n _ e) in
     let p = c.vector-close.ensures.passed.whole in
     let end : c.vector-close.result.0 ≡ length src = omega (arith, p, s.inside) in
     let whole = ended s end refl in
@@ -69,9 +53,7 @@ pub returns-clause-same_slice : goal.returns-clause-same_slice
 returns-clause-same_slice g c =
     let exact = not (nat_eq (value_of (number g.row.EXACT)) 0) in
     let mode = mode_numbered g.row.MODE in let src : List ℕ = c.args.src.now in let n : ℕ = g.row.N in let several = g.met.V.Vector.several in
-    let w = c.padded-source.ensures in
-    let s = subst (λ xs. Stretch {N = n} mode (rest_slack exact n) xs c.quote-open.new.target c.vector-close.new.target 0 c.vector-close.result.0 c.quote-open.result c.vector-close.result.1) w.text
-    (c.vector-close.ensures.stretch (rest_slack exact n) (rest-slack-some exact n several) (λ e. rest-narrow exact n _ e)) in
+    let s = c.vector-close.ensures.stretch (rest_slack exact n) (rest-slack-some exact n several) (λ e. rest-narrow exact n _ e) in
     let p = c.vector-close.ensures.passed.whole in
     let end : c.vector-close.result.0 ≡ length src = omega (arith, p, s.inside) in
     let whole = ended s end refl in
@@ -82,9 +64,7 @@ pub returns-clause-written : goal.returns-clause-written
 returns-clause-written g c =
     let exact = not (nat_eq (value_of (number g.row.EXACT)) 0) in
     let mode = mode_numbered g.row.MODE in let src : List ℕ = c.args.src.now in let n : ℕ = g.row.N in let several = g.met.V.Vector.several in
-    let w = c.padded-source.ensures in
-    let s = subst (λ xs. Stretch {N = n} mode (rest_slack exact n) xs c.quote-open.new.target c.vector-close.new.target 0 c.vector-close.result.0 c.quote-open.result c.vector-close.result.1) w.text
-    (c.vector-close.ensures.stretch (rest_slack exact n) (rest-slack-some exact n several) (λ e. rest-narrow exact n _ e)) in
+    let s = c.vector-close.ensures.stretch (rest_slack exact n) (rest-slack-some exact n several) (λ e. rest-narrow exact n _ e) in
     let p = c.vector-close.ensures.passed.whole in
     let end : c.vector-close.result.0 ≡ length src = omega (arith, p, s.inside) in
     let whole = ended s end refl in

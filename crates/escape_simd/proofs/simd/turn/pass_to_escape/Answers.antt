@@ -6,27 +6,27 @@ use Rattle.escape_simd.specs.Runs.{run_count, run_count_after}
 use Rattle.escape_simd.specs.Stretch.{rest_length}
 use Rattle.escape_simd.proofs.Texts.{IsClean, first-here, one≤passed}
 use Rattle.escape_simd.proofs.Stretches.{onward_at, clean_ahead, clean_runs, clean_rest, rest-bounds}
-use Rattle.escape_simd.proofs.Lanes.{first-bounds, first-set, held-first, look_ahead≤two}
+use Rattle.escape_simd.proofs.Lanes.{first-bounds, first-set, held-first}
 use Rattle.escape_simd.proofs.Turns.{clean-each, passed-clean}
 use Rattle.escape_simd.proofs.simd.turn.pass_to_escape.Goals as goal
 
 pub overflow_add-flagged : goal.overflow_add-flagged
 overflow_add-flagged g c =
-    let mode = mode_numbered g.row.MODE in let src : List ℕ = c.args.source.now.text.now in let bits = g.M.BitMask.bits c.args.mask.now in
+    let mode = mode_numbered g.row.MODE in let src : List ℕ = c.args.src.now in let bits = g.M.BitMask.bits c.args.mask.now in
     let at : ℕ = c.args.at in let from : ℕ = c.args.from in let f : ℕ = c.first_offset.result in let p = c.requires.place in let first_is = c.first_offset.ensures in
     let b = first-bounds mode src at c.args._taken from bits p.flags p.after p.inside c.requires.some c.requires.cleared in
     omega (arith, b, first_is, p.inside)
 
 pub overflow_sub-flagged : goal.overflow_sub-flagged
 overflow_sub-flagged g c =
-    let mode = mode_numbered g.row.MODE in let src : List ℕ = c.args.source.now.text.now in let bits = g.M.BitMask.bits c.args.mask.now in
+    let mode = mode_numbered g.row.MODE in let src : List ℕ = c.args.src.now in let bits = g.M.BitMask.bits c.args.mask.now in
     let at : ℕ = c.args.at in let from : ℕ = c.args.from in let f : ℕ = c.first_offset.result in let p = c.requires.place in let first_is = c.first_offset.ensures in
     let b = first-bounds mode src at c.args._taken from bits p.flags p.after p.inside c.requires.some c.requires.cleared in
     omega (arith, b, first_is)
 
 pub overflow_add-to : goal.overflow_add-to
 overflow_add-to g c =
-    let mode = mode_numbered g.row.MODE in let src : List ℕ = c.args.source.now.text.now in let bits = g.M.BitMask.bits c.args.mask.now in
+    let mode = mode_numbered g.row.MODE in let src : List ℕ = c.args.src.now in let bits = g.M.BitMask.bits c.args.mask.now in
     let at : ℕ = c.args.at in let from : ℕ = c.args.from in let f : ℕ = c.first_offset.result in let p = c.requires.place in let first_is = c.first_offset.ensures in
     let b = first-bounds mode src at c.args._taken from bits p.flags p.after p.inside c.requires.some c.requires.cleared in
     let r = rest-bounds mode src from in
@@ -34,19 +34,19 @@ overflow_add-to g c =
 
 pub escape-requires : goal.escape-requires
 escape-requires g c =
-    let mode = mode_numbered g.row.MODE in let src : List ℕ = c.args.source.now.text.now in let bits = g.M.BitMask.bits c.args.mask.now in
+    let mode = mode_numbered g.row.MODE in let src : List ℕ = c.args.src.now in let bits = g.M.BitMask.bits c.args.mask.now in
     let at : ℕ = c.args.at in let from : ℕ = c.args.from in let f : ℕ = c.first_offset.result in let p = c.requires.place in let first_is = c.first_offset.ensures in
     let b = first-bounds mode src at c.args._taken from bits p.flags p.after p.inside c.requires.some c.requires.cleared in
     let first : at + first_set bits - from ≡ at + f - from = omega (arith, first_is) in
     let clean = subst (λ k. IsClean mode (take k (drop from src))) first (held-first mode src at c.args._taken from bits p.flags p.after p.inside c.requires.some c.requires.cleared) in
     let there : from + (at + f - from) ≡ at + f = omega (arith, b, first_is) in
     let rest = clean_rest mode src from (at + f - from) (omega (arith, b, first_is, p.inside)) clean in
-    let rest_there = ap (rest_length mode src) there in let l = look_ahead≤two mode in
-    (omega arith, (omega (arith, b, first_is, p.inside), (omega (arith, p.base), (omega (arith, l, b, first_is, p.few, p.held, c.requires.several), omega (arith, rest, rest_there, p.room)))))
+    let rest_there = ap (rest_length mode src) there in
+    (omega arith, (omega (arith, b, first_is, p.inside), omega (arith, rest, rest_there, p.room)))
 
 pub returns-clause-stretch : goal.returns-clause-stretch
 returns-clause-stretch g c slack eight =
-    let mode = mode_numbered g.row.MODE in let src : List ℕ = c.args.source.now.text.now in let bits = g.M.BitMask.bits c.args.mask.now in
+    let mode = mode_numbered g.row.MODE in let src : List ℕ = c.args.src.now in let bits = g.M.BitMask.bits c.args.mask.now in
     let at : ℕ = c.args.at in let from : ℕ = c.args.from in let f : ℕ = c.first_offset.result in let p = c.requires.place in let first_is = c.first_offset.ensures in
     let b = first-bounds mode src at c.args._taken from bits p.flags p.after p.inside c.requires.some c.requires.cleared in
     let first : at + first_set bits - from ≡ at + f - from = omega (arith, first_is) in
@@ -58,7 +58,7 @@ returns-clause-stretch g c slack eight =
 
 pub returns-clause-border : goal.returns-clause-border
 returns-clause-border g c over =
-    let mode = mode_numbered g.row.MODE in let src : List ℕ = c.args.source.now.text.now in let bits = g.M.BitMask.bits c.args.mask.now in
+    let mode = mode_numbered g.row.MODE in let src : List ℕ = c.args.src.now in let bits = g.M.BitMask.bits c.args.mask.now in
     let at : ℕ = c.args.at in let from : ℕ = c.args.from in let f : ℕ = c.first_offset.result in let p = c.requires.place in let first_is = c.first_offset.ensures in
     let b = first-bounds mode src at c.args._taken from bits p.flags p.after p.inside c.requires.some c.requires.cleared in
     let place = c.escape.ensures.place in let some = one≤passed mode (drop (at + f) src) in
@@ -71,7 +71,7 @@ returns-clause-border g c over =
 
 pub returns-clause-run : goal.returns-clause-run
 returns-clause-run g c =
-    let mode = mode_numbered g.row.MODE in let src : List ℕ = c.args.source.now.text.now in let bits = g.M.BitMask.bits c.args.mask.now in
+    let mode = mode_numbered g.row.MODE in let src : List ℕ = c.args.src.now in let bits = g.M.BitMask.bits c.args.mask.now in
     let at : ℕ = c.args.at in let from : ℕ = c.args.from in let f : ℕ = c.first_offset.result in let p = c.requires.place in let first_is = c.first_offset.ensures in
     let b = first-bounds mode src at c.args._taken from bits p.flags p.after p.inside c.requires.some c.requires.cleared in
     let first : at + first_set bits - from ≡ at + f - from = omega (arith, first_is) in

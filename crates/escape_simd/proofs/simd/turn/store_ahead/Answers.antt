@@ -11,14 +11,14 @@ use Rattle.escape_simd.proofs.simd.turn.store_ahead.Goals as goal
 
 pub returns-then-is_set-clause-ahead : goal.returns-then-is_set-clause-ahead
 returns-then-is_set-clause-ahead g c =
-    let mode = mode_numbered g.row.MODE in let src : List ℕ = c.args.source.now.text.now in let p = c.requires.place in
+    let mode = mode_numbered g.row.MODE in let src : List ℕ = c.args.src.now in let p = c.requires.place in
     let at : ℕ = c.args.at in let from : ℕ = c.args.from in let e : at + (from - at) ≡ from = omega (arith, p.after) in
     let needed = ap (λ k. needs_escape mode (get_or src k 0)) (sym e) ∙ (p.flags.set (from - at) (sym c.is_set.ensures ∙ c.if-is_set.true)).1 in
     ahead-flagged mode src c.args.target.now from (at + c.args.taken) c.args.to needed
 
 pub returns-then-is_set-clause-stored : goal.returns-then-is_set-clause-stored
 returns-then-is_set-clause-stored g c =
-    let mode = mode_numbered g.row.MODE in let src : List ℕ = c.args.source.now.text.now in let p = c.requires.place in
+    let mode = mode_numbered g.row.MODE in let src : List ℕ = c.args.src.now in let p = c.requires.place in
     let at : ℕ = c.args.at in let from : ℕ = c.args.from in let e : at + (from - at) ≡ from = omega (arith, p.after) in
     let needed = ap (λ k. needs_escape mode (get_or src k 0)) (sym e) ∙ (p.flags.set (from - at) (sym c.is_set.ensures ∙ c.if-is_set.true)).1 in
     let f = first-here mode src from (omega (arith, p.before, p.inside)) needed in let n = next-here mode src from (omega (arith, p.before, p.inside)) needed in
@@ -27,9 +27,9 @@ returns-then-is_set-clause-stored g c =
 pub store-requires : goal.store-requires
 store-requires g c =
     let exact = not (nat_eq (value_of (number g.row.EXACT)) 0) in
-    let mode = mode_numbered g.row.MODE in let src : List ℕ = c.args.source.now.text.now in let p = c.requires.place in
+    let mode = mode_numbered g.row.MODE in let src : List ℕ = c.args.src.now in let p = c.requires.place in
     let r = rest-bounds mode src c.args.from in
-    let low = stored-low exact g.row.N (c.args.at + c.args.taken - c.args.from) (rest_length mode src c.args.from) (length src - (c.args.at + c.args.taken)) 32 (omega (arith, p.few, p.after)) (omega (arith, r, p.inside, p.before)) c.requires.narrow in (
+    let low = stored-low exact g.row.N (c.args.at + c.args.taken - c.args.from) (rest_length mode src c.args.from) (length src - (c.args.at + c.args.taken)) 32 (omega (arith, p.few, p.after)) (omega (arith, r, p.inside, p.before)) c.requires.held.narrow in (
       omega arith,
       (
         record {
@@ -37,26 +37,26 @@ store-requires g c =
           inside = omega (arith, p.inside, p.before);
           room = omega (arith, low, p.room);
         },
-        c.load-v.ensures (c.args.at + c.args.taken - c.args.from) (omega (arith, p.few, p.after)) (omega (arith, p.inside, p.before)),
+        c.vector_from-v.ensures,
       ),
     )
 
 pub returns-clause-stretch : goal.returns-clause-stretch
 returns-clause-stretch g c slack eight narrow =
     let exact = not (nat_eq (value_of (number g.row.EXACT)) 0) in
-    let mode = mode_numbered g.row.MODE in let src : List ℕ = c.args.source.now.text.now in let p = c.requires.place in
+    let mode = mode_numbered g.row.MODE in let src : List ℕ = c.args.src.now in let p = c.requires.place in
     let r = rest-bounds mode src c.args.from in
     let low = stored-low exact g.row.N (c.args.at + c.args.taken - c.args.from) (rest_length mode src c.args.from) (length src - (c.args.at + c.args.taken)) slack (omega (arith, p.few, p.after)) (omega (arith, r, p.inside, p.before)) narrow in
     stored_ahead mode slack exact src c.args.target.now c.store.new.target c.args.from (c.args.at + c.args.taken - c.args.from) c.args.to c.store.ensures (omega (arith, p.inside, p.before)) low
 
 pub returns-clause-ahead : goal.returns-clause-ahead
 returns-clause-ahead g c =
-    let src : List ℕ = c.args.source.now.text.now in let p = c.requires.place in
+    let src : List ℕ = c.args.src.now in let p = c.requires.place in
     ahead-front (mode_numbered g.row.MODE) src c.store.new.target c.args.from (c.args.at + c.args.taken) c.args.to (c.args.at + c.args.taken - c.args.from) (omega arith) c.store.ensures.ahead
 
 pub returns-clause-stored : goal.returns-clause-stored
 returns-clause-stored g c =
-    let mode = mode_numbered g.row.MODE in let src : List ℕ = c.args.source.now.text.now in let p = c.requires.place in
+    let mode = mode_numbered g.row.MODE in let src : List ℕ = c.args.src.now in let p = c.requires.place in
     let at : ℕ = c.args.at in let from : ℕ = c.args.from in let e : at + (from - at) ≡ from = omega (arith, p.after) in
     let clear = ap (λ k. needs_escape mode (get_or src k 0)) (sym e) ∙ p.flags.unset (from - at) (sym c.is_set.ensures ∙ c.if-is_set.false) (omega (arith, p.after)) (omega (arith, p.after, p.before)) in
     let over = runs_stop-here mode src from (omega (arith, p.before, p.inside)) clear in

@@ -13,9 +13,9 @@ turns-init g c =
     record {
       forward = omega arith;
       before = p.before;
-      stretch = λ slack eight narrow. standing (mode_numbered g.row.MODE) slack c.args.source.now.text.now c.args.target.now c.args.from c.args.to (omega (arith, p.before, p.inside));
+      stretch = λ slack eight narrow. standing (mode_numbered g.row.MODE) slack c.args.src.now c.args.target.now c.args.from c.args.to (omega (arith, p.before, p.inside));
       count = ap length e ∙ p.count;
-      flags = subst (λ bs. HoldsFlags (mode_numbered g.row.MODE) c.args.source.now.text.now c.args.at c.args.taken c.args.from bs) (sym e) p.flags;
+      flags = subst (λ bs. HoldsFlags (mode_numbered g.row.MODE) c.args.src.now c.args.at c.args.taken c.args.from bs) (sym e) p.flags;
       cleared = λ k s. c.requires.cleared k (sym (ap (λ bs. get_or bs k false) e) ∙ s);
       ahead = c.requires.ahead;
       stored = omega arith;
@@ -25,7 +25,7 @@ turns-init g c =
 pub pass_to_escape-after-requires : goal.pass_to_escape-after-requires
 pass_to_escape-after-requires g c =
     let inv = c.turns.invariant in let p = c.requires.place in
-    let s = inv.stretch 32 (omega arith) c.requires.narrow in (
+    let s = inv.stretch 32 (omega arith) c.requires.held.narrow in (
       omega arith,
       (
         record {
@@ -35,11 +35,9 @@ pass_to_escape-after-requires g c =
           inside = p.inside;
           after = omega (arith, p.after, inv.forward);
           before = inv.before;
-          base = p.base;
-          held = p.held;
           room = omega (arith, s.limit, s.same_slice.len, p.room);
         },
-        (c.requires.several, (sym c.all_zero.ensures ∙ c.turns-test.true, (inv.cleared, inv.ahead))),
+        (sym c.all_zero.ensures ∙ c.turns-test.true, (inv.cleared, inv.ahead)),
       ),
     )
 
@@ -49,19 +47,19 @@ returns-then-at-taken-clause-stretch g c slack eight narrow = onward (c.turns.in
 pub returns-then-at-taken-clause-stored : goal.returns-then-at-taken-clause-stored
 returns-then-at-taken-clause-stored g c =
     let e = c.pass_to_escape-after.ensures in let inv = c.turns.invariant in
-    let most = runs_after-≤ (mode_numbered g.row.MODE) (drop c.pass_to_escape-after.result.0 c.args.source.now.text.now) in
+    let most = runs_after-≤ (mode_numbered g.row.MODE) (drop c.pass_to_escape-after.result.0 c.args.src.now) in
     omega (arith, most, e.run, e.stored, inv.stored)
 
 pub pass_to_border-requires : goal.pass_to_border-requires
 pass_to_border-requires g c =
-    let mode = mode_numbered g.row.MODE in let src : List ℕ = c.args.source.now.text.now in let inv = c.turns.invariant in let p = c.requires.place in
+    let mode = mode_numbered g.row.MODE in let src : List ℕ = c.args.src.now in let inv = c.turns.invariant in let p = c.requires.place in
     let at : ℕ = c.args.at in let taken : ℕ = c.args.taken in let next : ℕ = c.turns.next in let after : ℕ = c.pass_to_escape-after.result.0 in
     let bits = g.M.BitMask.bits c.turns.rest in let e = c.take_off-rest.ensures in let x = c.pass_to_escape-after.ensures in
     let b = first-bounds mode src at taken next bits inv.flags (omega (arith, p.after, inv.forward)) p.inside (sym c.all_zero.ensures ∙ c.turns-test.true) inv.cleared in
     let from_here : next ≤ after = omega (arith, b, x.first) in
     let further = held-further mode src at taken next after bits inv.flags from_here in
     let later : at ≤ after = omega (arith, p.after, inv.forward, from_here) in
-    let s = inv.stretch 32 (omega arith) c.requires.narrow in let t = x.stretch 32 (omega arith) in let r = rest-bounds mode src after in (
+    let s = inv.stretch 32 (omega arith) c.requires.held.narrow in let t = x.stretch 32 (omega arith) in let r = rest-bounds mode src after in (
       omega arith,
       (
         record {
@@ -74,14 +72,12 @@ pass_to_border-requires g c =
             inside = p.inside;
             after = later;
             before = before;
-            base = p.base;
-            held = p.held;
             room = omega (arith, s.limit, s.same_slice.len, t.limit, t.same_slice.len, p.room);
           };
           over = x.border;
           room = omega (arith, r, s.limit, s.same_slice.len, t.limit, t.same_slice.len, p.room, p.inside);
         },
-        c.requires.narrow,
+        c.requires.held,
       ),
     )
 
@@ -91,7 +87,7 @@ returns-then-all_zero-clause-stretch g c slack eight narrow =
 
 pub store_ahead-requires : goal.store_ahead-requires
 store_ahead-requires g c =
-    let mode = mode_numbered g.row.MODE in let src : List ℕ = c.args.source.now.text.now in let inv = c.turns.invariant in let p = c.requires.place in
+    let mode = mode_numbered g.row.MODE in let src : List ℕ = c.args.src.now in let inv = c.turns.invariant in let p = c.requires.place in
     let at : ℕ = c.args.at in let taken : ℕ = c.args.taken in let next : ℕ = c.turns.next in let after : ℕ = c.pass_to_escape-after.result.0 in
     let bits = g.M.BitMask.bits c.turns.rest in let e = c.take_off-rest.ensures in let x = c.pass_to_escape-after.ensures in
     let b = first-bounds mode src at taken next bits inv.flags (omega (arith, p.after, inv.forward)) p.inside (sym c.all_zero.ensures ∙ c.turns-test.true) inv.cleared in
@@ -99,7 +95,7 @@ store_ahead-requires g c =
     let further = held-further mode src at taken next after bits inv.flags from_here in
     let later : at ≤ after = omega (arith, p.after, inv.forward, from_here) in
     let within = before-border mode src at taken after bits further later p.inside (g.M.BitMask.bits c.take_off-rest.result) e (sym c.all_zero-in-turns.ensures ∙ c.if-all_zero.false) in
-    let s = inv.stretch 32 (omega arith) c.requires.narrow in let t = x.stretch 32 (omega arith) in (
+    let s = inv.stretch 32 (omega arith) c.requires.held.narrow in let t = x.stretch 32 (omega arith) in (
       omega arith,
       (
         record {
@@ -109,24 +105,22 @@ store_ahead-requires g c =
           inside = p.inside;
           after = later;
           before = within;
-          base = p.base;
-          held = p.held;
           room = omega (arith, s.limit, s.same_slice.len, t.limit, t.same_slice.len, p.room);
         },
-        c.requires.narrow,
+        c.requires.held,
       ),
     )
 
 pub turns-smaller : goal.turns-smaller
 turns-smaller g c =
-    let mode = mode_numbered g.row.MODE in let src : List ℕ = c.args.source.now.text.now in let inv = c.turns.invariant in let p = c.requires.place in
+    let mode = mode_numbered g.row.MODE in let src : List ℕ = c.args.src.now in let inv = c.turns.invariant in let p = c.requires.place in
     let bits = g.M.BitMask.bits c.turns.rest in
     let b = first-bounds mode src c.args.at c.args.taken c.turns.next bits inv.flags (omega (arith, p.after, inv.forward)) p.inside (sym c.all_zero.ensures ∙ c.turns-test.true) inv.cleared in
     omega (arith, b, c.pass_to_escape-after.ensures.first, inv.before)
 
 pub turns-preserved : goal.turns-preserved
 turns-preserved g c =
-    let mode = mode_numbered g.row.MODE in let src : List ℕ = c.args.source.now.text.now in let inv = c.turns.invariant in let p = c.requires.place in
+    let mode = mode_numbered g.row.MODE in let src : List ℕ = c.args.src.now in let inv = c.turns.invariant in let p = c.requires.place in
     let at : ℕ = c.args.at in let taken : ℕ = c.args.taken in let next : ℕ = c.turns.next in let after : ℕ = c.pass_to_escape-after.result.0 in
     let bits = g.M.BitMask.bits c.turns.rest in let e = c.take_off-rest.ensures in let x = c.pass_to_escape-after.ensures in let a = c.store_ahead.ensures in
     let b = first-bounds mode src at taken next bits inv.flags (omega (arith, p.after, inv.forward)) p.inside (sym c.all_zero.ensures ∙ c.turns-test.true) inv.cleared in
@@ -147,18 +141,18 @@ turns-preserved g c =
 
 pub overflow_add-result-3 : goal.overflow_add-result-3
 overflow_add-result-3 g c =
-    let inv = c.turns.invariant in let p = c.requires.place in let s = inv.stretch 32 (omega arith) c.requires.narrow in
-    let r = rest-bounds (mode_numbered g.row.MODE) c.args.source.now.text.now c.turns.next in
+    let inv = c.turns.invariant in let p = c.requires.place in let s = inv.stretch 32 (omega arith) c.requires.held.narrow in
+    let r = rest-bounds (mode_numbered g.row.MODE) c.args.src.now c.turns.next in
     omega (arith, r, s.limit, p.room, p.inside, inv.before)
 
 pub returns-clause-stretch : goal.returns-clause-stretch
 returns-clause-stretch g c slack eight narrow =
     let inv = c.turns.invariant in let p = c.requires.place in
     onward (inv.stretch slack eight narrow)
-    (border-stretch (mode_numbered g.row.MODE) c.args.source.now.text.now c.args.at c.args.taken c.turns.next (g.M.BitMask.bits c.turns.rest) inv.flags (omega (arith, p.after, inv.forward)) inv.before p.inside (sym c.all_zero.ensures ∙ c.turns-test.false) slack c.turns.target c.turns.end inv.ahead)
+    (border-stretch (mode_numbered g.row.MODE) c.args.src.now c.args.at c.args.taken c.turns.next (g.M.BitMask.bits c.turns.rest) inv.flags (omega (arith, p.after, inv.forward)) inv.before p.inside (sym c.all_zero.ensures ∙ c.turns-test.false) slack c.turns.target c.turns.end inv.ahead)
 
 pub returns-clause-stored : goal.returns-clause-stored
 returns-clause-stored g c =
     let inv = c.turns.invariant in let p = c.requires.place in
-    let same = border-runs (mode_numbered g.row.MODE) c.args.source.now.text.now c.args.at c.args.taken c.turns.next (g.M.BitMask.bits c.turns.rest) inv.flags (omega (arith, p.after, inv.forward)) inv.before p.inside (sym c.all_zero.ensures ∙ c.turns-test.false) in
+    let same = border-runs (mode_numbered g.row.MODE) c.args.src.now c.args.at c.args.taken c.turns.next (g.M.BitMask.bits c.turns.rest) inv.flags (omega (arith, p.after, inv.forward)) inv.before p.inside (sym c.all_zero.ensures ∙ c.turns-test.false) in
     omega (arith, same, inv.stored)

@@ -7,7 +7,7 @@ use Rattle.escape_simd.specs.Modes.{mode_numbered}
 use Rattle.escape_simd.specs.Output.{begins_separator, passed, first_replacement}
 use Rattle.escape_simd.proofs.Each.{word-stretch}
 use Rattle.escape_simd.proofs.Stretches.{escaped_unit, ended}
-use Rattle.escape_simd.proofs.Escapes.{is_script, not_script, third-at, separator-needed, passed-alone}
+use Rattle.escape_simd.proofs.Escapes.{is_script, not_script, third-at, third-inside, separator-needed, passed-alone}
 use Rattle.escape_simd.proofs.simd.util.escape.Goals.{else-this-ge-SCRIPT_MODE-via-then-this-ge-SCRIPT_MODE+else-is_separator, else-this-ge-SCRIPT_MODE-via-else-this-ge-SCRIPT_MODE}
 use Rattle.escape_simd.proofs.simd.util.escape.Goals as goal
 
@@ -22,9 +22,15 @@ separator-front src at third entry begins is e =
       | inr paragraph ↦ let f = rw paragraph at e in (ap length f, ap (take 6) f ∙ sym (rw (begins, same, paragraph) refl))
     ]
 
+pub bounds-src-at : goal.bounds-src-at
+bounds-src-at g c =
+    let src : List ℕ = c.args.src.now in let at : ℕ = c.args.at in
+    let begins : begins_separator (drop at src) ≡ true = sym c.is_separator.ensures ∙ c.if-is_separator.true in
+    third-inside src at begins
+
 pub returns-then-is_separator-clause-place : goal.returns-then-is_separator-clause-place
 returns-then-is_separator-clause-place g c =
-    let mode = mode_numbered g.row.MODE in let src : List ℕ = c.args.source.now.text.now in let at : ℕ = c.args.at in
+    let mode = mode_numbered g.row.MODE in let src : List ℕ = c.args.src.now in let at : ℕ = c.args.at in
     let third = is_script g.row.MODE c.if-this-ge-SCRIPT_MODE.true in
     let begins : begins_separator (drop at src) ≡ true = sym c.is_separator.ensures ∙ c.if-is_separator.true in
     let three : passed mode (drop at src) ≡ 3 = ap (λ m. passed m (drop at src)) third ∙ rw begins refl in
@@ -32,10 +38,10 @@ returns-then-is_separator-clause-place g c =
 
 pub returns-then-is_separator-clause-stretch : goal.returns-then-is_separator-clause-stretch
 returns-then-is_separator-clause-stretch g c slack eight =
-    let mode = mode_numbered g.row.MODE in let src : List ℕ = c.args.source.now.text.now in let at : ℕ = c.args.at in let e = c.escape.ensures in
+    let mode = mode_numbered g.row.MODE in let src : List ℕ = c.args.src.now in let at : ℕ = c.args.at in let e = c.escape.ensures in
     let third = is_script g.row.MODE c.if-this-ge-SCRIPT_MODE.true in
     let begins : begins_separator (drop at src) ≡ true = sym c.is_separator.ensures ∙ c.if-is_separator.true in
-    let f = separator-front src at c.byte.result c.separator_entry.result.now begins c.byte.ensures c.separator_entry.ensures in
+    let f = separator-front src at (get_or src (at + 2) 0) c.separator_entry.result.now begins refl c.separator_entry.ensures in
     let three : passed mode (drop at src) ≡ 3 = ap (λ m. passed m (drop at src)) third ∙ rw begins refl in
     let step : at + passed mode (drop at src) ≡ at + 3 = ap (λ k. at + k) three in
     let needed = ap (λ m. needs_escape m (get_or src at 0)) third ∙ separator-needed src at begins in
@@ -44,7 +50,7 @@ returns-then-is_separator-clause-stretch g c slack eight =
 
 pub returns-clause-place : goal.returns-clause-place
 returns-clause-place g c =
-    let mode = mode_numbered g.row.MODE in let src : List ℕ = c.args.source.now.text.now in let at : ℕ = c.args.at in
+    let mode = mode_numbered g.row.MODE in let src : List ℕ = c.args.src.now in let at : ℕ = c.args.at in
     let none : mode ≡ script → begins_separator (drop at src) ≡ false =
     elim c.else-this-ge-SCRIPT_MODE.branch [
       | else-this-ge-SCRIPT_MODE-via-then-this-ge-SCRIPT_MODE+else-is_separator w ↦ λ e. sym w.is_separator.ensures ∙ w.if-is_separator.false
@@ -54,10 +60,10 @@ returns-clause-place g c =
 
 pub returns-clause-stretch : goal.returns-clause-stretch
 returns-clause-stretch g c slack eight =
-    let mode = mode_numbered g.row.MODE in let src : List ℕ = c.args.source.now.text.now in let at : ℕ = c.args.at in let e = c.put_byte.ensures in
+    let mode = mode_numbered g.row.MODE in let src : List ℕ = c.args.src.now in let at : ℕ = c.args.at in let e = c.put_byte.ensures in
     let none : mode ≡ script → begins_separator (drop at src) ≡ false =
     elim c.else-this-ge-SCRIPT_MODE.branch [
       | else-this-ge-SCRIPT_MODE-via-then-this-ge-SCRIPT_MODE+else-is_separator w ↦ λ e. sym w.is_separator.ensures ∙ w.if-is_separator.false
       | else-this-ge-SCRIPT_MODE-via-else-this-ge-SCRIPT_MODE w ↦ λ e. absurd (not_script g.row.MODE w.if-this-ge-SCRIPT_MODE.false e)
     ] in
-    ended (word-stretch mode c.byte-b.result c.args.target.now c.put_byte.new.target c.args.to e.bytes c.requires.room src at c.byte-b.ensures c.requires.inside none slack eight e.same_slice e.escaped e.quotes) refl (sym e.end)
+    ended (word-stretch mode (get_or src at 0) c.args.target.now c.put_byte.new.target c.args.to e.bytes c.requires.room src at refl c.requires.inside none slack eight e.same_slice e.escaped e.quotes) refl (sym e.end)

@@ -9,9 +9,9 @@ abbrev pub invariant-bytes : goal.invariant-bytes
 invariant-bytes g l =
     let mode = mode_numbered g.row.MODE in
     record {
-      stretch : (slack : ℕ) → 8 ≤ slack → Stretch mode slack l.source.text.now l.initial.target l.target l.at l.next l.to l.end;
-      passed : l.border ≤ l.next → Passed mode l.source.text.now l.border l.next;
-      runs : run_count mode (drop l.next l.source.text.now) ≤ run_count mode (drop l.at l.source.text.now);
+      stretch : (slack : ℕ) → 8 ≤ slack → Stretch mode slack l.src l.initial.target l.target l.at l.next l.to l.end;
+      passed : l.border ≤ l.next → Passed mode l.src l.border l.next;
+      runs : run_count mode (drop l.next l.src) ≤ run_count mode (drop l.at l.src);
       stored : stored_of l.target ≡ stored_of l.initial.target;
     }
 

@@ -10,9 +10,9 @@ use Rattle.escape_simd.proofs.simd.vector.vector.Goals as goal
 pub store-requires : goal.store-requires
 store-requires g c =
     let exact = not (nat_eq (value_of (number g.row.EXACT)) 0) in
-    let src : List ℕ = c.args.source.now.text.now in let p = c.requires.place in
+    let src : List ℕ = c.args.src.now in let p = c.requires.place in
     let r = rest-bounds (mode_numbered g.row.MODE) src c.args.from in
-    let low = stored-low exact g.row.N (c.args.at + c.args.taken - c.args.from) (rest_length (mode_numbered g.row.MODE) src c.args.from) (length src - (c.args.at + c.args.taken)) 32 (omega (arith, p.few, p.after)) (omega (arith, r, p.inside, p.before)) c.requires.narrow in (
+    let low = stored-low exact g.row.N (c.args.at + c.args.taken - c.args.from) (rest_length (mode_numbered g.row.MODE) src c.args.from) (length src - (c.args.at + c.args.taken)) 32 (omega (arith, p.few, p.after)) (omega (arith, r, p.inside, p.before)) c.requires.held.narrow in (
       omega arith,
       (
         record {
@@ -20,19 +20,19 @@ store-requires g c =
           inside = omega (arith, p.inside, p.before);
           room = omega (arith, low, p.room);
         },
-        c.requires.loaded,
+        c.vector_from-v.ensures,
       ),
     )
 
 pub escape_each-next-requires : goal.escape_each-next-requires
 escape_each-next-requires g c =
     let p = c.requires.place in
-    (omega arith, (p.before, (p.inside, (omega (arith, p.base, p.after), (omega (arith, p.held, p.few, g.met.V.Vector.several), omega (arith, p.room, c.store.ensures.same_slice.len))))))
+    (omega arith, (p.before, (p.inside, omega (arith, p.room, c.store.ensures.same_slice.len))))
 
 pub returns-then-taken-count_set-clause-stretch : goal.returns-then-taken-count_set-clause-stretch
 returns-then-taken-count_set-clause-stretch g c slack eight narrow =
     let exact = not (nat_eq (value_of (number g.row.EXACT)) 0) in
-    let mode = mode_numbered g.row.MODE in let src : List ℕ = c.args.source.now.text.now in let p = c.requires.place in
+    let mode = mode_numbered g.row.MODE in let src : List ℕ = c.args.src.now in let p = c.requires.place in
     let r = rest-bounds mode src c.args.from in
     let low = stored-low exact g.row.N (c.args.at + c.args.taken - c.args.from) (rest_length mode src c.args.from) (length src - (c.args.at + c.args.taken)) slack (omega (arith, p.few, p.after)) (omega (arith, r, p.inside, p.before)) narrow in
     onward (stored_ahead mode slack exact src c.args.target.now c.store.new.target c.args.from (c.args.at + c.args.taken - c.args.from) c.args.to c.store.ensures (omega (arith, p.inside, p.before)) low)
@@ -40,7 +40,7 @@ returns-then-taken-count_set-clause-stretch g c slack eight narrow =
 
 pub turns-next-requires : goal.turns-next-requires
 turns-next-requires g c =
-    let src : List ℕ = c.args.source.now.text.now in let p = c.requires.place in let t = c.store.ensures in (
+    let src : List ℕ = c.args.src.now in let p = c.requires.place in let t = c.store.ensures in (
       omega arith,
       (
         record {
@@ -50,18 +50,13 @@ turns-next-requires g c =
           inside = p.inside;
           after = p.after;
           before = p.before;
-          base = p.base;
-          held = p.held;
           room = omega (arith, p.room, t.same_slice.len);
         },
         (
-          g.met.V.Vector.several,
+          c.requires.held,
           (
-            c.requires.narrow,
-            (
-              c.requires.cleared,
-              ahead-front (mode_numbered g.row.MODE) src c.store.new.target c.args.from (c.args.at + c.args.taken) c.args.to (c.args.at + c.args.taken - c.args.from) (omega arith) t.ahead,
-            ),
+            c.requires.cleared,
+            ahead-front (mode_numbered g.row.MODE) src c.store.new.target c.args.from (c.args.at + c.args.taken) c.args.to (c.args.at + c.args.taken - c.args.from) (omega arith) t.ahead,
           ),
         ),
       ),
@@ -70,7 +65,7 @@ turns-next-requires g c =
 pub returns-clause-stretch : goal.returns-clause-stretch
 returns-clause-stretch g c slack eight narrow =
     let exact = not (nat_eq (value_of (number g.row.EXACT)) 0) in
-    let mode = mode_numbered g.row.MODE in let src : List ℕ = c.args.source.now.text.now in let p = c.requires.place in
+    let mode = mode_numbered g.row.MODE in let src : List ℕ = c.args.src.now in let p = c.requires.place in
     let r = rest-bounds mode src c.args.from in
     let low = stored-low exact g.row.N (c.args.at + c.args.taken - c.args.from) (rest_length mode src c.args.from) (length src - (c.args.at + c.args.taken)) slack (omega (arith, p.few, p.after)) (omega (arith, r, p.inside, p.before)) narrow in
     onward (stored_ahead mode slack exact src c.args.target.now c.store.new.target c.args.from (c.args.at + c.args.taken - c.args.from) c.args.to c.store.ensures (omega (arith, p.inside, p.before)) low)

@@ -1,5 +1,5 @@
 //! The escapes of a vector in turn, by its one mask.
-ghost use Rattle.std.specs.Prelude.{◌≡◌, ℕ, ◌+◌, ◌-◌, ◌<◌, ◌≤◌, true, false, length, take, drop, slice_index_or};
+ghost use Rattle.std.specs.Prelude.{◌≡◌, ℕ, ◌+◌, ◌-◌, ◌<◌, ◌≤◌, ◌++◌, true, false, length, take, drop, replicate, slice_index_or};
 ghost use Rattle.escape_lanes.specs.Bits.{first_set, none_set, clear_first};
 ghost use Rattle.escape_lanes.specs.Written.{bytes_of, stored_of};
 ghost use Rattle.escape_simd.specs.Modes.{mode_numbered};
@@ -74,6 +74,18 @@ fn classify_again<V: Vector<N>, const MODE: u8, const N: usize>(v: &V, ticks: &m
     let _ = v.flags(MODE, ticks);
 }
 
+/// What is left of a vector past its first `count` lanes.
+///
+/// No part of its callers while the toolchain counts how large they are, as [`classify_again`] is none: most of them
+/// load vectors from the text.
+#[inline]
+fn left_of<V: Vector<N>, const N: usize>(v: &V, count: usize) -> V
+    requires { count < N }
+    ensures { V.lanes result ≡ drop count (V.lanes v.now) ++ replicate count 0 }
+{
+    v.move_down(count)
+}
+
 /// The vector of the text's bytes from `from` on. Where the vector at `at` is the text's last one, that is what is
 /// left of it: `held` has its `_taken` bytes.
 #[inline(always)]
@@ -93,7 +105,7 @@ pub(crate) fn vector_from<V: Vector<N>, const N: usize, const LAST: bool>(
     ensures { take (at + _taken - from) (V.lanes result) ≡ take (at + _taken - from) (drop from src.now) }
 {
     if LAST {
-        return held.move_down(from - at);
+        return left_of::<V, N>(held, from - at);
     }
     V::load(src, from)
 }

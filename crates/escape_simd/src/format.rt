@@ -1,5 +1,5 @@
 //! The output for a text in a slice, by the kernel that is told.
-ghost use Rattle.std.specs.Prelude.{◌≡◌, ◌+◌, ◌*◌, ◌≤◌, length, take, chars};
+ghost use Rattle.std.specs.Prelude.{◌+◌, ◌*◌, ◌≤◌, length, take, chars};
 ghost use Rattle.escape_lanes.specs.Mode.{json, html, script};
 ghost use Rattle.escape_simd.specs.Escaping.{IsEscaping};
 ghost use Rattle.escape_simd.specs.Formatted.{IsInnerWritten, IsWritten};
@@ -53,25 +53,11 @@ fn json_by(kernel: Kernel, value: &str, dst: &mut [u8]) -> usize
     ensures { IsWritten (lanes_of kernel) json value.now dst.old dst.new result }
 {
     match kernel {
-        Kernel::Avx2 => avx2::format_string::<false>(value, dst),
-        Kernel::Avx512 => avx512::format_string::<false>(value, dst),
-        _ => json_by_sixteen(value, dst, kernel),
-    }
-}
-
-/// As [`json_by`], by a kernel of 16 lanes. Apart, two kernels and three are told by comparisons, where five would
-/// be told by a table of jumps.
-#[inline(never)]
-fn json_by_sixteen(value: &str, dst: &mut [u8], kernel: Kernel) -> usize
-    requires narrow { lanes_of kernel ≡ 16 }
-    requires room { bound json (length value.now) ≤ length dst.old }
-    ensures { IsWritten (lanes_of kernel) json value.now dst.old dst.new result }
-{
-    match kernel {
         Kernel::V128 => v128::format_string::<false>(value, dst),
         Kernel::Sse2 => sse2::format_string::<false>(value, dst),
         Kernel::Neon => neon::format_string::<false>(value, dst),
-        _ => unreachable!(),
+        Kernel::Avx2 => avx2::format_string::<false>(value, dst),
+        Kernel::Avx512 => avx512::format_string::<false>(value, dst),
     }
 }
 
@@ -116,25 +102,11 @@ fn html_by(kernel: Kernel, value: &str, dst: &mut [u8]) -> usize
     ensures { IsWritten (lanes_of kernel) html value.now dst.old dst.new result }
 {
     match kernel {
-        Kernel::Avx2 => avx2::format_string::<true>(value, dst),
-        Kernel::Avx512 => avx512::format_string::<true>(value, dst),
-        _ => html_by_sixteen(value, dst, kernel),
-    }
-}
-
-/// As [`html_by`], by a kernel of 16 lanes. Apart, two kernels and three are told by comparisons, where five would
-/// be told by a table of jumps.
-#[inline(never)]
-fn html_by_sixteen(value: &str, dst: &mut [u8], kernel: Kernel) -> usize
-    requires narrow { lanes_of kernel ≡ 16 }
-    requires room { bound html (length value.now) ≤ length dst.old }
-    ensures { IsWritten (lanes_of kernel) html value.now dst.old dst.new result }
-{
-    match kernel {
         Kernel::V128 => v128::format_string::<true>(value, dst),
         Kernel::Sse2 => sse2::format_string::<true>(value, dst),
         Kernel::Neon => neon::format_string::<true>(value, dst),
-        _ => unreachable!(),
+        Kernel::Avx2 => avx2::format_string::<true>(value, dst),
+        Kernel::Avx512 => avx512::format_string::<true>(value, dst),
     }
 }
 
@@ -179,25 +151,11 @@ fn script_by(kernel: Kernel, value: &str, dst: &mut [u8]) -> usize
     ensures { IsWritten (lanes_of kernel) script value.now dst.old dst.new result }
 {
     match kernel {
-        Kernel::Avx2 => avx2::format_script_string(value, dst),
-        Kernel::Avx512 => avx512::format_script_string(value, dst),
-        _ => script_by_sixteen(value, dst, kernel),
-    }
-}
-
-/// As [`script_by`], by a kernel of 16 lanes. Apart, two kernels and three are told by comparisons, where five would
-/// be told by a table of jumps.
-#[inline(never)]
-fn script_by_sixteen(value: &str, dst: &mut [u8], kernel: Kernel) -> usize
-    requires narrow { lanes_of kernel ≡ 16 }
-    requires room { bound script (length value.now) ≤ length dst.old }
-    ensures { IsWritten (lanes_of kernel) script value.now dst.old dst.new result }
-{
-    match kernel {
         Kernel::V128 => v128::format_script_string(value, dst),
         Kernel::Sse2 => sse2::format_script_string(value, dst),
         Kernel::Neon => neon::format_script_string(value, dst),
-        _ => unreachable!(),
+        Kernel::Avx2 => avx2::format_script_string(value, dst),
+        Kernel::Avx512 => avx512::format_script_string(value, dst),
     }
 }
 

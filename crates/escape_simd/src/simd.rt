@@ -30,4 +30,6 @@ pub(crate) use ahead::{
 pub(crate) use body::escape_at;
 pub(crate) use classify::Vector;
 pub use classify::{HTML_MODE, JSON_MODE, SCRIPT_MODE};
-pub use escape_lanes::simd::{BitMask, Flags, LaneMask, LoadLast, Mask, MoveDown, Simd, bits, target};
+pub use escape_lanes::simd::{
+    BitMask, Flags, LaneMask, LoadLast, Mask, MoveDown, Simd, bits, target,
+};

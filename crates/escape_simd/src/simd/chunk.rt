@@ -23,13 +23,7 @@ pub(crate) fn whole_vector<
     const N: usize,
     const CHUNK: usize,
     const EXACT: bool,
->(
-    src: &[u8],
-    at: usize,
-    target: &mut Target<'_, N>,
-    to: usize,
-    ticks: &mut Ticks,
-) -> (usize, usize)
+>(src: &[u8], at: usize, target: &mut Target<'_, N>, to: usize, ticks: &mut Ticks) -> (usize, usize)
     requires inside { at + N ≤ length src.now }
     requires narrow { EXACT ≡ false → N ≤ 32 }
     requires room { to + room_from (mode_numbered MODE) src.now at ≤ length (bytes_of target.old) }
@@ -44,13 +38,7 @@ pub(crate) fn whole_vector<
     if !flags.none() {
         let mask = flags.bitmask();
         let (next, end) = last_flagged_vector::<V, MODE, N, EXACT>(
-            src,
-            at,
-            at,
-            target,
-            to,
-            mask,
-            ticks,
+            src, at, at, target, to, mask, ticks,
         );
         if CHUNK == 1 {
             return run::<MODE, N>(src, next, target, end);

@@ -46,9 +46,7 @@ pub(crate) fn escape_many<
         end = reached;
     }
     'vectors: while N <= src.len() - at {
-        let (next, reached) = whole_vector::<V, MODE, N, CHUNK, EXACT>(
-            src, at, target, end, ticks,
-        );
+        let (next, reached) = whole_vector::<V, MODE, N, CHUNK, EXACT>(src, at, target, end, ticks);
         at = next;
         end = reached;
     }

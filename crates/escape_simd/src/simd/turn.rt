@@ -189,9 +189,7 @@ fn pass_to_border<
     if at + taken <= from {
         return (from, to);
     }
-    store_ahead::<V, M, MODE, N, EXACT, LAST>(
-        src, at, taken, from, target, to, held, mask, ticks,
-    );
+    store_ahead::<V, M, MODE, N, EXACT, LAST>(src, at, taken, from, target, to, held, mask, ticks);
     (at + taken, to + (at + taken - from))
 }
 

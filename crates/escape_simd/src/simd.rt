@@ -1,6 +1,5 @@
 //! Vectors of bytes, and the kernels that escape text by them.
 
-mod again;
 mod ahead;
 pub mod avx2;
 pub mod avx512;

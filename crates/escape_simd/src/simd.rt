@@ -1,5 +1,6 @@
 //! Vectors of bytes, and the kernels that escape text by them.
 
+mod again;
 mod ahead;
 pub mod avx2;
 pub mod avx512;

@@ -5,8 +5,9 @@ ghost use Rattle.escape_simd.specs.Modes.{mode_numbered};
 ghost use Rattle.escape_simd.specs.Runs.{run_count};
 ghost use Rattle.escape_simd.specs.Stretch.{Stretch, IsHeld, IsVectorAt, IsByteWise, Passed, room_from, rest_slack};
 
+use crate::simd::again::vector_from;
 use crate::simd::classify::{SCRIPT_MODE, Vector, store};
-use crate::simd::turn::{turns, vector_from};
+use crate::simd::turn::turns;
 use crate::simd::util::escape_each;
 use escape_lanes::simd::target::{Target, Ticks};
 use escape_lanes::simd::{Flags, LaneMask};

@@ -7,7 +7,7 @@ use Rattle.escape_simd.proofs.Texts.{first-here, next-here, runs_stop-here}
 use Rattle.escape_simd.proofs.Stretches.{stored_ahead, rest-bounds}
 use Rattle.escape_simd.proofs.Lanes.{stored-low}
 use Rattle.escape_simd.proofs.Turns.{ahead-front, ahead-flagged}
-use Rattle.escape_simd.proofs.simd.turn.store_ahead.Goals as goal
+use Rattle.escape_simd.proofs.simd.again.store_ahead.Goals as goal
 
 pub returns-then-is_set-clause-ahead : goal.returns-then-is_set-clause-ahead
 returns-then-is_set-clause-ahead g c =

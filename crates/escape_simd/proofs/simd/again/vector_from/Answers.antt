@@ -1,6 +1,6 @@
 use Rattle.std.proofs.Common.{◌+◌, ◌-◌, arith}
 use Rattle.escape_simd.proofs.Lanes.{loaded-front, left-front}
-use Rattle.escape_simd.proofs.simd.turn.vector_from.Goals as goal
+use Rattle.escape_simd.proofs.simd.again.vector_from.Goals as goal
 
 pub returns-then-this-ne0 : goal.returns-then-this-ne0
 returns-then-this-ne0 g c =

@@ -8,7 +8,7 @@ use Rattle.std.specs.Simd.Lanes.{zip2}
 use Rattle.escape_lanes.specs.Bits.{first_set, none_set, clear_first, clear_last}
 use Rattle.escape_lanes.specs.Mode.{Mode}
 use Rattle.escape_lanes.specs.Replacement.{needs_escape}
-use Rattle.escape_simd.specs.Stretch.{HoldsFlags, stored_lanes}
+use Rattle.escape_simd.specs.Stretch.{HoldsFlags, IsVectorAt, Passed, room_from, stored_lanes}
 use Rattle.escape_simd.proofs.Texts.{IsClean}
 
 -- no lane before the first set one is set
@@ -256,6 +256,19 @@ left-front src lanes result at taken from n few after before width held moved =
     ∙ ap (drop k) (ap (λ m. take m lanes) all ∙ held ∙ ap (λ m. take m (drop at src)) (sym all))
     ∙ drop-take k left (drop at src)
     ∙ ap (take left) (drop-drop k at src ∙ ap (λ m. drop m src) there)
+
+-- a whole vector with its mask, of which what came before it may have passed some bytes
+pub passed-vector : (mode : Mode) (n : ℕ) (src : List ℕ) (at from to size : ℕ) (bits : List Bool) → length bits ≡ n → 16 ≤ n → at + n ≤ length src → HoldsFlags mode src at n at bits → Passed mode src at from → to + room_from mode src from ≤ size
+    → IsVectorAt mode n src at n from to size bits
+passed-vector mode n src at from to size bits count several inside flagged passed room = record {
+  count = count;
+  flags = held-further mode src at n at from bits flagged passed.whole;
+  few = omega arith;
+  inside = inside;
+  after = passed.whole;
+  before = omega (arith, several, passed.near);
+  room = room;
+}
 
 -- where a mask sets a lane, its vector has a byte of the text
 pub held-some : (mode : Mode) (src : List ℕ) (at taken from : ℕ) (bits : List Bool) → HoldsFlags mode src at taken from bits → none_set bits ≡ false → 0 < taken

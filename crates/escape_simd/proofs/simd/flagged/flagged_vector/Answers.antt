@@ -1,24 +1,16 @@
-use Rattle.std.proofs.Common.{ℕ, List, ◌∙◌, arith}
+use Rattle.std.proofs.Common.{ℕ, List, length, ◌∙◌, arith}
+use Rattle.escape_lanes.specs.Written.{bytes_of}
 use Rattle.escape_simd.specs.Modes.{mode_numbered}
-use Rattle.escape_simd.proofs.Lanes.{held-further, none-before, loaded-front}
+use Rattle.escape_simd.proofs.Lanes.{passed-vector, none-before, loaded-front}
 use Rattle.escape_simd.proofs.simd.flagged.flagged_vector.Goals as goal
 
 pub vector-requires : goal.vector-requires
 vector-requires g c =
     let mode = mode_numbered g.row.MODE in let src : List ℕ = c.args.src.now in let at : ℕ = c.args.at in let from : ℕ = c.args.from in let n : ℕ = g.row.N in let r = c.requires in
-    let bits = g.V.Flags.BitMask.BitMask.bits c.args.mask in
-    let several = g.met.V.Vector.several in (
+    let bits = g.V.Flags.BitMask.BitMask.bits c.args.mask in (
       omega arith,
       (
-        record {
-          count = g.met.V.Flags.BitMask.BitMask.count c.args.mask ∙ g.met.V.Vector.flag_width;
-          flags = held-further mode src at n at from bits r.flagged r.passed.whole;
-          few = omega arith;
-          inside = omega (arith, r.inside);
-          after = r.passed.whole;
-          before = omega (arith, several, r.passed.near);
-          room = r.room;
-        },
+        passed-vector mode n src at from c.args.to (length (bytes_of c.args.target.now)) bits (g.met.V.Flags.BitMask.BitMask.count c.args.mask ∙ g.met.V.Vector.flag_width) g.met.V.Vector.several (omega (arith, r.inside)) r.flagged r.passed r.room,
         (
           record {
             held = loaded-front _ _ n n c.load-v.ensures (omega arith);

@@ -1,11 +1,12 @@
-use Rattle.std.proofs.Common.{◌≡◌, ℕ, ◌+◌, ◌-◌, not, nat_eq, List, take, drop, sym, ap, subst, ◌∙◌, arith}
+use Rattle.std.proofs.Common.{◌≡◌, ℕ, ◌+◌, ◌-◌, not, nat_eq, List, length, take, drop, sym, ap, subst, ◌∙◌, arith}
 use denote.Param.{number, value_of}
 use Rattle.std.proofs.lemmas.List.{take_all}
+use Rattle.escape_lanes.specs.Written.{bytes_of}
 use Rattle.escape_simd.specs.Modes.{mode_numbered}
 use Rattle.escape_simd.specs.Stretch.{Stretch, room_from, rest_slack}
 use Rattle.escape_simd.proofs.Texts.{IsClean}
 use Rattle.escape_simd.proofs.Stretches.{rest-bounds, widened}
-use Rattle.escape_simd.proofs.Lanes.{held-none, clean_none, held-further, none-before, loaded-front}
+use Rattle.escape_simd.proofs.Lanes.{held-none, clean_none, passed-vector, none-before, loaded-front}
 use Rattle.escape_simd.proofs.RestLemmas.{rest-slack-some}
 use Rattle.escape_simd.proofs.simd.flagged.last_flagged_vector.Goals as goal
 
@@ -28,19 +29,10 @@ pass-requires g c =
 pub last_apart-requires : goal.last_apart-requires
 last_apart-requires g c =
     let mode = mode_numbered g.row.MODE in let src : List ℕ = c.args.src.now in let at : ℕ = c.args.at in let from : ℕ = c.args.from in let n : ℕ = g.row.N in let r = c.requires in
-    let bits = g.V.Flags.BitMask.BitMask.bits c.args.mask in
-    let several = g.met.V.Vector.several in (
+    let bits = g.V.Flags.BitMask.BitMask.bits c.args.mask in (
       omega arith,
       (
-        record {
-          count = g.met.V.Flags.BitMask.BitMask.count c.args.mask ∙ g.met.V.Vector.flag_width;
-          flags = held-further mode src at n at from bits r.flagged r.passed.whole;
-          few = omega arith;
-          inside = omega (arith, r.inside);
-          after = r.passed.whole;
-          before = omega (arith, several, r.passed.near);
-          room = r.room;
-        },
+        passed-vector mode n src at from c.args.to (length (bytes_of c.args.target.now)) bits (g.met.V.Flags.BitMask.BitMask.count c.args.mask ∙ g.met.V.Vector.flag_width) g.met.V.Vector.several (omega (arith, r.inside)) r.flagged r.passed r.room,
         (
           r.passed.exact,
           (

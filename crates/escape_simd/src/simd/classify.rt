@@ -60,7 +60,7 @@ pub(crate) trait Vector<const N: usize>: Drop {
 
     ghost flag_width: { Self.Flags.BitMask.LEN ≡ N };
 
-    // Room for what is looked at past a flagged byte, and so few that three vectors fit in memory.
+    // Room for what is looked at past a flagged byte, and so few that an array of the lanes fits in memory.
     ghost several: { 16 ≤ N };
 
     ghost few: { N ≤ 64 };

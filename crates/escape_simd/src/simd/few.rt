@@ -12,9 +12,10 @@ ghost use Rattle.escape_simd.specs.Stretch.{Stretch, HoldsFlags, room_from, rest
 use crate::simd::body::{format_many, quote};
 use crate::simd::classify::Vector;
 use crate::simd::clean::{written_three, written_two};
-use crate::simd::flagged::{flagged_vector, last_flagged_vector};
+use crate::simd::flagged::flagged_vector;
 use crate::simd::last::load_rest;
 use crate::simd::rest::last_vector;
+use crate::simd::vector::vector_at_end;
 use escape_lanes::simd::target::{Target, Ticks};
 use escape_lanes::simd::{BitMask, Flags};
 
@@ -39,17 +40,19 @@ fn escape_few<V: Vector<N>, const MODE: u8, const N: usize, const EXACT: bool>(
     ensures stretch { Stretch (mode_numbered MODE) (rest_slack EXACT N) src.now
         target.old target.new 0 (length src.now) to result }
 {
-    if src.len() < 2 * N {
-        let (at, end) = last_flagged_vector::<V, MODE, N, EXACT>(
-            src, 0, 0, target, to, mask1, ticks,
-        );
-        return last_vector::<V, MODE, N, EXACT>(src, at, target, end, ticks);
+    let (mut at, mut from, mut end, mut mask) = (0, 0, to, mask1);
+    if 2 * N <= src.len() {
+        let (next, reached) = flagged_vector::<V, MODE, N>(src, 0, 0, target, to, mask, ticks);
+        at = N;
+        from = next;
+        end = reached;
+        mask = mask2;
     }
-    let (from, end) = flagged_vector::<V, MODE, N>(src, 0, 0, target, to, mask1, ticks);
-    let (at, end) = last_flagged_vector::<V, MODE, N, EXACT>(
-        src, N, from, target, end, mask2, ticks,
+    let v = V::load(src, at);
+    let (next, end) = vector_at_end::<V, MODE, N, EXACT>(
+        src, at, N, from, target, end, &v, &mask, ticks,
     );
-    last_vector::<V, MODE, N, EXACT>(src, at, target, end, ticks)
+    last_vector::<V, MODE, N, EXACT>(src, next, target, end, ticks)
 }
 
 /// Writes the text, of whose whole vectors the masks have the flags, between quotation marks to the front
@@ -78,11 +81,33 @@ fn quoted_few<V: Vector<N>, const MODE: u8, const N: usize, const EXACT: bool>(
     quote::<MODE, N>(target, close)
 }
 
-/// The text, some of whose bytes need an escape, to the front of `dst`, in a function of its own.
+/// The text, of whose whole vectors the masks have the flags, to the front of `dst`, in a function of its own:
+/// so a clean text waits for no stack frame.
+#[inline(never)]
+fn format_by_masks<V: Vector<N>, const MODE: u8, const N: usize, const EXACT: bool>(
+    value: &str,
+    dst: &mut [u8],
+    mask1: <V::Flags as Flags>::BitMask,
+    mask2: <V::Flags as Flags>::BitMask,
+) -> usize
+    requires some { N ≤ length value.now }
+    requires few { length value.now < 3 * N }
+    requires narrow { EXACT ≡ false → N ≤ 32 }
+    requires flagged1 { HoldsFlags (mode_numbered MODE) value.now 0 N 0 (V.Flags.BitMask.bits mask1) }
+    requires flagged2 { 2 * N ≤ length value.now
+        → HoldsFlags (mode_numbered MODE) value.now N N N (V.Flags.BitMask.bits mask2) }
+    requires room { bound (mode_numbered MODE) (length value.now) ≤ length dst.old }
+    ensures { IsWritten N (mode_numbered MODE) value.now dst.old dst.new result }
+{
+    let mut target = Target::<N>::new(dst);
+    quoted_few::<V, MODE, N, EXACT>(value.as_bytes(), mask1, mask2, &mut target)
+}
+
+/// The text, some of whose bytes need an escape, to the front of `dst`.
 ///
 /// It goes as [`escape_many`](crate::simd::many::escape_many) does, so that the bytes past the output are
 /// the same: as the pair and the vector that chunks of four leave, and else there.
-#[inline(never)]
+#[inline(always)]
 fn format_flagged<
     V: Vector<N>,
     const MODE: u8,
@@ -107,8 +132,7 @@ fn format_flagged<
     if CHUNK != 4 {
         return format_many::<V, MODE, N, CHUNK, EXACT>(value, dst);
     }
-    let mut target = Target::<N>::new(dst);
-    quoted_few::<V, MODE, N, EXACT>(value.as_bytes(), mask1, mask2, &mut target)
+    format_by_masks::<V, MODE, N, EXACT>(value, dst, mask1, mask2)
 }
 
 /// The text, of as many bytes as a vector has or more, to the front of `dst`.

@@ -76,8 +76,38 @@ pub(crate) fn vector<
     (place_past::<MODE>(at + taken, next), end)
 }
 
-/// As [`vector`] where the vector may be the text's last one, in a function of its own: what calls it passes clean
-/// bytes with no stack frame.
+/// As [`vector`] where the vector may be the text's last one.
+#[inline(always)]
+pub(crate) fn vector_at_end<V: Vector<N>, const MODE: u8, const N: usize, const EXACT: bool>(
+    src: &[u8],
+    at: usize,
+    taken: usize,
+    from: usize,
+    target: &mut Target<'_, N>,
+    to: usize,
+    held: &V,
+    mask: &<V::Flags as Flags>::BitMask,
+    ticks: &mut Ticks,
+) -> (usize, usize)
+    requires place { IsVectorAt (mode_numbered MODE) N src.now at taken from to (length (bytes_of target.old)) (V.Flags.BitMask.bits mask.now) }
+    requires first { IsByteWise (mode_numbered MODE) → from ≡ at }
+    requires held { take taken (V.lanes held.now) ≡ take taken (drop at src.now) }
+    requires narrow { EXACT ≡ false → N ≤ 32 }
+    requires cleared { (k : ℕ)
+        → slice_index_or (V.Flags.BitMask.bits mask.now) k false ≡ true
+        → from ≤ at + k }
+    ensures stretch { Stretch (mode_numbered MODE) (rest_slack EXACT N) src.now
+        target.old target.new from result.0 to result.1 }
+    ensures passed { Passed (mode_numbered MODE) src.now (at + taken) result.0 }
+    ensures stored { stored_of target.new + run_count (mode_numbered MODE) (drop result.0 src.now)
+        ≤ stored_of target.old + run_count (mode_numbered MODE) (drop from src.now) + 1 }
+    ensures classified { ticks.new + stored_of target.old + 1 ≡ ticks.old + stored_of target.new }
+{
+    let start = place_past::<MODE>(at, from);
+    vector::<V, MODE, N, EXACT, true>(src, at, taken, start, target, to, held, mask, ticks)
+}
+
+/// As [`vector_at_end`], in a function of its own: what calls it passes clean bytes with no stack frame.
 #[inline(never)]
 pub(crate) fn last_apart<V: Vector<N>, const MODE: u8, const N: usize, const EXACT: bool>(
     src: &[u8],
@@ -104,6 +134,5 @@ pub(crate) fn last_apart<V: Vector<N>, const MODE: u8, const N: usize, const EXA
         ≤ stored_of target.old + run_count (mode_numbered MODE) (drop from src.now) + 1 }
     ensures classified { ticks.new + stored_of target.old + 1 ≡ ticks.old + stored_of target.new }
 {
-    let start = place_past::<MODE>(at, from);
-    vector::<V, MODE, N, EXACT, true>(src, at, taken, start, target, to, held, &mask, ticks)
+    vector_at_end::<V, MODE, N, EXACT>(src, at, taken, from, target, to, held, &mask, ticks)
 }

@@ -3,7 +3,7 @@ use denote.Param.{number, value_of}
 use Rattle.escape_simd.specs.Modes.{mode_numbered}
 use Rattle.escape_simd.specs.Stretch.{Stretch, rest_slack}
 use Rattle.escape_simd.proofs.RestLemmas.{rest-narrow, rest-slack-some}
-use Rattle.escape_simd.proofs.simd.vector.last_apart.Goals as goal
+use Rattle.escape_simd.proofs.simd.vector.vector_at_end.Goals as goal
 
 pub returns-clause-stretch : goal.returns-clause-stretch
 returns-clause-stretch g c =

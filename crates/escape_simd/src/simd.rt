@@ -14,6 +14,7 @@ mod flagged;
 mod inner;
 mod last;
 mod many;
+mod masked;
 pub mod neon;
 mod pass;
 mod rest;
@@ -34,3 +35,4 @@ pub use classify::{HTML_MODE, JSON_MODE, SCRIPT_MODE};
 pub use escape_lanes::simd::{
     BitMask, Flags, LaneMask, LoadLast, Mask, MoveDown, Simd, bits, target,
 };
+pub(crate) use inner::escape_inner;

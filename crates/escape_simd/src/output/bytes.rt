@@ -12,7 +12,7 @@ ghost use Rattle.escape_simd.specs.Stretch.{room_from};
 
 use crate::output::pieces::append_many;
 use crate::output::push::{fill, push_all, push_front, push_two, push_vector};
-use crate::simd::{Vector, escape_at, load_masked, most_of_four};
+use crate::simd::{Vector, escape_inner, load_masked, most_of_four};
 use escape_lanes::simd::{BitMask, LaneMask};
 use std::alloc::Allocator;
 
@@ -37,7 +37,7 @@ fn append_flagged<
     let old = dst.len();
     // A byte is written by six bytes at most.
     fill(dst, old + bytes.len() + 5 * most + 32);
-    let end = escape_at::<V, MODE, N, CHUNK, EXACT>(bytes, dst, old);
+    let end = escape_inner::<V, MODE, N, CHUNK, EXACT>(bytes, dst, old);
     dst.truncate(end);
 }
 

@@ -6,7 +6,7 @@ ghost use Rattle.escape_simd.specs.Modes.{mode_numbered};
 ghost use Rattle.escape_simd.specs.Output.{inner};
 
 use crate::simd::avx2::Simd256u;
-use crate::simd::{count_or_more, escape_at, is_clean};
+use crate::simd::{count_or_more, escape_inner, is_clean};
 
 /// Writes what stands for the text, with no quotation marks, to `dst` from `at` on, and answers the place
 /// after it. The bytes before `at` stay.
@@ -21,7 +21,7 @@ pub fn write_inner<const MODE: u8>(value: &str, dst: &mut [u8], at: usize) -> us
     ensures written { take result dst.new
         ≡ take at dst.old ++ inner (mode_numbered MODE) value.now }
 {
-    escape_at::<Simd256u, MODE, 32, 4, false>(value.as_bytes(), dst, at)
+    escape_inner::<Simd256u, MODE, 32, 4, false>(value.as_bytes(), dst, at)
 }
 
 /// Returns whether the text stands for itself: no byte of it needs an escape.

@@ -8,6 +8,9 @@ use std::alloc::Allocator;
 /// So few zeros are stores and no call.
 const FEW: usize = 160;
 
+/// So many are stores too, and no call that has to be told how many.
+const SOME: usize = 512;
+
 /// Appends the bytes to a vector that has room for them.
 #[inline(always)]
 pub(super) fn push_all<A: Allocator>(dst: &mut Vec<u8, A>, bytes: &[u8])
@@ -33,6 +36,9 @@ pub(super) fn fill<A: Allocator>(dst: &mut Vec<u8, A>, len: usize)
     }
     if len - dst.len() <= FEW && FEW <= dst.capacity() - dst.len() {
         return push_all(dst, &[0; FEW]);
+    }
+    if len - dst.len() <= SOME && SOME <= dst.capacity() - dst.len() {
+        return push_all(dst, &[0; SOME]);
     }
     let Ok(()) = dst.resize(len, 0) else {
         unreachable!()

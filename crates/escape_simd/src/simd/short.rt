@@ -1,21 +1,44 @@
 //! A text shorter than a vector, to the front of a slice: one vector stored whole where no byte needs an
 //! escape, with no stack frame for more.
-ghost use Rattle.std.specs.Prelude.{◌≡◌, ◌<◌, ◌≤◌, false, length, take, chars};
+ghost use Rattle.std.specs.Prelude.{◌≡◌, ◌+◌, ◌<◌, ◌≤◌, ◌++◌, false, length, take, drop, chars};
 ghost use Rattle.escape_lanes.specs.Written.{bytes_of, IsSameSlice};
 ghost use Rattle.escape_simd.specs.Modes.{mode_numbered};
-ghost use Rattle.escape_simd.specs.Output.{bound};
+ghost use Rattle.escape_simd.specs.Output.{bound, inner};
 ghost use Rattle.escape_simd.specs.Formatted.{IsWritten};
 ghost use Rattle.escape_simd.specs.Headline.{IsOnlyOutput};
 ghost use Rattle.escape_simd.specs.Laws.{IsOfOneText};
-ghost use Rattle.escape_simd.specs.Stretch.{HoldsFlags};
+ghost use Rattle.escape_simd.specs.Stretch.{HoldsFlags, room_from, rest_slack};
 
 use crate::simd::body::{format_many, quote};
 use crate::simd::classify::Vector;
 use crate::simd::clean::quoted_one;
 use crate::simd::last::load_rest;
-use crate::simd::vector::vector;
+use crate::simd::vector::{vector, vector_at_end};
 use escape_lanes::simd::target::{Target, Ticks};
 use escape_lanes::simd::{BitMask, Flags};
+
+/// Escapes the bytes to `dst` from `to` on, with no quotation marks, and answers the place reached.
+#[inline(never)]
+pub(crate) fn escape_short_at<V: Vector<N>, const MODE: u8, const N: usize, const EXACT: bool>(
+    src: &[u8],
+    dst: &mut [u8],
+    to: usize,
+) -> usize
+    requires some { 0 < length src.now }
+    requires few { length src.now < N }
+    requires narrow { EXACT ≡ false → N ≤ 32 }
+    requires room { to + room_from (mode_numbered MODE) src.now 0 ≤ length dst.old }
+    ensures end { result ≡ to + length (inner (mode_numbered MODE) src.now) }
+    ensures written { take result dst.new ≡ take to dst.old ++ inner (mode_numbered MODE) src.now }
+    ensures kept { drop (result + rest_slack EXACT N) dst.new
+        ≡ drop (result + rest_slack EXACT N) dst.old }
+{
+    let len = src.len();
+    let mut target = Target::<N>::new(dst);
+    let mut ticks = Ticks::new();
+    let (v, mask) = load_rest::<V, MODE, N>(src, 0, &mut ticks);
+    vector_at_end::<V, MODE, N, EXACT>(src, 0, len, 0, &mut target, to, &v, &mask, &mut ticks).1
+}
 
 /// Writes the text, some of whose bytes the mask flags, between quotation marks to the front of the
 /// target. Answers how many bytes it became.

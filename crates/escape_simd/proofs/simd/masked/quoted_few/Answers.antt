@@ -3,7 +3,7 @@ use denote.Param.{number, value_of}
 use Rattle.escape_simd.specs.Modes.{mode_numbered}
 use Rattle.escape_simd.proofs.Stretches.{rest-bounds}
 use Rattle.escape_simd.proofs.Whole.{IsQuoted, whole_written, bound-quotes, quote-short}
-use Rattle.escape_simd.proofs.simd.few.quoted_few.Goals as goal
+use Rattle.escape_simd.proofs.simd.masked.quoted_few.Goals as goal
 
 pub escape_few-close-requires : goal.escape_few-close-requires
 escape_few-close-requires g c =

@@ -6,8 +6,8 @@ use Rattle.escape_simd.specs.Stretch.{Stretch, HoldsFlags, Passed, room_from, re
 use Rattle.escape_simd.proofs.Stretches.{onward, widened, standing, ended}
 use Rattle.escape_simd.proofs.Lanes.{passed-vector, none-before, loaded-front}
 use Rattle.escape_simd.proofs.RestLemmas.{rest-slack-some}
-use Rattle.escape_simd.proofs.simd.few.escape_few.Goals.{then-src, else-src}
-use Rattle.escape_simd.proofs.simd.few.escape_few.Goals as goal
+use Rattle.escape_simd.proofs.simd.masked.escape_few.Goals.{then-src, else-src}
+use Rattle.escape_simd.proofs.simd.masked.escape_few.Goals as goal
 
 pub returns : goal.returns
 returns g c =

@@ -8,7 +8,7 @@ use std::alloc::Allocator;
 /// So few zeros are stores and no call.
 const FEW: usize = 160;
 
-/// So many are stores too, and no call that has to be told how many.
+/// Up to so many are stores too: a call's loop would end at another length for each text.
 const SOME: usize = 512;
 
 /// Appends the bytes to a vector that has room for them.

@@ -1,5 +1,5 @@
 -- What a mask tells of the text that its vector holds.
-use Rattle.std.proofs.Common.{◌≡◌, ℕ, zero, suc, ◌+◌, ◌-◌, ◌<◌, ◌≤◌, Bool, true, false, true≢false, cond, ◌||◌, List, [], ◌∷◌, ◌++◌, length, take, drop, get_or, map, replicate, refl, sym, ap, ◌∙◌, arith, length-take-le, length-drop, inl, inr}
+use Rattle.std.proofs.Common.{◌≡◌, ℕ, zero, suc, ◌+◌, ◌-◌, ◌*◌, ◌<◌, ◌≤◌, Bool, true, false, true≢false, cond, ◌||◌, List, [], ◌∷◌, ◌++◌, length, take, drop, get_or, map, replicate, refl, sym, ap, subst, ◌∙◌, arith, length-take-le, length-drop, inl, inr}
 use Rattle.std.proofs.lemmas.Bool.Decides.{leb_tells}
 use Rattle.std.proofs.lemmas.List.{length-take, length-map, get_or-take, get_or-drop, get_or-map, get_or_past, take_all, append-nil, get_or_append_left, get_or-append_right, get_or-replicate, length-replicate, take-take, take-append-le, drop-take, drop-drop}
 use Rattle.std.proofs.lemmas.List.Sums.{sum_by-append}
@@ -8,7 +8,7 @@ use Rattle.std.specs.Simd.Lanes.{zip2}
 use Rattle.escape_lanes.specs.Bits.{first_set, none_set, clear_first, clear_last}
 use Rattle.escape_lanes.specs.Mode.{Mode}
 use Rattle.escape_lanes.specs.Replacement.{needs_escape}
-use Rattle.escape_simd.specs.Stretch.{HoldsFlags, IsVectorAt, Passed, room_from, stored_lanes}
+use Rattle.escape_simd.specs.Stretch.{HoldsFlags, HoldsClean, IsAsked, IsVectorAt, Passed, room_from, stored_lanes}
 use Rattle.escape_simd.proofs.Texts.{IsClean}
 
 -- no lane before the first set one is set
@@ -58,6 +58,12 @@ set-all (true ∷ bs) taken within all (suc k) h =
 set-all (false ∷ bs) taken within all k h =
     let s = lane-step false bs in
     let rest = set-few bs (taken - 1) (λ k h. let w = within (suc k) h in omega (arith, w)) in absurd (omega (arith, s, all, rest, h))
+
+-- lanes joined with themselves
+pub joined-self : (xs : List Bool) → zip2 ◌||◌ xs xs ≡ xs
+joined-self [] = refl
+joined-self (true ∷ xs) = ap (λ ys. true ∷ ys) (joined-self xs)
+joined-self (false ∷ xs) = ap (λ ys. false ∷ ys) (joined-self xs)
 
 -- where no lane of either is set in the joined lanes, none of either is
 pub none_set-joined : (xs ys : List Bool) → length xs ≡ length ys → none_set (zip2 ◌||◌ xs ys) ≡ true → (none_set xs ≡ true) × (none_set ys ≡ true)
@@ -212,6 +218,24 @@ clear_none bits n =
 -- the mask of a whole vector
 pub held-whole : (mode : Mode) (src lanes : List ℕ) (at n : ℕ) (bits : List Bool) → length lanes ≡ n → at + n ≤ length src → take n lanes ≡ take n (drop at src) → bits ≡ map (needs_escape mode) lanes → HoldsFlags mode src at n at bits
 held-whole mode src lanes at n bits long inside loaded e = held-cut mode src lanes at n n at long (omega arith) inside loaded bits (e ∙ clear_none (map (needs_escape mode) lanes) n)
+
+-- the mask of a whole vector that was asked
+pub asked-mask : (mode : Mode) (src lanes : List ℕ) (at n : ℕ) (flags bits : List Bool) → length lanes ≡ n → at + n ≤ length src → IsAsked mode n src at lanes flags → bits ≡ flags → HoldsFlags mode src at n at bits
+asked-mask mode src lanes at n flags bits long inside asked e =
+    held-whole mode src lanes at n bits long inside (take_all n lanes (omega (arith, long)) ∙ asked.loaded) (e ∙ asked.flagged)
+
+-- and of the second one, where the text has one: else another stands for it
+pub second-mask : (mode : Mode) (src lanes : List ℕ) (second n : ℕ) (flags bits : List Bool) → length lanes ≡ n → (2 * n ≤ length src → second ≡ n) → IsAsked mode n src second lanes flags → bits ≡ flags
+    → 2 * n ≤ length src → HoldsFlags mode src n n n bits
+second-mask mode src lanes second n flags bits long far asked e h =
+    subst (λ k. HoldsFlags mode src k n k bits) (far h) (asked-mask mode src lanes second n flags bits long (omega (arith, far h, h)) asked e)
+
+-- one with no flag is clean
+pub asked-clean : (mode : Mode) (src lanes : List ℕ) (at n : ℕ) (flags : List Bool) → length lanes ≡ n → IsAsked mode n src at lanes flags → none_set flags ≡ true → HoldsClean mode n src at lanes
+asked-clean mode src lanes at n flags long asked none = record {
+  loaded = take_all n lanes (omega (arith, long)) ∙ asked.loaded;
+  clean = ap none_set (sym asked.flagged) ∙ none;
+}
 
 -- where a vector's mask sets no lane, its bytes are clean
 pub none_clean : (mode : Mode) (lanes : List ℕ) → none_set (map (needs_escape mode) lanes) ≡ true → IsClean mode lanes

@@ -7,7 +7,7 @@ use Rattle.escape_lanes.specs.declared.simd.target.Target.{Target}
 use Rattle.escape_simd.specs.Output.{inner, plain, bound, quote_of, quote_count}
 use Rattle.escape_simd.specs.Runs.{escaped_count, run_count}
 use Rattle.escape_simd.specs.Stretch.{Stretch, rest_length, rest_slack}
-use Rattle.escape_simd.specs.Formatted.{IsWritten, IsFormatted}
+use Rattle.escape_simd.specs.Formatted.{IsWritten, IsFormatted, IsInnerAt}
 use Rattle.escape_simd.proofs.Stretches.{drop_further, rest-is}
 use Rattle.escape_simd.proofs.ReplacementLemmas.{inner-nil}
 use Rattle.escape_simd.proofs.Texts.{escaped-empty, length-inner}
@@ -41,6 +41,17 @@ pub slack-most : (exact : Bool) (n : ℕ) → (exact ≡ false → n ≤ 32) →
 slack-most true n narrow some = (omega arith, some)
 slack-most false n narrow some = (narrow refl, omega arith)
 
+-- what a narrow vector leaves alone a wider one may write
+pub written-wider : {n lanes : ℕ} {mode : Mode} {text old new : List ℕ} {count : ℕ} → n ≤ lanes → IsWritten n mode text old new count → IsWritten lanes mode text old new count
+written-wider {n} {lanes} {mode} {text} {old} {new} {count} h w = record {
+  exact = w.exact;
+  ends = w.ends;
+  least = w.least;
+  most = w.most;
+  kept_bound = w.kept_bound;
+  kept_past = drop_further new old (count + n) (count + lanes) (omega (arith, h)) w.kept_past;
+}
+
 -- all bytes of a text were passed
 module _ {N : ℕ} {mode : Mode} {slack : ℕ} {text : List ℕ} {old new : Target N} {to end : ℕ} (s : Stretch mode slack text old new 0 (length text) to end) where
   -- nothing is left
@@ -67,6 +78,10 @@ module _ {N : ℕ} {mode : Mode} {slack : ℕ} {text : List ℕ} {old new : Targ
       let e : to + rest_length mode text 0 + slack ≡ end + slack = omega (arith, l, q) in
       subst (λ k. drop k (bytes_of new) ≡ drop k (bytes_of old)) e s.kept
 
+  -- so what stands for it is there
+  pub all-inner : IsInnerAt mode slack text (bytes_of old) (bytes_of new) to end
+  all-inner = record { ends = all-end; written = all-written; kept = all-kept }
+
 -- one quote was written or none
 pub record IsQuoted {N : ℕ} (mode : Mode) (old new : Target N) (to end : ℕ) : Type 0 where
   pub same_slice : IsSameSlice old new
@@ -86,13 +101,12 @@ pub record IsQuotedIn (mode : Mode) (old new : List ℕ) (to end : ℕ) : Type 0
 -- a text's bytes, and quotes around them
 module _ (lanes : ℕ) (mode : Mode) (exact : Bool) (text : List ℕ) {old first second new : List ℕ} {opened close count : ℕ}
     (before : IsQuotedIn mode old first 0 opened)
-    (ends : close ≡ opened + length (inner mode text)) (written : take close second ≡ take opened first ++ inner mode text)
-    (left : drop (close + rest_slack exact lanes) second ≡ drop (close + rest_slack exact lanes) first) (len : length second ≡ length old)
+    (between : IsInnerAt mode (rest_slack exact lanes) text first second opened close) (len : length second ≡ length old)
     (after : IsQuotedIn mode second new close count)
     (room : bound mode (length text) ≤ length old) (narrow : exact ≡ false → lanes ≤ 32) (some : 8 ≤ lanes) where
   -- what stands before the closing quote
   front : take close second ≡ quote_of mode ++ inner mode text
-  front = written ∙ ap (λ xs. xs ++ inner mode text) before.written
+  front = between.written ∙ ap (λ xs. xs ++ inner mode text) before.written
 
   -- the bytes of the whole
   pub parts_written : IsWritten lanes mode text old new count
@@ -100,20 +114,20 @@ module _ (lanes : ℕ) (mode : Mode) (exact : Bool) (text : List ℕ) {old first
       let two = two_quotes mode in let b = bound-quotes mode (length text) in
       let f = front in let short = quote-short mode in
       let most = length-inner mode text in let few = slack-most exact lanes narrow some in
-      let fits : length (take close second) ≡ close = length-take-le close second (omega (arith, ends, most, len, before.ends, b)) in
+      let fits : length (take close second) ≡ close = length-take-le close second (omega (arith, between.ends, most, len, before.ends, b)) in
       let e = plain-parts mode text in
       let same : take count new ≡ plain mode text = after.written ∙ ap (λ xs. xs ++ quote_of mode) f ∙ sym e in
       let long : length (plain mode text) ≡ close + length (quote_of mode) = ap length (e ∙ ap (λ xs. xs ++ quote_of mode) (sym f)) ∙ length-append (take close second) (quote_of mode) ∙ ap (λ k. k + length (quote_of mode)) fits in
       let kept : (k : ℕ) → close + rest_slack exact lanes ≤ k → close + 1 ≤ k → drop k new ≡ drop k old = λ k h g.
       drop_further new second (close + 1) k g after.kept
-      ∙ drop_further second first (close + rest_slack exact lanes) k h left
+      ∙ drop_further second first (close + rest_slack exact lanes) k h between.kept
       ∙ drop_further first old (0 + 1) k (omega (arith, g)) before.kept in
       record {
         exact = same;
         ends = omega (arith, after.ends, long);
-        least = omega (arith, ends, most, before.ends, after.ends, two);
-        most = omega (arith, ends, most, before.ends, after.ends, two);
-        kept_bound = kept (bound mode (length text)) (omega (arith, ends, most, before.ends, b, few)) (omega (arith, ends, most, before.ends, b, short));
+        least = omega (arith, between.ends, most, before.ends, after.ends, two);
+        most = omega (arith, between.ends, most, before.ends, after.ends, two);
+        kept_bound = kept (bound mode (length text)) (omega (arith, between.ends, most, before.ends, b, few)) (omega (arith, between.ends, most, before.ends, b, short));
         kept_past = kept (count + lanes) (omega (arith, after.ends, few)) (omega (arith, after.ends, some));
       }
 
@@ -125,7 +139,7 @@ module _ {N : ℕ} {mode : Mode} {exact : Bool} {text : List ℕ} {old first sec
   whole_written =
       parts_written N mode exact text {second = bytes_of second}
       (record { ends = before.ends; written = before.written; kept = before.kept })
-      (all-end s) (all-written s) (all-kept s) (s.same_slice.len ∙ before.same_slice.len)
+      (all-inner s) (s.same_slice.len ∙ before.same_slice.len)
       (record { ends = after.ends; written = after.written; kept = after.kept })
       room narrow some
 

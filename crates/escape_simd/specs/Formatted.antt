@@ -1,5 +1,5 @@
 -- What a kernel leaves behind.
-use Rattle.std.specs.Prelude.{◌≡◌, ℕ, ◌+◌, ◌*◌, ◌/◌, ◌≤◌, List, length, take, drop}
+use Rattle.std.specs.Prelude.{◌≡◌, ℕ, ◌+◌, ◌*◌, ◌/◌, ◌≤◌, List, ◌++◌, length, take, drop}
 use Rattle.escape_lanes.specs.Mode.{Mode}
 use Rattle.escape_lanes.specs.Written.{bytes_of, stored_of, escaped_of, quotes_of, IsSameSlice}
 use Rattle.escape_lanes.specs.declared.simd.target.Target.{Target}
@@ -39,3 +39,10 @@ pub record IsInnerWritten (lanes : ℕ) (mode : Mode) (text old new : List ℕ) 
   -- bytes left alone
   pub kept_bound : drop (6 * length text + 32) new ≡ drop (6 * length text + 32) old
   pub kept_past : drop (count + lanes) new ≡ drop (count + lanes) old
+
+-- What stands for a text, with no quotation marks, stands in the bytes from `to` up to `end`. The bytes before it are left alone,
+-- and those `slack` past it.
+pub record IsInnerAt (mode : Mode) (slack : ℕ) (text old new : List ℕ) (to end : ℕ) : Type 0 where
+  pub ends : end ≡ to + length (inner mode text)
+  pub written : take end new ≡ take to old ++ inner mode text
+  pub kept : drop (end + slack) new ≡ drop (end + slack) old

@@ -57,6 +57,11 @@ pub record HoldsClean (mode : Mode) (n : ℕ) (src : List ℕ) (at : ℕ) (lanes
   pub loaded : take n lanes ≡ take n (drop at src)
   pub clean : none_set (map (needs_escape mode) lanes) ≡ true
 
+-- a vector holds the text's bytes from `at` on, and its flags tell which of them need an escape
+pub record IsAsked (mode : Mode) (n : ℕ) (src : List ℕ) (at : ℕ) (lanes : List ℕ) (flags : List Bool) : Type 0 where
+  pub loaded : lanes ≡ take n (drop at src)
+  pub flagged : flags ≡ map (needs_escape mode) lanes
+
 -- what stands for a byte is told by that byte alone
 abbrev pub IsByteWise : Mode → Type 0
 IsByteWise mode = (bytes : List ℕ) → passed mode bytes ≡ 1

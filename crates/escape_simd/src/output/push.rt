@@ -5,11 +5,11 @@ ghost use Rattle.std.specs.List.{flat_map};
 use crate::simd::Vector;
 use std::alloc::Allocator;
 
-/// So few zeros are stores and no call.
-const FEW: usize = 160;
+/// So many zeros at most are stores, and no call.
+const SHORT_FILL: usize = 160;
 
 /// Up to so many are stores too: a call's loop would end at another length for each text.
-const SOME: usize = 512;
+const LONG_FILL: usize = 512;
 
 /// Appends the bytes to a vector that has room for them.
 #[inline(always)]
@@ -34,11 +34,11 @@ pub(super) fn fill<A: Allocator>(dst: &mut Vec<u8, A>, len: usize)
     if len <= dst.len() {
         return;
     }
-    if len - dst.len() <= FEW && FEW <= dst.capacity() - dst.len() {
-        return push_all(dst, &[0; FEW]);
+    if len - dst.len() <= SHORT_FILL && SHORT_FILL <= dst.capacity() - dst.len() {
+        return push_all(dst, &[0; SHORT_FILL]);
     }
-    if len - dst.len() <= SOME && SOME <= dst.capacity() - dst.len() {
-        return push_all(dst, &[0; SOME]);
+    if len - dst.len() <= LONG_FILL && LONG_FILL <= dst.capacity() - dst.len() {
+        return push_all(dst, &[0; LONG_FILL]);
     }
     let Ok(()) = dst.resize(len, 0) else {
         unreachable!()

@@ -10,12 +10,17 @@ ghost use Rattle.escape_simd.specs.Laws.{IsOfOneText};
 ghost use Rattle.escape_simd.specs.Modes.{mode_numbered};
 
 use crate::simd::classify::{HTML_MODE, JSON_MODE, SCRIPT_MODE, Vector};
+use crate::simd::short::format_short;
 use crate::simd::{body, inner, string};
+use escape_lanes::simd::avx2::Simd256u;
 pub use escape_lanes::simd::avx512::{
     Flags512, Mask512, Simd512u, escaped_flags, escaped_mask, script_flags, script_mask,
 };
 use escape_lanes::simd::target::{Target, Ticks};
 use escape_lanes::simd::{LoadLast, MoveDown, Simd};
+
+/// How many bytes half a vector has.
+const HALF: usize = 32;
 
 impl Vector<64> for Simd512u {
     type Flags = Flags512;
@@ -62,6 +67,24 @@ impl Vector<64> for Simd512u {
     }
 }
 
+/// Escapes the text to the front of `dst` in the mode numbered `MODE`, and answers how many bytes it
+/// became.
+///
+/// A text that half a vector holds goes by a vector of half the width, in half the steps. Its stores are
+/// exact in either, so that the bytes past the output are the same.
+#[inline(always)]
+fn format_in_mode<const MODE: u8>(value: &str, dst: &mut [u8]) -> usize
+    requires { bound (mode_numbered MODE) (length value.now) ≤ length dst.old }
+    ensures written { IsWritten 64 (mode_numbered MODE) value.now dst.old dst.new result }
+    ensures headline { IsOnlyOutput (mode_numbered MODE) (take result dst.new) (chars value.now) }
+    ensures equal_texts { IsOfOneText (mode_numbered MODE) value.now (take result dst.new) }
+{
+    if !value.is_empty() && value.len() < HALF {
+        return format_short::<Simd256u, MODE, 32, 2, true>(value, dst);
+    }
+    string::format_in_mode::<Simd512u, MODE, 64, 2, true>(value, dst)
+}
+
 /// Escapes the text to the front of the target, as HTML if `HTML`, else as a JSON string literal,
 /// and answers how many bytes it became.
 ///
@@ -94,7 +117,10 @@ pub fn format_string<const HTML: bool>(value: &str, dst: &mut [u8]) -> usize
     ensures headline { IsOnlyOutput (mode_of HTML) (take result dst.new) (chars value.now) }
     ensures equal_texts { IsOfOneText (mode_of HTML) value.now (take result dst.new) }
 {
-    string::format_string::<Simd512u, HTML, 64, 2, true>(value, dst)
+    if HTML {
+        return format_in_mode::<{ HTML_MODE }>(value, dst);
+    }
+    format_in_mode::<{ JSON_MODE }>(value, dst)
 }
 
 /// Escapes the text to the front of the target as a JSON string literal that can stand in a script
@@ -125,7 +151,7 @@ pub fn format_script_string(value: &str, dst: &mut [u8]) -> usize
     ensures headline { IsOnlyOutput script (take result dst.new) (chars value.now) }
     ensures equal_texts { IsOfOneText script value.now (take result dst.new) }
 {
-    string::format_in_mode::<Simd512u, { SCRIPT_MODE }, 64, 2, true>(value, dst)
+    format_in_mode::<{ SCRIPT_MODE }>(value, dst)
 }
 
 /// Escapes the text to the front of `dst` in the mode numbered `MODE`, with no quotation marks, and

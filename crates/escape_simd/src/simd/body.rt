@@ -3,8 +3,8 @@ ghost use Rattle.std.specs.Prelude.{◌≡◌, ◌+◌, ◌-◌, ◌*◌, ◌/�
 ghost use Rattle.escape_lanes.specs.Mode.{mode_of};
 ghost use Rattle.escape_lanes.specs.Written.{bytes_of, stored_of, escaped_of, quotes_of, IsSameSlice};
 ghost use Rattle.escape_simd.specs.Modes.{mode_numbered};
-ghost use Rattle.escape_simd.specs.Output.{bound, inner, quote_of};
-ghost use Rattle.escape_simd.specs.Formatted.{IsFormatted, IsWritten};
+ghost use Rattle.escape_simd.specs.Output.{bound, quote_of};
+ghost use Rattle.escape_simd.specs.Formatted.{IsFormatted, IsInnerAt, IsWritten};
 ghost use Rattle.escape_simd.specs.Headline.{IsOnlyOutput};
 ghost use Rattle.escape_simd.specs.Laws.{IsOfOneText};
 ghost use Rattle.escape_simd.specs.Runs.{run_count};
@@ -27,10 +27,7 @@ pub(crate) fn escape_at<
 >(src: &[u8], dst: &mut [u8], to: usize) -> usize
     requires narrow { EXACT ≡ false → N ≤ 32 }
     requires room { to + room_from (mode_numbered MODE) src.now 0 ≤ length dst.old }
-    ensures end { result ≡ to + length (inner (mode_numbered MODE) src.now) }
-    ensures written { take result dst.new ≡ take to dst.old ++ inner (mode_numbered MODE) src.now }
-    ensures kept { drop (result + rest_slack EXACT N) dst.new
-        ≡ drop (result + rest_slack EXACT N) dst.old }
+    ensures { IsInnerAt (mode_numbered MODE) (rest_slack EXACT N) src.now dst.old dst.new to result }
 {
     let mut target = Target::<N>::new(dst);
     let mut ticks = Ticks::new();

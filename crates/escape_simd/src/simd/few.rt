@@ -1,6 +1,7 @@
 //! A text of as many bytes as a vector has or more, and fewer than three have, to the front of a slice:
 //! stored whole where no byte needs an escape, with no loop and no stack frame.
-ghost use Rattle.std.specs.Prelude.{◌≡◌, ◌*◌, ◌<◌, ◌≤◌, false, length, take, chars};
+ghost use Rattle.std.specs.Prelude.{◌≡◌, ◌*◌, ◌<◌, ◌≤◌, false, length, take, map, chars};
+ghost use Rattle.escape_lanes.specs.Replacement.{needs_escape};
 ghost use Rattle.escape_simd.specs.Modes.{mode_numbered};
 ghost use Rattle.escape_simd.specs.Output.{bound};
 ghost use Rattle.escape_simd.specs.Formatted.{IsWritten};
@@ -19,7 +20,7 @@ use escape_lanes::simd::{BitMask, Flags};
 /// The text, some of whose bytes need an escape, to the front of `dst`.
 ///
 /// It goes as [`escape_many`](crate::simd::many::escape_many) does, so that the bytes past the output are
-/// the same: as the pair and the vector that chunks of four leave, and else there.
+/// the same: vector by vector, and there where a run is written as far as it reaches.
 #[inline(always)]
 fn format_flagged<
     V: Vector<N>,
@@ -42,10 +43,29 @@ fn format_flagged<
     requires room { bound (mode_numbered MODE) (length value.now) ≤ length dst.old }
     ensures { IsWritten N (mode_numbered MODE) value.now dst.old dst.new result }
 {
-    if CHUNK != 4 {
+    if CHUNK == 1 {
         return format_many::<V, MODE, N, CHUNK, EXACT>(value, dst);
     }
     format_by_masks::<V, MODE, N, EXACT>(value, dst, mask1, mask2)
+}
+
+/// Which bytes of the second whole vector need an escape. Where there is none, the first one stands for it,
+/// which in 64 lanes costs more to ask again than a branch.
+#[inline(always)]
+fn second_flags<V: Vector<N>, const MODE: u8, const N: usize>(
+    second: usize,
+    flags1: &V::Flags,
+    v2: &V,
+    ticks: &mut Ticks,
+) -> V::Flags
+    requires { second ≡ 0
+        → V.Flags.truths flags1.now ≡ map (needs_escape (mode_numbered MODE)) (V.lanes v2.now) }
+    ensures { V.Flags.truths result ≡ map (needs_escape (mode_numbered MODE)) (V.lanes v2.now) }
+{
+    if 32 < N && second == 0 {
+        return flags1.join(flags1);
+    }
+    v2.flags(MODE, ticks)
 }
 
 /// The text, of as many bytes as a vector has or more, to the front of `dst`.
@@ -61,11 +81,11 @@ fn written_few<V: Vector<N>, const MODE: u8, const N: usize, const CHUNK: usize,
     ensures { IsWritten N (mode_numbered MODE) value.now dst.old dst.new result }
 {
     let src = value.as_bytes();
-    // Where there is no second whole vector, the first one stands for it.
     let second = if 2 * N <= src.len() { N } else { 0 };
     let (v1, v2) = (V::load(src, 0), V::load(src, second));
     let mut ticks = Ticks::new();
-    let (flags1, flags2) = (v1.flags(MODE, &mut ticks), v2.flags(MODE, &mut ticks));
+    let flags1 = v1.flags(MODE, &mut ticks);
+    let flags2 = second_flags::<V, MODE, N>(second, &flags1, &v2, &mut ticks);
     if !flags1.join(&flags2).none() {
         let (mask1, mask2) = (flags1.bitmask(), flags2.bitmask());
         return format_flagged::<V, MODE, N, CHUNK, EXACT>(value, dst, mask1, mask2);

@@ -1,8 +1,7 @@
 //! What stands for a text, with no quotation marks, in a slice.
 ghost use Rattle.std.specs.Prelude.{◌≡◌, ◌+◌, ◌*◌, ◌≤◌, ◌++◌, false, length, take, drop};
-ghost use Rattle.escape_simd.specs.Formatted.{IsInnerWritten};
+ghost use Rattle.escape_simd.specs.Formatted.{IsInnerAt, IsInnerWritten};
 ghost use Rattle.escape_simd.specs.Modes.{mode_numbered};
-ghost use Rattle.escape_simd.specs.Output.{inner};
 ghost use Rattle.escape_simd.specs.Stretch.{room_from, rest_slack};
 
 use crate::simd::body::escape_at;
@@ -21,10 +20,7 @@ pub(crate) fn escape_inner<
 >(src: &[u8], dst: &mut [u8], to: usize) -> usize
     requires narrow { EXACT ≡ false → N ≤ 32 }
     requires room { to + room_from (mode_numbered MODE) src.now 0 ≤ length dst.old }
-    ensures end { result ≡ to + length (inner (mode_numbered MODE) src.now) }
-    ensures written { take result dst.new ≡ take to dst.old ++ inner (mode_numbered MODE) src.now }
-    ensures kept { drop (result + rest_slack EXACT N) dst.new
-        ≡ drop (result + rest_slack EXACT N) dst.old }
+    ensures { IsInnerAt (mode_numbered MODE) (rest_slack EXACT N) src.now dst.old dst.new to result }
 {
     if 3 * N <= src.len() || src.is_empty() {
         return escape_at::<V, MODE, N, CHUNK, EXACT>(src, dst, to);

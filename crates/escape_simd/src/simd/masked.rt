@@ -3,8 +3,8 @@
 ghost use Rattle.std.specs.Prelude.{◌≡◌, ◌+◌, ◌*◌, ◌<◌, ◌≤◌, ◌++◌, false, length, take, drop};
 ghost use Rattle.escape_lanes.specs.Written.{bytes_of, IsSameSlice};
 ghost use Rattle.escape_simd.specs.Modes.{mode_numbered};
-ghost use Rattle.escape_simd.specs.Output.{bound, inner};
-ghost use Rattle.escape_simd.specs.Formatted.{IsWritten};
+ghost use Rattle.escape_simd.specs.Output.{bound};
+ghost use Rattle.escape_simd.specs.Formatted.{IsInnerAt, IsWritten};
 ghost use Rattle.escape_simd.specs.Stretch.{Stretch, HoldsFlags, room_from, rest_slack};
 
 use crate::simd::body::quote;
@@ -65,10 +65,7 @@ pub(crate) fn escape_few_at<V: Vector<N>, const MODE: u8, const N: usize, const 
     requires few { length src.now < 3 * N }
     requires narrow { EXACT ≡ false → N ≤ 32 }
     requires room { to + room_from (mode_numbered MODE) src.now 0 ≤ length dst.old }
-    ensures end { result ≡ to + length (inner (mode_numbered MODE) src.now) }
-    ensures written { take result dst.new ≡ take to dst.old ++ inner (mode_numbered MODE) src.now }
-    ensures kept { drop (result + rest_slack EXACT N) dst.new
-        ≡ drop (result + rest_slack EXACT N) dst.old }
+    ensures { IsInnerAt (mode_numbered MODE) (rest_slack EXACT N) src.now dst.old dst.new to result }
 {
     let mut target = Target::<N>::new(dst);
     let mut ticks = Ticks::new();

@@ -3,8 +3,8 @@
 ghost use Rattle.std.specs.Prelude.{◌≡◌, ◌+◌, ◌<◌, ◌≤◌, ◌++◌, false, length, take, drop, chars};
 ghost use Rattle.escape_lanes.specs.Written.{bytes_of, IsSameSlice};
 ghost use Rattle.escape_simd.specs.Modes.{mode_numbered};
-ghost use Rattle.escape_simd.specs.Output.{bound, inner};
-ghost use Rattle.escape_simd.specs.Formatted.{IsWritten};
+ghost use Rattle.escape_simd.specs.Output.{bound};
+ghost use Rattle.escape_simd.specs.Formatted.{IsInnerAt, IsWritten};
 ghost use Rattle.escape_simd.specs.Headline.{IsOnlyOutput};
 ghost use Rattle.escape_simd.specs.Laws.{IsOfOneText};
 ghost use Rattle.escape_simd.specs.Stretch.{HoldsFlags, room_from, rest_slack};
@@ -28,10 +28,7 @@ pub(crate) fn escape_short_at<V: Vector<N>, const MODE: u8, const N: usize, cons
     requires few { length src.now < N }
     requires narrow { EXACT ≡ false → N ≤ 32 }
     requires room { to + room_from (mode_numbered MODE) src.now 0 ≤ length dst.old }
-    ensures end { result ≡ to + length (inner (mode_numbered MODE) src.now) }
-    ensures written { take result dst.new ≡ take to dst.old ++ inner (mode_numbered MODE) src.now }
-    ensures kept { drop (result + rest_slack EXACT N) dst.new
-        ≡ drop (result + rest_slack EXACT N) dst.old }
+    ensures { IsInnerAt (mode_numbered MODE) (rest_slack EXACT N) src.now dst.old dst.new to result }
 {
     let len = src.len();
     let mut target = Target::<N>::new(dst);

@@ -12,4 +12,4 @@ escape_inner-end-requires-clause-room g c =
 pub returns-clause-room : goal.returns-clause-room
 returns-clause-room g c =
     let most = (length-inner (mode_numbered g.row.MODE) c.args.bytes.now).1 in
-    omega (arith, most, c.escape_inner-end.ensures.end, c.truncate.ensures.len, c.truncate.ensures.capacity, c.fill.ensures.capacity, c.requires.room)
+    omega (arith, most, c.escape_inner-end.ensures.ends, c.truncate.ensures.len, c.truncate.ensures.capacity, c.fill.ensures.capacity, c.requires.room)

@@ -23,7 +23,7 @@ quote_in-requires g c =
     let b = bound-quotes mode (length c.args.value.now) in let q = quote-short mode in
     let l = ap length c.as_bytes.ensures.value in
     let most = length-inner mode c.as_bytes.result.now in
-    omega (arith, b, q, l, most, c.quote_in-open.ensures.end, c.escape_at-close.ensures.end, c.requires.room)
+    omega (arith, b, q, l, most, c.quote_in-open.ensures.end, c.escape_at-close.ensures.ends, c.requires.room)
 
 pub returns-clause-written : goal.returns-clause-written
 returns-clause-written g c =
@@ -34,7 +34,7 @@ returns-clause-written g c =
     let after : IsQuotedIn mode c.escape_at-close.new.dst c.quote_in.new.dst c.escape_at-close.result c.quote_in.result = record { ends = r.end; written = r.written; kept = r.kept } in
     let len = ap length c.as_bytes.ensures.value in
     subst (λ xs. IsWritten g.row.N mode xs c.args.dst.now c.quote_in.new.dst c.quote_in.result) c.as_bytes.ensures.value
-    (parts_written g.row.N mode exact c.as_bytes.result.now before w.end w.written w.kept (omega arith) after (omega (arith, c.requires.room, ap (bound mode) len)) c.requires.narrow (omega (arith, several)))
+    (parts_written g.row.N mode exact c.as_bytes.result.now before w (omega arith) after (omega (arith, c.requires.room, ap (bound mode) len)) c.requires.narrow (omega (arith, several)))
 
 pub returns-clause-headline : goal.returns-clause-headline
 returns-clause-headline g c = IsOnlyOutput-output _ _ _ (search rules) c.utf8.value

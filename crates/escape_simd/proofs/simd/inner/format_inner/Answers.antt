@@ -18,4 +18,4 @@ returns g c =
     let several = g.met.V.Vector.several in
     let w = c.escape_inner.ensures in
     subst (λ xs. IsInnerWritten g.row.N (mode_numbered g.row.MODE) xs c.args.dst.now c.escape_inner.new.dst c.escape_inner.result) c.as_bytes.ensures.value
-    (inner_written exact g.row.N (mode_numbered g.row.MODE) c.as_bytes.result.now c.args.dst.now c.escape_inner.new.dst c.escape_inner.result (omega (arith, w.end)) w.written w.kept c.requires.narrow (omega (arith, several)))
+    (inner_written exact g.row.N (mode_numbered g.row.MODE) c.as_bytes.result.now c.args.dst.now c.escape_inner.new.dst c.escape_inner.result w c.requires.narrow (omega (arith, several)))

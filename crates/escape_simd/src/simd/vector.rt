@@ -10,7 +10,7 @@ use crate::simd::classify::{SCRIPT_MODE, Vector, store};
 use crate::simd::turn::turns;
 use crate::simd::util::escape_each;
 use escape_lanes::simd::target::{Target, Ticks};
-use escape_lanes::simd::{Flags, LaneMask};
+use escape_lanes::simd::{BitMask, Flags, LaneMask};
 
 /// The place reached past a vector that ends at `border`: that, or in script a place past it. So in the other
 /// modes the places of the vectors are known without what was done to the ones before.
@@ -30,7 +30,8 @@ fn place_past<const MODE: u8>(border: usize, next: usize) -> usize
 ///
 /// The vector `held` holds these bytes: where `LAST`, all further vectors are made of it, and the text needs no
 /// bytes behind it. No place in the text waits for what is written: all are told by the one mask. Where a quarter
-/// of the bytes needs an escape, each is looked up instead.
+/// of the bytes needs an escape, each is looked up instead. A clean one, whose neighbour is flagged, is asked for
+/// first: of two vectors of prose one is.
 #[inline(always)]
 pub(crate) fn vector<
     V: Vector<N>,
@@ -66,6 +67,9 @@ pub(crate) fn vector<
 {
     let v = vector_from::<V, N, LAST>(src, at, taken, from, held);
     store::<V, N>(&v, src, from, at + taken - from, EXACT, target, to);
+    if mask.all_zero() {
+        return (at + taken, to + (at + taken - from));
+    }
     if taken / 4 <= mask.count_set() {
         let (next, end) = escape_each::<MODE, N>(src, from, at + taken, target, to);
         return (place_past::<MODE>(at + taken, next), end);

@@ -1,10 +1,10 @@
-use Rattle.std.proofs.Common.{ℕ, ◌+◌, ◌-◌, not, nat_eq, List, length, refl, sym, arith}
+use Rattle.std.proofs.Common.{ℕ, ◌+◌, ◌-◌, not, nat_eq, List, length, refl, sym, ◌∙◌, arith}
 use denote.Param.{number, value_of}
 use Rattle.escape_simd.specs.Modes.{mode_numbered}
 use Rattle.escape_simd.specs.Stretch.{rest_length}
 use Rattle.escape_simd.proofs.Stretches.{onward, ended, stored_ahead, rest-bounds}
 use Rattle.escape_simd.proofs.Lanes.{stored-low}
-use Rattle.escape_simd.proofs.Turns.{ahead-front}
+use Rattle.escape_simd.proofs.Turns.{ahead-front, border-stretch, border-runs}
 use Rattle.escape_simd.proofs.simd.vector.vector.Goals as goal
 
 pub store-requires : goal.store-requires
@@ -70,3 +70,19 @@ returns-clause-stretch g c slack eight narrow =
     let low = stored-low exact g.row.N (c.args.at + c.args.taken - c.args.from) (rest_length mode src c.args.from) (length src - (c.args.at + c.args.taken)) slack (omega (arith, p.few, p.after)) (omega (arith, r, p.inside, p.before)) narrow in
     onward (stored_ahead mode slack exact src c.args.target.now c.store.new.target c.args.from (c.args.at + c.args.taken - c.args.from) c.args.to c.store.ensures (omega (arith, p.inside, p.before)) low)
     (ended (c.turns-next.ensures.stretch slack eight narrow) (sym c.place_past-2.ensures) refl)
+
+pub returns-then-all_zero-clause-stretch : goal.returns-then-all_zero-clause-stretch
+returns-then-all_zero-clause-stretch g c slack eight narrow =
+    let exact = not (nat_eq (value_of (number g.row.EXACT)) 0) in
+    let mode = mode_numbered g.row.MODE in let src : List ℕ = c.args.src.now in let p = c.requires.place in
+    let r = rest-bounds mode src c.args.from in let left : ℕ = c.args.at + c.args.taken - c.args.from in
+    let low = stored-low exact g.row.N left (rest_length mode src c.args.from) (length src - (c.args.at + c.args.taken)) slack (omega (arith, p.few, p.after)) (omega (arith, r, p.inside, p.before)) narrow in
+    let ahead = ahead-front mode src c.store.new.target c.args.from (c.args.at + c.args.taken) c.args.to left (omega arith) c.store.ensures.ahead in
+    onward (stored_ahead mode slack exact src c.args.target.now c.store.new.target c.args.from left c.args.to c.store.ensures (omega (arith, p.inside, p.before)) low)
+    (border-stretch mode src c.args.at c.args.taken c.args.from (g.V.Flags.BitMask.BitMask.bits c.args.mask.now) p.flags p.after p.before p.inside (sym c.all_zero.ensures ∙ c.if-all_zero.true) slack c.store.new.target c.args.to ahead)
+
+pub returns-then-all_zero-clause-stored : goal.returns-then-all_zero-clause-stored
+returns-then-all_zero-clause-stored g c =
+    let p = c.requires.place in
+    let same = border-runs (mode_numbered g.row.MODE) c.args.src.now c.args.at c.args.taken c.args.from (g.V.Flags.BitMask.BitMask.bits c.args.mask.now) p.flags p.after p.before p.inside (sym c.all_zero.ensures ∙ c.if-all_zero.true) in
+    omega (arith, same, c.store.ensures.stored)

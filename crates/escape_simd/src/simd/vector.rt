@@ -30,8 +30,7 @@ fn place_past<const MODE: u8>(border: usize, next: usize) -> usize
 ///
 /// The vector `held` holds these bytes: where `LAST`, all further vectors are made of it, and the text needs no
 /// bytes behind it. No place in the text waits for what is written: all are told by the one mask. Where a quarter
-/// of the bytes needs an escape, each is looked up instead. A clean one, whose neighbour is flagged, is asked for
-/// first: of two vectors of prose one is.
+/// of the bytes needs an escape, each is looked up instead.
 #[inline(always)]
 pub(crate) fn vector<
     V: Vector<N>,
@@ -67,7 +66,8 @@ pub(crate) fn vector<
 {
     let v = vector_from::<V, N, LAST>(src, at, taken, from, held);
     store::<V, N>(&v, src, from, at + taken - from, EXACT, target, to);
-    if mask.all_zero() {
+    // Its neighbour is flagged, and not this one: as of every second vector of prose.
+    if !LAST && mask.all_zero() {
         return (at + taken, to + (at + taken - from));
     }
     if taken / 4 <= mask.count_set() {

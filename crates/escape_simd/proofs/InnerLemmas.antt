@@ -1,8 +1,7 @@
 -- A whole text with no quotation marks.
-use Rattle.std.proofs.Common.{◌≡◌, ℕ, ◌+◌, ◌*◌, ◌≤◌, Bool, false, List, length, take, drop, arith}
+use Rattle.std.proofs.Common.{◌≡◌, ℕ, ◌+◌, ◌*◌, ◌≤◌, Bool, false, List, length, drop, arith}
 use Rattle.escape_lanes.specs.Mode.{Mode}
 use Rattle.escape_simd.specs.Formatted.{IsInnerAt, IsInnerWritten}
-use Rattle.escape_simd.specs.Output.{inner}
 use Rattle.escape_simd.specs.Stretch.{room_from, rest_slack}
 use Rattle.escape_simd.proofs.Stretches.{drop_further, rest-bounds}
 use Rattle.escape_simd.proofs.Texts.{length-inner}

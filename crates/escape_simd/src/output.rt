@@ -64,12 +64,19 @@ fn push_quote<const MODE: u8, A: Allocator>(dst: &mut Vec<u8, A>)
     ensures items { dst.new.items ≡ dst.old.items ++ quote_of (mode_numbered MODE) }
     ensures capacity { vec_capacity dst.old ≤ vec_capacity dst.new }
 {
-    if MODE == HTML_MODE {
-        return;
+    if MODE != HTML_MODE {
+        dst.push_reserved(b'"');
     }
-    let Ok(()) = dst.push(b'"') else {
-        unreachable!()
-    };
+}
+
+/// Appends the output for the text to a vector that has room for it.
+fn append_output<const MODE: u8, A: Allocator>(value: &str, dst: &mut Vec<u8, A>)
+    requires { vec_len dst.old + bound (mode_numbered MODE) (length value.now) ≤ vec_capacity dst.old }
+    ensures { dst.new.items ≡ dst.old.items ++ plain (mode_numbered MODE) value.now }
+{
+    push_quote::<MODE, A>(dst);
+    append_bytes::<Simd256u, A, MODE, 32, 4, false>(value, dst);
+    push_quote::<MODE, A>(dst);
 }
 
 /// Appends the output for the text to `dst`, whatever bytes `dst` holds.
@@ -99,9 +106,7 @@ pub fn append<const MODE: u8, A: Allocator>(
         return Err(Refusal::TooLarge);
     };
     dst.reserve(scratch)?;
-    push_quote::<MODE, A>(dst);
-    append_bytes::<Simd256u, A, MODE, 32, 4, false>(value, dst);
-    push_quote::<MODE, A>(dst);
+    append_output::<MODE, A>(value, dst);
     Ok(())
 }
 
@@ -123,8 +128,11 @@ pub(crate) fn text<const MODE: u8, A: Allocator>(
     ensures too_large { (result ≡ Err Refusal.TooLarge)
         ↔ (usize.MAX < bound (mode_numbered MODE) (length value.now)) }
 {
-    let mut bytes = Vec::new(alloc);
-    append::<MODE, A>(value, &mut bytes)?;
+    let Some(capacity) = scratch_bound::<MODE>(value.len()) else {
+        return Err(Refusal::TooLarge);
+    };
+    let mut bytes = Vec::with_capacity(alloc, capacity)?;
+    append_output::<MODE, A>(value, &mut bytes);
     // The output for a text is a text.
     Ok(unsafe { String::from_utf8_unchecked(bytes) })
 }

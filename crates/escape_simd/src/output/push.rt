@@ -12,12 +12,18 @@ const SHORT_FILL: usize = 160;
 const LONG_FILL: usize = 512;
 
 /// Appends the bytes to a vector that has room for them.
+///
+/// That it has room is asked all the same: so the compiler leaves out the call that asks for more, and the
+/// vector's length can stay in a register.
 #[inline(always)]
 pub(super) fn push_all<A: Allocator>(dst: &mut Vec<u8, A>, bytes: &[u8])
     requires { vec_len dst.old + length bytes.now ≤ vec_capacity dst.old }
     ensures items { dst.new.items ≡ dst.old.items ++ bytes.now }
     ensures capacity { vec_capacity dst.old ≤ vec_capacity dst.new }
 {
+    if dst.capacity() - dst.len() < bytes.len() {
+        return;
+    }
     let Ok(()) = dst.extend_from_slice(bytes) else {
         unreachable!()
     };

@@ -116,7 +116,7 @@ pub(crate) fn most_of_eight<V: Vector<N>, const MODE: u8, const N: usize>(
 }
 
 /// At most so many bytes of the text from one place up to another need an escape. Those past the last
-/// eight vectors are not asked.
+/// four vectors are not asked.
 #[inline(always)]
 pub(crate) fn most_between<V: Vector<N>, const MODE: u8, const N: usize>(
     src: &[u8],
@@ -131,9 +131,9 @@ pub(crate) fn most_between<V: Vector<N>, const MODE: u8, const N: usize>(
 {
     let mut at = from;
     let mut most = 0;
-    'eights: while 8 * N <= to - at {
-        most += most_of_eight::<V, MODE, N>(src, at);
-        at += 8 * N;
+    'fours: while 4 * N <= to - at {
+        most += most_of_four::<V, MODE, N>(src, at, at + N, at + 2 * N, at + 3 * N);
+        at += 4 * N;
     }
     most + (to - at)
 }

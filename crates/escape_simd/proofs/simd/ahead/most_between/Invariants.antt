@@ -5,13 +5,13 @@ use Rattle.escape_simd.specs.Modes.{mode_numbered}
 use Rattle.escape_simd.proofs.simd.ahead.most_between.Given as goal
 
 -- no more of the bytes passed are flagged
-abbrev pub invariant-eights : goal.invariant-eights
-invariant-eights g l = record {
+abbrev pub invariant-fours : goal.invariant-fours
+invariant-fours g l = record {
   on : l.from ≤ l.at;
   inside : l.at ≤ l.to;
   few : l.most ≤ l.at - l.from;
   most : count_by (needs_escape (mode_numbered g.row.MODE)) (take l.at l.src) ≤ count_by (needs_escape (mode_numbered g.row.MODE)) (take l.from l.src) + l.most;
 }
 
-abbrev pub decreases-eights : goal.decreases-eights
-decreases-eights g l = l.to - l.at
+abbrev pub decreases-fours : goal.decreases-fours
+decreases-fours g l = l.to - l.at

@@ -82,6 +82,15 @@ stretch-more src from at k on =
     ∙ take-add (at - from) k (drop from src)
     ∙ ap (λ xs. take (at - from) (drop from src) ++ take k xs) (drop-drop (at - from) from src ∙ ap (λ i. drop i src) d)
 
+-- the first bytes of a stretch, and the others
+pub stretch-join : (src : List ℕ) (from k end : ℕ) → from + k ≤ end → take k (drop from src) ++ slice_range src (from + k) end ≡ slice_range src from end
+stretch-join src from k end on =
+    let first : from + k - from ≡ k = omega arith in
+    let whole : from + k + (end - (from + k)) ≡ end = omega (arith, on) in
+    sym (ap (λ n. take n (drop from src) ++ slice_range src (from + k) end) first)
+    ∙ sym (stretch-more src from (from + k) (end - (from + k)) (omega arith))
+    ∙ ap (slice_range src from) whole
+
 -- a stretch that stands after other bytes, cut at one of its places
 pub stretch-cut : (old src : List ℕ) (from end stop len : ℕ) → from ≤ stop → stop ≤ end → len ≡ length old + (end - from) → take (len - (end - stop)) (old ++ slice_range src from end) ≡ old ++ slice_range src from stop
 stretch-cut old src from end stop len on before is =

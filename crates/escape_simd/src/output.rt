@@ -13,6 +13,7 @@ ghost use Rattle.escape_simd.specs.Laws.{JoinsTexts, IsOfOneText, HasOutputLengt
 mod bytes;
 mod front;
 mod inner;
+mod moving;
 mod pieces;
 mod push;
 

@@ -35,4 +35,5 @@ pub use classify::{HTML_MODE, JSON_MODE, SCRIPT_MODE};
 pub use escape_lanes::simd::{
     BitMask, Flags, LaneMask, LoadLast, Mask, MoveDown, Simd, bits, target,
 };
-pub(crate) use inner::escape_inner;
+pub(crate) use inner::{escape_by_masks, escape_inner};
+pub(crate) use masked::masks_of_two;

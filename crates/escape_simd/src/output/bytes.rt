@@ -8,12 +8,13 @@ ghost use Rattle.std.specs.List.{count_by};
 ghost use Rattle.escape_lanes.specs.Replacement.{needs_escape};
 ghost use Rattle.escape_simd.specs.Modes.{mode_numbered};
 ghost use Rattle.escape_simd.specs.Output.{inner};
-ghost use Rattle.escape_simd.specs.Stretch.{room_from};
+ghost use Rattle.escape_simd.specs.Stretch.{HoldsFlags, room_from};
 
+use crate::output::moving::Appends;
 use crate::output::pieces::append_many;
 use crate::output::push::{fill, push_all, push_front, push_two, push_vector};
-use crate::simd::{Vector, escape_inner, load_masked, most_of_four};
-use escape_lanes::simd::{BitMask, LaneMask};
+use crate::simd::{Vector, escape_by_masks, escape_inner, load_masked, masks_of_two, most_of_four};
+use escape_lanes::simd::{BitMask, Flags, LaneMask};
 use std::alloc::Allocator;
 
 /// Appends what stands for the bytes of a text shorter than four vectors, of which at most `most` need an
@@ -41,9 +42,44 @@ fn append_flagged<
     dst.truncate(end);
 }
 
+/// Appends what stands for the bytes of a text no shorter than a vector, of which at most `most` need an escape.
+/// Which of its first two vectors do, the masks tell.
+#[inline(never)]
+fn append_by_masks<
+    V: Vector<N>,
+    A: Allocator,
+    const MODE: u8,
+    const N: usize,
+    const CHUNK: usize,
+    const EXACT: bool,
+>(
+    bytes: &[u8],
+    mask1: <V::Flags as Flags>::BitMask,
+    mask2: <V::Flags as Flags>::BitMask,
+    most: usize,
+    dst: &mut Vec<u8, A>,
+)
+    requires some { N ≤ length bytes.now }
+    requires flagged1 { HoldsFlags (mode_numbered MODE) bytes.now 0 N 0 (V.Flags.BitMask.bits mask1) }
+    requires flagged2 { 2 * N ≤ length bytes.now
+        → HoldsFlags (mode_numbered MODE) bytes.now N N N (V.Flags.BitMask.bits mask2) }
+    requires most { count_by (needs_escape (mode_numbered MODE)) bytes.now ≤ most }
+    requires narrow { N ≤ 32 }
+    requires room { vec_len dst.old + 6 * length bytes.now + 32 ≤ vec_capacity dst.old }
+    ensures items { dst.new.items ≡ dst.old.items ++ inner (mode_numbered MODE) bytes.now }
+    ensures room { vec_len dst.new + 32 ≤ vec_capacity dst.new }
+{
+    let most = most.min(bytes.len());
+    let old = dst.len();
+    // A byte is written by six bytes at most.
+    fill(dst, old + bytes.len() + 5 * most + 32);
+    let end = escape_by_masks::<V, MODE, N, CHUNK, EXACT>(bytes, mask1, mask2, dst, old);
+    dst.truncate(end);
+}
+
 /// Appends what stands for the bytes of a text shorter than four vectors, and no shorter than one: with
 /// no loop and no call where none needs an escape.
-#[inline(always)]
+#[inline(never)]
 fn append_few<
     V: Vector<N>,
     A: Allocator,
@@ -64,8 +100,9 @@ fn append_few<
     let third = last - second;
     let most = most_of_four::<V, MODE, N>(bytes, 0, second, third, last);
     if most != 0 {
-        let most = most.min(bytes.len());
-        return append_flagged::<V, A, MODE, N, CHUNK, EXACT>(bytes, most, dst);
+        // The flags that were asked above: where it is built, nothing is asked again.
+        let (mask1, mask2) = masks_of_two::<V, MODE, N>(bytes);
+        return append_by_masks::<V, A, MODE, N, CHUNK, EXACT>(bytes, mask1, mask2, most, dst);
     }
     // The last ones go over what those before them have of the same bytes.
     let old = dst.len();
@@ -127,7 +164,7 @@ pub(super) fn append_short<
 
 /// Appends what stands for the text's bytes.
 pub(crate) fn append_bytes<
-    V: Vector<N>,
+    V: Appends<N>,
     A: Allocator,
     const MODE: u8,
     const N: usize,

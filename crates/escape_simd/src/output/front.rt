@@ -6,14 +6,15 @@ ghost use Rattle.escape_lanes.specs.Replacement.{needs_escape};
 ghost use Rattle.escape_simd.specs.Modes.{mode_numbered};
 ghost use Rattle.escape_simd.specs.Output.{inner};
 
-use crate::output::push::{push_eight, push_four};
-use crate::simd::{Vector, most_of_eight, most_of_four};
+use crate::output::moving::Appends;
+use crate::output::push::push_eight;
+use crate::simd::most_of_eight;
 use std::alloc::Allocator;
 
 /// Where the clean bytes of a text end, and how many of those up to `until` need an escape, at most: none
 /// where the text ends before long.
 #[derive(Clone, Copy)]
-pub(super) struct Front {
+pub(crate) struct Front {
     pub end: usize,
     pub until: usize,
     pub most: usize,
@@ -21,8 +22,11 @@ pub(super) struct Front {
 
 /// Appends the text's bytes from `from` on, up to the first vectors that may have a flagged one, or the
 /// last bytes, fewer than four vectors have.
+///
+/// The vector of bytes stays where it is until eight vectors are known to be clean: a text whose front has an
+/// escape waits for no move.
 #[inline(always)]
-fn append_clean<V: Vector<N>, A: Allocator, const MODE: u8, const N: usize>(
+fn append_clean<V: Appends<N>, A: Allocator, const MODE: u8, const N: usize>(
     src: &[u8],
     from: usize,
     dst: &mut Vec<u8, A>,
@@ -41,36 +45,26 @@ fn append_clean<V: Vector<N>, A: Allocator, const MODE: u8, const N: usize>(
     ensures few { result.most ≤ length src.now }
     ensures capacity { vec_capacity dst.old ≤ vec_capacity dst.new }
 {
-    let mut end = from;
-    'eights: while 8 * N <= src.len() - end {
-        let until = end + 8 * N;
-        let most = most_of_eight::<V, MODE, N>(src, end);
+    let mut at = from;
+    if 12 * N <= src.len() - from {
+        let most = most_of_eight::<V, MODE, N>(src, from);
         if most != 0 {
-            return Front { end, until, most };
+            let until = from + 8 * N;
+            return Front {
+                end: from,
+                until,
+                most,
+            };
         }
-        push_eight::<V, A, N>(dst, src, end);
-        end = until;
+        push_eight::<V, A, N>(dst, src, from);
+        at = from + 8 * N;
     }
-    if 4 * N <= src.len() - end {
-        let until = end + 4 * N;
-        let most = most_of_four::<V, MODE, N>(src, end, end + N, end + 2 * N, end + 3 * N);
-        if most != 0 {
-            return Front { end, until, most };
-        }
-        push_four::<V, A, N>(dst, src, end);
-        end = until;
-    }
-    let until = end;
-    Front {
-        end,
-        until,
-        most: 0,
-    }
+    V::append_moving::<A>(MODE, src, at, dst)
 }
 
 /// The same, up to a place where a character begins: so what comes after it is a text.
 #[inline(always)]
-pub(super) fn append_front<V: Vector<N>, A: Allocator, const MODE: u8, const N: usize>(
+pub(super) fn append_front<V: Appends<N>, A: Allocator, const MODE: u8, const N: usize>(
     value: &str,
     from: usize,
     dst: &mut Vec<u8, A>,

@@ -8,6 +8,7 @@ ghost use Rattle.escape_simd.specs.Output.{inner};
 
 use crate::output::bytes::append_short;
 use crate::output::front::{Front, append_front};
+use crate::output::moving::Appends;
 use crate::output::push::fill;
 use crate::simd::{Vector, escape_at, most_between};
 use std::alloc::Allocator;
@@ -128,7 +129,7 @@ fn append_after_front<
 
 /// Appends what stands for the bytes of a text of four vectors or more.
 pub(super) fn append_many<
-    V: Vector<N>,
+    V: Appends<N>,
     A: Allocator,
     const MODE: u8,
     const N: usize,

@@ -54,24 +54,44 @@ fn escape_few<V: Vector<N>, const MODE: u8, const N: usize, const EXACT: bool, c
     last_vector::<V, MODE, N, EXACT>(src, next, target, end, ticks)
 }
 
-/// Escapes the bytes to `dst` from `to` on, with no quotation marks, and answers the place reached.
+/// Which bytes of the text's whole vectors need an escape. Where it has but one, the second mask says nothing.
+#[inline(always)]
+pub(crate) fn masks_of_two<V: Vector<N>, const MODE: u8, const N: usize>(
+    src: &[u8],
+) -> (<V::Flags as Flags>::BitMask, <V::Flags as Flags>::BitMask)
+    requires some { N ≤ length src.now }
+    ensures flagged1 { HoldsFlags (mode_numbered MODE) src.now 0 N 0 (V.Flags.BitMask.bits result.0) }
+    ensures flagged2 { 2 * N ≤ length src.now
+        → HoldsFlags (mode_numbered MODE) src.now N N N (V.Flags.BitMask.bits result.1) }
+{
+    let mut ticks = Ticks::new();
+    let mask1 = V::load(src, 0).flags(MODE, &mut ticks).bitmask();
+    let second = N.min(src.len() - N);
+    let mask2 = V::load(src, second).flags(MODE, &mut ticks).bitmask();
+    (mask1, mask2)
+}
+
+/// Escapes the bytes, of whose whole vectors the masks have the flags, to `dst` from `to` on, with no quotation
+/// marks, and answers the place reached.
 #[inline(never)]
 pub(crate) fn escape_few_at<V: Vector<N>, const MODE: u8, const N: usize, const EXACT: bool>(
     src: &[u8],
+    mask1: <V::Flags as Flags>::BitMask,
+    mask2: <V::Flags as Flags>::BitMask,
     dst: &mut [u8],
     to: usize,
 ) -> usize
     requires some { N ≤ length src.now }
     requires few { length src.now < 3 * N }
     requires narrow { EXACT ≡ false → N ≤ 32 }
+    requires flagged1 { HoldsFlags (mode_numbered MODE) src.now 0 N 0 (V.Flags.BitMask.bits mask1) }
+    requires flagged2 { 2 * N ≤ length src.now
+        → HoldsFlags (mode_numbered MODE) src.now N N N (V.Flags.BitMask.bits mask2) }
     requires room { to + room_from (mode_numbered MODE) src.now 0 ≤ length dst.old }
     ensures { IsInnerAt (mode_numbered MODE) (rest_slack EXACT N) src.now dst.old dst.new to result }
 {
     let mut target = Target::<N>::new(dst);
     let mut ticks = Ticks::new();
-    let mask1 = V::load(src, 0).flags(MODE, &mut ticks).bitmask();
-    let second = if 2 * N <= src.len() { N } else { 0 };
-    let mask2 = V::load(src, second).flags(MODE, &mut ticks).bitmask();
     escape_few::<V, MODE, N, EXACT, false>(src, mask1, mask2, &mut target, to, &mut ticks)
 }
 

@@ -42,3 +42,9 @@ returns-else-third-ne0-clause-items g c =
     let none = uncounted (mode_numbered g.row.MODE) bytes (omega (arith, counted, most, c.if-most-ne0.false)) in
     let first = c.push_two.ensures.items ∙ ap (λ xs. xs ++ take (2 * n) bytes) (take_all len old (omega (arith, c.len-old.ensures))) in
     first ∙ ap (λ xs. old ++ xs) (whole ∙ sym none)
+
+pub append_by_masks-requires-clause-flagged1 : goal.append_by_masks-requires-clause-flagged1
+append_by_masks-requires-clause-flagged1 g c = c.masks_of_two-mask1.ensures.flagged1
+
+pub append_by_masks-requires-clause-flagged2 : goal.append_by_masks-requires-clause-flagged2
+append_by_masks-requires-clause-flagged2 g c = c.masks_of_two-mask1.ensures.flagged2

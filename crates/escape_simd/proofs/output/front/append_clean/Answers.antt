@@ -1,41 +1,40 @@
-use Rattle.std.proofs.Common.{◌≡◌, ℕ, ◌+◌, ◌*◌, List, ◌++◌, length, length-append, length-drop, length-take-le, take, drop, sym, ap, ◌∙◌, append_assoc, arith}
+use Rattle.std.proofs.Common.{◌≡◌, ℕ, ◌+◌, ◌*◌, List, ◌++◌, take, drop, slice_range, ap, ◌∙◌, append_assoc, arith}
 use Rattle.std.specs.List.{count_by}
 use Rattle.escape_lanes.specs.Replacement.{needs_escape}
 use Rattle.escape_simd.specs.Modes.{mode_numbered}
 use Rattle.escape_simd.proofs.AheadLemmas.{count-upto}
-use Rattle.escape_simd.proofs.Pieces.{stretch-more}
+use Rattle.escape_simd.proofs.Pieces.{stretch-join}
+use Rattle.escape_simd.proofs.output.front.append_clean.Goals.{then-src-from+else-most-ne0, else-src-from}
 use Rattle.escape_simd.proofs.output.front.append_clean.Goals as goal
 
-pub eights-preserved : goal.eights-preserved
-eights-preserved g c =
-    let f = needs_escape (mode_numbered g.row.MODE) in let src : List ℕ = c.args.src.now in let n : ℕ = g.row.N in
-    let inv = c.eights.invariant in let end : ℕ = c.eights.end in
-    let before : List ℕ = c.eights.dst.items in
-    let least = count-upto f src end (end + 8 * n) (omega arith) in
-    let items = c.push_eight.ensures.items in
-    let a = ap length items in let b = length-append before (take (8 * n) (drop end src)) in
-    let d = length-drop end src in let t = length-take-le (8 * n) (drop end src) (omega (arith, d, c.eights-test.true)) in
-    record {
-      on = omega (arith, inv.on);
-      inside = omega (arith, inv.inside, c.eights-test.true);
-      started = λ h. omega (arith, inv.on);
-      clean = omega (arith, least, c.most_of_eight-most.ensures.most, c.if-most-ne0.false, inv.clean);
-      items = items ∙ ap (λ xs. xs ++ take (8 * n) (drop end src)) inv.items ∙ append_assoc c.args.dst.now.items _ (take (8 * n) (drop end src)) ∙ ap (λ xs. c.args.dst.now.items ++ xs) (sym (stretch-more src c.args.from end (8 * n) inv.on));
-      len = omega (arith, a, b, t, inv.len, inv.on);
-      capacity = omega (arith, inv.capacity, c.push_eight.ensures.capacity);
-    }
+pub returns-clause-clean : goal.returns-clause-clean
+returns-clause-clean g c =
+    let f = needs_escape (mode_numbered g.row.MODE) in
+    let src : List ℕ = c.args.src.now in let from : ℕ = c.args.from in let at : ℕ = c.if-src-from.at in let n : ℕ = g.row.N in
+    let same : count_by f (take at src) ≡ count_by f (take from src) = elim c.if-src-from.branch [
+      | then-src-from+else-most-ne0 w ↦
+          let least = count-upto f src from (from + 8 * n) (omega arith) in
+          let here = ap (λ k. count_by f (take k src)) w.at-is in
+          omega (arith, least, here, w.most_of_eight-most.ensures.most, w.if-most-ne0.false)
+      | else-src-from w ↦ ap (λ k. count_by f (take k src)) w.at-is
+    ] in
+    c.append_moving.ensures.clean ∙ same
 
-pub returns-else-most-ne0-2-clause-clean : goal.returns-else-most-ne0-2-clause-clean
-returns-else-most-ne0-2-clause-clean g c =
-    let f = needs_escape (mode_numbered g.row.MODE) in let src : List ℕ = c.args.src.now in let n : ℕ = g.row.N in
-    let end : ℕ = c.eights.end in
-    let least = count-upto f src end (end + 4 * n) (omega arith) in
-    let last : count_by f (take (end + 3 * n + n) src) ≡ count_by f (take (end + 4 * n) src) = ap (λ k. count_by f (take k src)) (omega arith) in
-    let most = c.most_of_four-most.ensures.most end (omega arith) in
-    omega (arith, least, last, most, c.if-most-ne0-2.false, c.eights.invariant.clean)
-
-pub returns-else-most-ne0-2-clause-items : goal.returns-else-most-ne0-2-clause-items
-returns-else-most-ne0-2-clause-items g c =
-    let src : List ℕ = c.args.src.now in let n : ℕ = g.row.N in
-    let inv = c.eights.invariant in let end : ℕ = c.eights.end in
-    c.push_four.ensures.items ∙ ap (λ xs. xs ++ take (4 * n) (drop end src)) inv.items ∙ append_assoc c.args.dst.now.items _ (take (4 * n) (drop end src)) ∙ ap (λ xs. c.args.dst.now.items ++ xs) (sym (stretch-more src c.args.from end (4 * n) inv.on))
+pub returns-clause-items : goal.returns-clause-items
+returns-clause-items g c =
+    let src : List ℕ = c.args.src.now in let from : ℕ = c.args.from in let at : ℕ = c.if-src-from.at in let n : ℕ = g.row.N in
+    let old : List ℕ = c.args.dst.now.items in let end : ℕ = c.append_moving.result.end in
+    let on = c.append_moving.ensures.on.0 in
+    elim c.if-src-from.branch [
+      | then-src-from+else-most-ne0 w ↦
+          c.append_moving.ensures.items
+          ∙ ap (λ v. v.items ++ slice_range src at end) w.dst-is
+          ∙ ap (λ xs. xs ++ slice_range src at end) w.push_eight.ensures.items
+          ∙ ap (λ k. (old ++ take (8 * n) (drop from src)) ++ slice_range src k end) w.at-is
+          ∙ append_assoc old (take (8 * n) (drop from src)) (slice_range src (from + 8 * n) end)
+          ∙ ap (λ xs. old ++ xs) (stretch-join src from (8 * n) end (omega (arith, on, w.at-is)))
+      | else-src-from w ↦
+          c.append_moving.ensures.items
+          ∙ ap (λ v. v.items ++ slice_range src at end) w.dst-is
+          ∙ ap (λ k. old ++ slice_range src k end) w.at-is
+    ]

@@ -2,7 +2,7 @@ use Rattle.std.proofs.Common.{◌≡◌, ◌+◌, ◌-◌, ◌*◌, ◌<◌, ◌
 use Rattle.std.specs.List.{count_by}
 use Rattle.escape_lanes.specs.Replacement.{needs_escape}
 use Rattle.escape_simd.specs.Modes.{mode_numbered}
-use Rattle.escape_simd.proofs.output.front.append_clean.Given as goal
+use Rattle.escape_simd.proofs.output.moving.append_vectors.Given as goal
 
 -- what was passed is clean and appended
 abbrev pub invariant-eights : goal.invariant-eights

@@ -1,16 +1,14 @@
 -- A number as lanes of w bits each, lowest first, that is held: one lane, the first lanes cleared, and how many are set.
-use Rattle.std.proofs.Common.{◌≡◌, ℕ, zero, suc, ◌+◌, ◌-◌, min, ◌*◌, ◌/◌, ◌%◌, ◌^◌, ◌≤◌, ◌<◌, Bool, true, false, not, cond, List, [], ◌∷◌, length, replicate, nat_eq, nat_lt, get_or, bit_and, bit_or, refl, sym, ap, ap₂, ◌∙◌, inl, inr, arith, add-one}
+use Rattle.std.proofs.Common.{◌≡◌, ℕ, zero, suc, ◌+◌, ◌-◌, min, ◌*◌, ◌/◌, ◌%◌, ◌^◌, ◌≤◌, ◌<◌, Bool, true, false, not, cond, List, [], ◌∷◌, length, nat_eq, nat_lt, get_or, bit_and, refl, sym, ap, ap₂, ◌∙◌, inl, inr, arith, add-one}
 use Rattle.std.proofs.Math.Nat.{mul-suc, mul-zero, mul_assoc, div-eq_of_lt, mod-eq_of_lt}
 use Rattle.std.proofs.Math.Pow.{pow_mono}
-use Rattle.std.proofs.lemmas.Bool.{cases_eq, cases_lt, eqb-true, agree_below_at}
+use Rattle.std.proofs.lemmas.Bool.{cases_eq, cases_lt}
 use Rattle.std.proofs.lemmas.Bool.Decides.{nat_tests}
 use Rattle.std.proofs.lemmas.List.{get_or_past}
 use Rattle.std.proofs.lemmas.List.Sums.{sum_by-cons}
-use Rattle.std.proofs.lemmas.Nat.{and_block, or_block, and_le_r, or_lt, and_mask, mod_low, ones_cat, pow-add, pow_pos, shr-shr, shr_below, shr_high, shr_split}
-use Rattle.std.specs.Int.Bits.{and_zero_r}
+use Rattle.std.proofs.lemmas.Nat.{and_mask, mod_low, pow-add, pow_pos, shr-shr, shr_below, shr_high, shr_split}
 use Rattle.std.specs.Int.RustNames.{count_ones}
 use Rattle.std.specs.List.{count_by}
-use Rattle.std.specs.Simd.Lanes.{number_l}
 use lib.Bits.{and_step, and_self}
 use lib.Count.{ones, ones_in, ones_step}
 use Rattle.escape_lanes.specs.Bits.{bits_of, lanes_of, first_set, none_set, clear_first, length-bits_of, length-lanes_of}
@@ -94,7 +92,7 @@ unfolding bits_of
 bits-suc k x = refl
 
 -- the lanes cleared after one that is clear
-cleared-suc : (n : ℕ) (bs : List Bool) → false ∷ clear_first (n + 1) bs ≡ clear_first (suc n + 1) (false ∷ bs)
+pub cleared-suc : (n : ℕ) (bs : List Bool) → false ∷ clear_first (n + 1) bs ≡ clear_first (suc n + 1) (false ∷ bs)
 cleared-suc n bs = let e : suc n + 1 ≡ suc (n + 1) = omega arith in rw e refl
 
 -- the first set bit cleared, as a number less one has all below it set and it clear
@@ -151,11 +149,11 @@ lanes-first_cleared n x few h =
     rw (whole, fits, parts) (lanes-front_cleared 4 16 (n + 1) x (omega arith))
 
 -- the count goes on after a lane
-counted-cons : (b : Bool) (bs : List Bool) → count_by (λ b. b) (b ∷ bs) ≡ cond b 1 0 + count_by (λ b. b) bs
+pub counted-cons : (b : Bool) (bs : List Bool) → count_by (λ b. b) (b ∷ bs) ≡ cond b 1 0 + count_by (λ b. b) bs
 counted-cons b bs = sum_by-cons (λ c. cond c 1 0) b bs
 
 -- no bit of 0 is set
-ones-zero : count_ones 0 ≡ 0
+pub ones-zero : count_ones 0 ≡ 0
 unfolding ones ones_in
 ones-zero = refl
 
@@ -171,47 +169,3 @@ ones-bits (suc k) x h =
     let rest = ones-bits k (x / 2) (shr_below x k 1 (rw add-one h)) in
     let last = counted-cons (nat_eq (x % 2) 1) (bits_of k (x / 2)) in
     ones_step x ∙ omega (arith, bit-value x, rest, last)
-
--- a bit in each lane of four bits
-abbrev pub in_each : ℕ → ℕ → ℕ
-in_each k bits = number_l 16 (replicate k bits)
-
--- the top bit of each lane of four bits that is set
-abbrev pub tops : ℕ → ℕ → ℕ
-tops k x = bit_and (bit_or (bit_and x (in_each k 7) + in_each k 7) x) (in_each k 8)
-
--- of one lane
-abbrev top : ℕ → ℕ
-top p = bit_and (bit_or (bit_and p 7 + 7) p) 8
-
--- it is within the lane
-top-lt : (p : ℕ) → p < 16 → top p < 16
-top-lt p h = omega (arith, and_le_r (bit_or (bit_and p 7 + 7) p) 8)
-
--- it is one bit where the lane is set, by computation for each lane
-top-one : (p : ℕ) → p < 16 → count_ones (top p) ≡ cond (not (nat_eq p 0)) 1 0
-unfolding ones ones_in
-top-one p h = eqb-true _ _ (agree_below_at (λ q. nat_eq (count_ones (top q)) (cond (not (nat_eq q 0)) 1 0)) (λ q. true) 16 p refl h)
-
--- the lowest lane is apart from those above it
-tops-suc : (k n p : ℕ) → p < 16 → tops (suc k) (n * 16 + p) ≡ tops k n * 16 + top p
-tops-suc k n p h =
-    let m : ℕ = in_each k 7 in
-    let sevens : in_each (suc k) 7 ≡ m * 16 + 7 = omega arith in
-    let eights : in_each (suc k) 8 ≡ in_each k 8 * 16 + 8 = omega arith in
-    let low : bit_and p 7 ≤ 7 = and_le_r p 7 in
-    let sum : bit_and n m * 16 + bit_and p 7 + (m * 16 + 7) ≡ (bit_and n m + m) * 16 + (bit_and p 7 + 7) = omega arith in
-    rw (sevens, eights, and_block 4 n m p 7 h (omega arith), sum, or_block 4 (bit_and n m + m) n (bit_and p 7 + 7) p (omega arith) h)
-    (and_block 4 (bit_or (bit_and n m + m) n) (in_each k 8) (bit_or (bit_and p 7 + 7) p) 8 (or_lt 4 (bit_and p 7 + 7) p (omega arith) h) (omega arith))
-
--- how many lanes of four bits are set
-pub ones-tops : (k x : ℕ) → count_ones (tops k x) ≡ count_by (λ b. b) (lanes_of 4 k x)
-unfolding lanes_of
-ones-tops zero x = let none : tops 0 x ≡ 0 = and_zero_r (bit_or (bit_and x 0 + 0) x) in rw none ones-zero
-ones-tops (suc k) x =
-    let n : ℕ = x / 16 in let p : ℕ = x % 16 in
-    let small : p < 16 = omega arith in
-    let parts : n * 16 + p ≡ x = omega arith in
-    let last = counted-cons (not (nat_eq p 0)) (lanes_of 4 k n) in
-    let split = ap count_ones (rw parts at (tops-suc k n p small)) ∙ ones_cat 4 (tops k n) (top p) (top-lt p small) in
-    omega (arith, split, ones-tops k n, top-one p small, last)

@@ -2,6 +2,7 @@ pub mod Chunks
 pub mod DownLemmas
 pub mod FlagLemmas
 pub mod HeldLemmas
+pub mod TopLemmas
 pub mod LaneLemmas
 pub mod LastLemmas
 pub mod MaskLemmas

@@ -6,9 +6,9 @@ use Rattle.std.specs.Simd.Lanes.{number_l, digits_l}
 use Rattle.escape_lanes.specs.Bits.{lanes_of, nibbles_of}
 use Rattle.escape_lanes.specs.Lanes.{AreWhole, set_lanes, mask_lanes}
 
--- the k pairs of bytes of a number, each narrowed to its middle byte
+-- the k pairs of bytes of a number, each narrowed to the top bits of both halves of its middle byte
 abbrev pub middles : ℕ → ℕ → List ℕ
-middles k n = map (λ pair. bit_and (pair / 16) 255) (digits_l 65536 k n)
+middles k n = map (λ pair. bit_and (pair / 16) 0x88) (digits_l 65536 k n)
 
 -- two lanes of four bits, and those above them
 two_lanes : (p q n m : ℕ) → p < 16 → q < 16 → lanes_of 4 (suc (suc m)) (p + 16 * q + 256 * n) ≡ not (nat_eq p 0) ∷ not (nat_eq q 0) ∷ lanes_of 4 m n
@@ -21,10 +21,10 @@ two_lanes p q n m hp hq =
     rw (x, y, z, w) refl
 
 -- a pair of bytes that are wholly set or clear
-pair : (a b : Bool) (n m : ℕ) → lanes_of 4 (suc (suc m)) (bit_and ((cond a 255 0 + 256 * cond b 255 0) / 16) 255 + 256 * n) ≡ a ∷ b ∷ lanes_of 4 m n
-pair true true n m = two_lanes 15 15 n m (omega arith) (omega arith)
-pair true false n m = two_lanes 15 0 n m (omega arith) (omega arith)
-pair false true n m = two_lanes 0 15 n m (omega arith) (omega arith)
+pair : (a b : Bool) (n m : ℕ) → lanes_of 4 (suc (suc m)) (bit_and ((cond a 255 0 + 256 * cond b 255 0) / 16) 0x88 + 256 * n) ≡ a ∷ b ∷ lanes_of 4 m n
+pair true true n m = two_lanes 8 8 n m (omega arith) (omega arith)
+pair true false n m = two_lanes 8 0 n m (omega arith) (omega arith)
+pair false true n m = two_lanes 0 8 n m (omega arith) (omega arith)
 pair false false n m = two_lanes 0 0 n m (omega arith) (omega arith)
 
 -- a lane of a mask is a byte
@@ -50,17 +50,20 @@ narrowed (suc k) (a ∷ b ∷ bs) h =
 -- the narrowed lanes fit k bytes
 number-lt : (k n : ℕ) → number_l 256 (middles k n) < 256 ^ k
 number-lt zero n = omega arith
-number-lt (suc k) n = omega (arith, number-lt k (n / 65536), and_le_r (n % 65536 / 16) 255)
+number-lt (suc k) n = omega (arith, number-lt k (n / 65536), and_le_r (n % 65536 / 16) 0x88)
 
 -- a number of 64 bits, cut to 64 bits
 below : (n : ℕ) → n < 2 ^ 64 → n % 2 ^ 64 ≡ n
 below n h = omega arith
 
+-- eight narrowed pairs, cut to 64 bits
+pub narrowed-fits : (n : ℕ) → number_l 256 (middles 8 n) % 2 ^ 64 ≡ number_l 256 (middles 8 n)
+narrowed-fits n = below (number_l 256 (middles 8 n)) (number-lt 8 n)
+
 -- four bits for each of sixteen lanes
 pub nibbles-narrowed : (xs : List ℕ) → AreWhole 255 16 xs → nibbles_of 16 (number_l 256 (middles 8 (number_l 256 xs)) % 2 ^ 64) ≡ set_lanes 255 xs
 nibbles-narrowed xs whole =
     let as_mask = λ (ys : List ℕ). number_l 256 (middles 8 (number_l 256 ys)) in
-    let fits : as_mask xs % 2 ^ 64 ≡ as_mask xs = below (as_mask xs) (number-lt 8 (number_l 256 xs)) in
-    ap (nibbles_of 16) fits
+    ap (nibbles_of 16) (narrowed-fits (number_l 256 xs))
     ∙ ap (λ ys. nibbles_of 16 (as_mask ys)) whole.whole
     ∙ narrowed 8 (set_lanes 255 xs) (length-map xs (λ b. nat_eq b 255) ∙ whole.full)

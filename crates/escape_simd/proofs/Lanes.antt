@@ -254,14 +254,14 @@ front_clean mode xs n clean k h =
     ap (needs_escape mode) (get_or-take n xs k 0 (omega (arith, l, h))) ∙ clean k (omega (arith, l, h))
 
 -- a store covers the lanes taken, and a vector at most
-pub stored-bounds : (exact : Bool) (n taken : ℕ) → taken ≤ n → (taken ≤ stored_lanes exact n taken) × (stored_lanes exact n taken ≤ n)
-stored-bounds true n taken h = (omega arith, h)
-stored-bounds false n taken h = (h, omega arith)
+pub stored-bounds : (exact : Bool) (n taken rest : ℕ) → taken ≤ n → (taken ≤ stored_lanes exact n taken rest) × (stored_lanes exact n taken rest ≤ n)
+stored-bounds true n taken rest h = (omega arith, omega arith)
+stored-bounds false n taken rest h = (h, omega arith)
 
 -- what is stored of a vector stays within what the rest becomes and the slack
-pub stored-low : (exact : Bool) (n taken rest past slack : ℕ) → taken ≤ n → taken + past ≤ rest → (exact ≡ false → n ≤ past + slack) → stored_lanes exact n taken ≤ rest + slack
-stored-low true n taken rest past slack few long narrow = omega arith
-stored-low false n taken rest past slack few long narrow = let m = narrow refl in omega (arith, m)
+pub stored-low : (exact : Bool) (n taken all rest past slack : ℕ) → taken ≤ n → all ≡ taken + past → all ≤ rest → (exact ≡ false → n ≤ past + slack) → stored_lanes exact n taken all ≤ rest + slack
+stored-low true n taken all rest past slack few parts long narrow = omega (arith, parts, long)
+stored-low false n taken all rest past slack few parts long narrow = let m = narrow refl in omega (arith, parts, long, m)
 
 -- what is loaded, by its first bytes
 pub loaded-front : (lanes xs : List ℕ) (n count : ℕ) → lanes ≡ take n xs → count ≤ n → take count lanes ≡ take count xs

@@ -161,14 +161,14 @@ clean_rest mode src at f inside clean =
 
 -- a vector that was stored, and passed no byte yet
 pub stored_ahead : {N : ℕ} (mode : Mode) (slack : ℕ) (exact : Bool) (src : List ℕ) (old new : Target N) (from taken to : ℕ) → IsStored exact src old new from taken to
-    → from ≤ length src → stored_lanes exact N taken ≤ rest_length mode src from + slack → Stretch mode slack src old new from from to to
+    → from ≤ length src → stored_lanes exact N taken (length src - from) ≤ rest_length mode src from + slack → Stretch mode slack src old new from from to to
 stored_ahead {N} mode slack exact src old new from taken to s inside low = record {
   same_slice = s.same_slice;
   forward = omega arith;
   inside = inside;
   limit = refl;
   bytes = ap (λ xs. xs ++ inner mode (drop from src)) s.written;
-  kept = drop_further (bytes_of new) (bytes_of old) (to + stored_lanes exact N taken) (to + rest_length mode src from + slack) (omega arith) s.kept;
+  kept = drop_further (bytes_of new) (bytes_of old) (to + stored_lanes exact N taken (length src - from)) (to + rest_length mode src from + slack) (omega arith) s.kept;
   escaped = ap (λ k. k + escaped_count mode (drop from src)) s.escaped;
   quotes = s.quotes;
 }
@@ -242,11 +242,11 @@ module _ {N : ℕ} (is_html : Bool) {slack : ℕ} {src : List ℕ} {old new : Ta
       omega (arith, l, r, q, p)
 
 -- a vector that was pasted in is stored
-pub stored_from_paste : {N : ℕ} (exact : Bool) (src lanes : List ℕ) (old new : Target N) (from taken to : ℕ) → taken ≤ stored_lanes exact N taken → stored_lanes exact N taken ≤ length lanes → to + stored_lanes exact N taken ≤ length (bytes_of old)
-    → take taken lanes ≡ take taken (drop from src) → IsSameSlice old new → bytes_of new ≡ paste (bytes_of old) to lanes (stored_lanes exact N taken)
+pub stored_from_paste : {N : ℕ} (exact : Bool) (src lanes : List ℕ) (old new : Target N) (from taken to : ℕ) → taken ≤ stored_lanes exact N taken (length src - from) → stored_lanes exact N taken (length src - from) ≤ length lanes → to + stored_lanes exact N taken (length src - from) ≤ length (bytes_of old)
+    → take taken lanes ≡ take taken (drop from src) → IsSameSlice old new → bytes_of new ≡ paste (bytes_of old) to lanes (stored_lanes exact N taken (length src - from))
     → stored_of new ≡ stored_of old + 1 → escaped_of new ≡ escaped_of old → quotes_of new ≡ quotes_of old → IsStored exact src old new from taken to
 stored_from_paste {N} exact src lanes old new from taken to some long room loaded same written stored escaped quotes =
-    let n : ℕ = stored_lanes exact N taken in
+    let n : ℕ = stored_lanes exact N taken (length src - from) in
     let front : List ℕ = take to (bytes_of old) in let piece : List ℕ = take n lanes in let back : List ℕ = drop (to + n) (bytes_of old) in
     let is = written ∙ append_assoc front piece back in
     let l : length front ≡ to = length-take-le to (bytes_of old) (omega arith) in

@@ -1,5 +1,5 @@
 -- What a stretch of a text did to a target, and what it cost.
-use Rattle.std.specs.Prelude.{◌≡◌, ℕ, ◌+◌, ◌-◌, ◌/◌, ◌<◌, ◌≤◌, Bool, true, false, List, ◌++◌, length, take, drop, map, slice_index, slice_index_or, if◌then◌else◌}
+use Rattle.std.specs.Prelude.{max, min, ◌≡◌, ℕ, ◌+◌, ◌-◌, ◌/◌, ◌<◌, ◌≤◌, Bool, true, false, List, ◌++◌, length, take, drop, map, slice_index, slice_index_or, if◌then◌else◌}
 use Rattle.std.specs.List.{prefix_len}
 use Rattle.escape_lanes.specs.Bits.{none_set}
 use Rattle.escape_lanes.specs.Mode.{Mode, json, html, script}
@@ -41,10 +41,10 @@ pub record Paid (N : ℕ) (mode : Mode) (src : List ℕ) (at next stored_old sto
   pub stored : stored_new + run_count mode (drop next src) ≤ stored_old + run_count mode (drop at src) + (next - at) / N
   pub classified : ticks_new + stored_old ≡ ticks_old + stored_new
 
--- how many lanes of a vector of n are stored for `taken` bytes of text: these, where a store is
--- exact, or all
-abbrev pub stored_lanes : Bool → ℕ → ℕ → ℕ
-stored_lanes exact n taken = if exact then taken else n
+-- how many bytes are stored of a vector of n lanes for `taken` bytes of a text of which `rest` are left: all lanes, or where
+-- a store is exact, these bytes, and as many more up to 32 as are left
+abbrev pub stored_lanes : Bool → ℕ → ℕ → ℕ → ℕ
+stored_lanes exact n taken rest = if exact then max taken (min (min n 32) rest) else n
 
 -- A mask has the lanes of the bytes that need an escape, of the first `taken` bytes of a text from `at` on. Those before
 -- `from` it may have or not, and it has no other lane.
@@ -122,14 +122,14 @@ pub record IsVectorEnd (mode : Mode) (N : ℕ) (src : List ℕ) (at taken from t
 pub record CanStore (N : ℕ) (exact : Bool) (src : List ℕ) (from taken to size : ℕ) : Type 0 where
   pub few : taken ≤ N
   pub inside : from + taken ≤ length src
-  pub room : to + stored_lanes exact N taken ≤ size
+  pub room : to + stored_lanes exact N taken (length src - from) ≤ size
 
 -- a vector was stored at `to`, whose first lanes are `taken` bytes of the text from `from` on
 pub record IsStored {N : ℕ} (exact : Bool) (src : List ℕ) (old new : Target N) (from taken to : ℕ) : Type 0 where
   pub same_slice : IsSameSlice old new
   pub written : take to (bytes_of new) ≡ take to (bytes_of old)
   pub ahead : take taken (drop to (bytes_of new)) ≡ take taken (drop from src)
-  pub kept : drop (to + stored_lanes exact N taken) (bytes_of new) ≡ drop (to + stored_lanes exact N taken) (bytes_of old)
+  pub kept : drop (to + stored_lanes exact N taken (length src - from)) (bytes_of new) ≡ drop (to + stored_lanes exact N taken (length src - from)) (bytes_of old)
   pub stored : stored_of new ≡ stored_of old + 1
   pub escaped : escaped_of new ≡ escaped_of old
   pub quotes : quotes_of new ≡ quotes_of old

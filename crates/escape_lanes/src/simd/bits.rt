@@ -1,5 +1,5 @@
 //! Numbers as bit masks, lowest bits first.
-ghost use Rattle.std.specs.Prelude.{◌≡◌, ℕ, length, refl};
+ghost use Rattle.std.specs.Prelude.{◌≡◌, ℕ, length, bit_and, refl};
 ghost use Rattle.escape_lanes.specs.Bits.{bits_of, lanes_of, nibbles_of, length-bits_of, length-lanes_of};
 
 use crate::simd::flags::LaneMask;
@@ -166,19 +166,35 @@ impl LaneMask for u64 {
 
 /// Sixteen lanes of four bits each, as a vector of bytes narrowed to half its width gives them.
 ///
-/// Lane `i` is bits `4i` to `4i + 3`, and is set where these aren't all zero.
+/// Lane `i` is bits `4i` to `4i + 3`. One that is set has the top one of them set alone.
 #[derive(Drop)]
-pub struct NeonBits(u64);
+pub struct NeonBits {
+    tops: u64,
+    ghost are_tops: { bit_and tops 0x8888_8888_8888_8888 ≡ tops },
+}
 
 impl NeonBits {
-    /// The sixteen lanes of any number.
+    /// The sixteen lanes of any number: one is set where its four bits aren't all zero.
     ///
     /// `NeonBits::new(0x200).first_offset()` is 2.
     #[inline(always)]
     pub fn new(u: u64) -> Self
         ensures { ⟦<NeonBits as BitMask>⟧.bits result ≡ nibbles_of 16 u }
     {
-        NeonBits(u)
+        // The sum brings a lane's lower bits up to its top bit, and nothing past it.
+        let low = (u & 0x7777_7777_7777_7777) + 0x7777_7777_7777_7777;
+        NeonBits {
+            tops: (low | u) & 0x8888_8888_8888_8888,
+        }
+    }
+
+    /// The lanes of a number that has none but the top bits of some.
+    #[inline(always)]
+    pub(crate) fn of_tops(tops: u64) -> Self
+        requires { bit_and tops 0x8888_8888_8888_8888 ≡ tops }
+        ensures { ⟦<NeonBits as BitMask>⟧.bits result ≡ nibbles_of 16 tops }
+    {
+        NeonBits { tops }
     }
 }
 
@@ -187,31 +203,32 @@ impl BitMask for NeonBits {
 
     ghost LEN = { 16 };
 
-    ghost bits = { λ m. nibbles_of 16 m.0 };
+    ghost bits = { λ m. nibbles_of 16 m.tops };
 
-    ghost count = { λ m. length-lanes_of 4 16 m.0 };
+    ghost count = { λ m. length-lanes_of 4 16 m.tops };
 
     #[inline(always)]
     fn first_offset(&self) -> usize {
-        (self.0.trailing_zeros() / 4) as usize
+        (self.tops.trailing_zeros() / 4) as usize
     }
 
     #[inline(always)]
     fn as_little_endian(&self) -> Self {
-        NeonBits(self.0)
+        NeonBits { tops: self.tops }
     }
 
     #[inline(always)]
     fn all_zero(&self) -> bool {
-        self.0 == 0
+        self.tops == 0
     }
 
     #[inline(always)]
     fn clear_high_bits(&self, n: usize) -> Self {
         if n == 16 {
-            NeonBits(0)
-        } else {
-            NeonBits(self.0 & (u64::MAX >> (4 * n)))
+            return NeonBits { tops: 0 };
+        }
+        NeonBits {
+            tops: self.tops & (u64::MAX >> (4 * n)),
         }
     }
 }
@@ -219,25 +236,25 @@ impl BitMask for NeonBits {
 impl LaneMask for NeonBits {
     #[inline(always)]
     fn is_set(&self, lane: usize) -> bool {
-        lane < 16 && (self.0 >> (4 * lane)) & 15 != 0
+        lane < 16 && (self.tops >> (4 * lane)) & 15 != 0
     }
 
     #[inline(always)]
     fn clear_low_bits(&self, n: usize) -> Self {
-        NeonBits((self.0 >> (4 * n)) << (4 * n))
+        NeonBits {
+            tops: (self.tops >> (4 * n)) << (4 * n),
+        }
     }
 
     #[inline(always)]
     fn clear_first_set(&self) -> Self {
-        let above = self.0 >> 4;
-        let below = 4 * self.first_offset();
-        NeonBits(((above >> below) << below) << 4)
+        NeonBits {
+            tops: self.tops & (self.tops - 1),
+        }
     }
 
     #[inline(always)]
     fn count_set(&self) -> usize {
-        // The sum brings a lane's lower bits up to its top bit, and nothing past it.
-        let low = (self.0 & 0x7777_7777_7777_7777) + 0x7777_7777_7777_7777;
-        ((low | self.0) & 0x8888_8888_8888_8888).count_ones() as usize
+        self.tops.count_ones() as usize
     }
 }

@@ -1,6 +1,18 @@
 //! The copy of a vector, and of its first lanes by pieces of a few fixed sizes: a copy of a number of
 //! bytes that is known only at run time is a call.
-ghost use Rattle.std.specs.Prelude.{◌≡◌, ◌*◌, ◌<◌, ◌≤◌, length};
+ghost use Rattle.std.specs.Prelude.{◌≡◌, ◌*◌, ◌+◌, ◌<◌, ◌≤◌, length, take, drop};
+
+/// The `P` lanes from `at` on, apart: so they are moved to the target at once. As a part of a slice they might
+/// overlap it, which would be asked first.
+#[inline(always)]
+fn piece<const P: usize>(lanes: &[u8], at: usize) -> [u8; P]
+    requires { at + P ≤ length lanes.now }
+    ensures { result ≡ take P (drop at lanes.now) }
+{
+    let mut piece = [0u8; P];
+    piece.copy_from_slice(&lanes[at..at + P]);
+    piece
+}
 
 /// Copies all lanes as two pieces of `P`, one from each end. They may overlap.
 #[inline(always)]
@@ -11,8 +23,19 @@ fn copy_ends<const P: usize>(dst: &mut [u8], lanes: &[u8])
     ensures { dst.new ≡ lanes.now }
 {
     let last = lanes.len() - P;
-    dst[..P].copy_from_slice(&lanes[..P]);
-    dst[last..].copy_from_slice(&lanes[last..]);
+    let (front, end) = (piece::<P>(lanes, 0), piece::<P>(lanes, last));
+    dst[..P].copy_from_slice(&front);
+    dst[last..].copy_from_slice(&end);
+}
+
+/// Copies all `P` lanes as one piece.
+#[inline(always)]
+fn copy_all<const P: usize>(dst: &mut [u8], lanes: &[u8])
+    requires same { length lanes.now ≡ length dst.old }
+    requires count { length lanes.now ≡ P }
+    ensures { dst.new ≡ lanes.now }
+{
+    dst[..P].copy_from_slice(&piece::<P>(lanes, 0));
 }
 
 /// Copies a vector, one of 64 lanes as two halves: as one it would be stored from its end on, where
@@ -48,8 +71,9 @@ fn copy_up_to_three(dst: &mut [u8], lanes: &[u8])
 
 /// Copies all lanes, the first ones of a vector of `N`.
 ///
-/// Pieces of `N` or more are never needed, so the compiler leaves them out.
-#[inline(always)]
+/// Pieces of `N` or more are never needed, so the compiler leaves them out. No part of its callers while the toolchain
+/// counts how large they are: most of them have no store of this kind.
+#[inline]
 pub(crate) fn copy_front<const N: usize>(dst: &mut [u8], lanes: &[u8])
     requires same { length lanes.now ≡ length dst.old }
     requires few { length lanes.now ≤ N }
@@ -57,7 +81,9 @@ pub(crate) fn copy_front<const N: usize>(dst: &mut [u8], lanes: &[u8])
     ensures { dst.new ≡ lanes.now }
 {
     let count = lanes.len();
-    if 32 < N && 32 <= count {
+    if N == 32 && count == 32 {
+        copy_all::<32>(dst, lanes);
+    } else if 32 < N && 32 <= count {
         copy_ends::<32>(dst, lanes);
     } else if 16 < N && 16 <= count {
         copy_ends::<16>(dst, lanes);

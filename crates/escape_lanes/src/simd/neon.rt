@@ -1,6 +1,6 @@
 //! 16 bytes in a vector of `std::simd`, with four bits a lane in the bit mask. HTML is classified
 //! by nibble tables.
-ghost use Rattle.std.specs.Prelude.{◌≡◌, ◌+◌, ◌||◌, ◌&&◌, ℕ, map, nat_eq, nat_le, refl};
+ghost use Rattle.std.specs.Prelude.{◌≡◌, ◌+◌, ◌||◌, ◌&&◌, ℕ, map, nat_eq, nat_le, bit_and, refl};
 ghost use Rattle.std.specs.Simd.Lanes.{zip2};
 ghost use Rattle.std.proofs.Common.{◌∙◌, lit≤};
 ghost use Rattle.std.proofs.lemmas.List.{length-map};
@@ -208,15 +208,16 @@ impl MoveDown for Simd128u {
     }
 }
 
-/// Four bits for each lane of a mask, the first lane's lowest.
+/// Four bits for each lane of a mask, the first lane's lowest, of which the top one alone is set.
 #[inline(always)]
 fn nibbles(mask: &u8x16) -> u64
     requires { AreWhole 255 16 mask.now }
-    ensures { nibbles_of 16 result ≡ set_lanes 255 mask.now }
+    ensures lanes { nibbles_of 16 result ≡ set_lanes 255 mask.now }
+    ensures tops { bit_and result 0x8888_8888_8888_8888 ≡ result }
 {
     // The middle byte of two neighbouring lanes has four bits of each.
     let pairs = u16x8::from_le_bytes(*mask) >> u16x8::splat(4);
-    let bytes = (pairs & u16x8::splat(255)).cast::<u8>();
+    let bytes = (pairs & u16x8::splat(0x88)).cast::<u8>();
     u64x1::from_le_bytes(bytes).to_array()[0]
 }
 
@@ -226,7 +227,7 @@ fn bits(mask: &u8x16) -> NeonBits
     requires { AreWhole 255 16 mask.now }
     ensures { ⟦<NeonBits as BitMask>⟧.bits result ≡ set_lanes 255 mask.now }
 {
-    NeonBits::new(nibbles(mask))
+    NeonBits::of_tops(nibbles(mask))
 }
 
 /// What the table has for the low half of each lane.

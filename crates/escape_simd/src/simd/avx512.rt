@@ -10,6 +10,7 @@ ghost use Rattle.escape_simd.specs.Laws.{IsOfOneText};
 ghost use Rattle.escape_simd.specs.Modes.{mode_numbered};
 
 use crate::simd::classify::{HTML_MODE, JSON_MODE, SCRIPT_MODE, Vector};
+use crate::simd::few::format_few;
 use crate::simd::short::format_short;
 use crate::simd::{body, inner, string};
 use escape_lanes::simd::avx2::Simd256u;
@@ -70,8 +71,10 @@ impl Vector<64> for Simd512u {
 /// Escapes the text to the front of `dst` in the mode numbered `MODE`, and answers how many bytes it
 /// became.
 ///
-/// A text that half a vector holds goes by a vector of half the width, in half the steps. Its stores are
-/// exact in either, so that the bytes past the output are the same.
+/// A text that half a vector holds goes by a vector of half the width, in half the steps, and so does one that
+/// three halves hold. Its stores are exact in either, so that the bytes past the output are the same. Not so where
+/// fewer than eight bytes are past the first half, since what is written of that may reach past them, and in a script
+/// literal, where the second half may begin with the rest of a separator.
 #[inline(always)]
 fn format_in_mode<const MODE: u8>(value: &str, dst: &mut [u8]) -> usize
     requires { bound (mode_numbered MODE) (length value.now) ≤ length dst.old }
@@ -79,8 +82,11 @@ fn format_in_mode<const MODE: u8>(value: &str, dst: &mut [u8]) -> usize
     ensures headline { IsOnlyOutput (mode_numbered MODE) (take result dst.new) (chars value.now) }
     ensures equal_texts { IsOfOneText (mode_numbered MODE) value.now (take result dst.new) }
 {
-    if !value.is_empty() && value.len() < HALF {
+    if value.len() < HALF {
         return format_short::<Simd256u, MODE, 32, 2, true>(value, dst);
+    }
+    if MODE != SCRIPT_MODE && HALF + 8 <= value.len() && value.len() < 3 * HALF {
+        return format_few::<Simd256u, MODE, 32, 2, true>(value, dst);
     }
     string::format_in_mode::<Simd512u, MODE, 64, 2, true>(value, dst)
 }

@@ -84,8 +84,8 @@ pub(crate) fn store_whole<V: Vector<N>, const N: usize>(
     target.put(to, &lanes);
 }
 
-/// Stores the vector's lanes to the target, or only the first `taken` where `exact`: these are the
-/// text's bytes from `from` on.
+/// Stores the vector's lanes to the target, or where `exact` only the first `taken`: these are the text's bytes
+/// from `from` on. Where the text has more, up to 32 of its bytes are stored then, in one move or two.
 #[inline(always)]
 pub(crate) fn store<V: Vector<N>, const N: usize>(
     v: &V,
@@ -103,7 +103,8 @@ pub(crate) fn store<V: Vector<N>, const N: usize>(
     if exact {
         // The text's bytes, which the vector holds too: what is put into memory and taken from there in
         // other pieces has to be waited for.
-        target.put_front(to, &text[from..from + taken]);
+        let count = taken.max(N.min(32).min(text.len() - from));
+        target.put_front(to, &text[from..from + count]);
     } else {
         let mut lanes = [0u8; N];
         v.put(&mut lanes);

@@ -12,6 +12,8 @@ use escape_lanes::simd::BitMask;
 use escape_lanes::simd::target::{Target, Ticks};
 
 /// The text's last bytes, fewer than a vector has, if any. Answers the place reached.
+///
+/// An empty text is a vector of zeros, as where a short text has no way for itself (`short.rt`).
 #[inline(always)]
 pub(crate) fn last_vector<V: Vector<N>, const MODE: u8, const N: usize, const EXACT: bool>(
     src: &[u8],
@@ -30,7 +32,7 @@ pub(crate) fn last_vector<V: Vector<N>, const MODE: u8, const N: usize, const EX
         ≤ stored_of target.old + run_count (mode_numbered MODE) (drop at src.now) + 1 }
     ensures classified { ticks.new + stored_of target.old ≡ ticks.old + stored_of target.new }
 {
-    if at == src.len() {
+    if at == src.len() && 0 < at {
         return to;
     }
     let (v, mask) = load_rest::<V, MODE, N>(src, at, ticks);

@@ -98,9 +98,6 @@ fn written_short<
     requires room { bound (mode_numbered MODE) (length value.now) ≤ length dst.old }
     ensures { IsWritten N (mode_numbered MODE) value.now dst.old dst.new result }
 {
-    if value.is_empty() {
-        return format_many::<V, MODE, N, CHUNK, EXACT>(value, dst);
-    }
     let src = value.as_bytes();
     let (v, mask) = load_rest::<V, MODE, N>(src, 0, &mut Ticks::new());
     if !mask.all_zero() {

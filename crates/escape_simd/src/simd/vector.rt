@@ -25,12 +25,24 @@ fn place_past<const MODE: u8>(border: usize, next: usize) -> usize
     border
 }
 
+/// Whether so many of the vector's bytes need an escape that each is looked up: more than a sixth. Where the text's last
+/// stores are exact, the second half decides: so a vector of half the width decides the same.
+#[inline(always)]
+fn is_dense<M: LaneMask, const EXACT: bool, const LAST: bool>(mask: &M, taken: usize) -> bool
+    requires { taken ≤ M.LEN }
+{
+    if EXACT && LAST && 32 < taken {
+        return (taken - 32) / 6 < mask.clear_low_bits(32).count_set();
+    }
+    taken / 6 < mask.count_set()
+}
+
 /// The vector at `at`, which holds `taken` bytes of the text: these bytes from `from` on, and what of
 /// a separator goes past them. Answers the places reached.
 ///
 /// The vector `held` holds these bytes: where `LAST`, all further vectors are made of it, and the text needs no
-/// bytes behind it. No place in the text waits for what is written: all are told by the one mask. Where a quarter
-/// of the bytes needs an escape, each is looked up instead.
+/// bytes behind it. No place in the text waits for what is written: all are told by the one mask. Where many
+/// of the bytes need an escape, each is looked up instead.
 #[inline(always)]
 pub(crate) fn vector<
     V: Vector<N>,
@@ -70,7 +82,7 @@ pub(crate) fn vector<
     if !LAST && mask.all_zero() {
         return (at + taken, to + (at + taken - from));
     }
-    if taken / 4 <= mask.count_set() {
+    if is_dense::<_, EXACT, LAST>(mask, taken) {
         let (next, end) = escape_each::<MODE, N>(src, from, at + taken, target, to);
         return (place_past::<MODE>(at + taken, next), end);
     }

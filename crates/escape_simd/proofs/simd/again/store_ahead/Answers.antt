@@ -29,7 +29,7 @@ store-requires g c =
     let exact = not (nat_eq (value_of (number g.row.EXACT)) 0) in
     let mode = mode_numbered g.row.MODE in let src : List ℕ = c.args.src.now in let p = c.requires.place in
     let r = rest-bounds mode src c.args.from in
-    let low = stored-low exact g.row.N (c.args.at + c.args.taken - c.args.from) (rest_length mode src c.args.from) (length src - (c.args.at + c.args.taken)) 32 (omega (arith, p.few, p.after)) (omega (arith, r, p.inside, p.before)) c.requires.held.narrow in (
+    let low = stored-low exact g.row.N (c.args.at + c.args.taken - c.args.from) (length src - c.args.from) (rest_length mode src c.args.from) (length src - (c.args.at + c.args.taken)) 32 (omega (arith, p.few, p.after)) (omega (arith, p.inside, p.before, p.after)) (omega (arith, r)) c.requires.held.narrow in (
       omega arith,
       (
         record {
@@ -46,7 +46,7 @@ returns-clause-stretch g c slack eight narrow =
     let exact = not (nat_eq (value_of (number g.row.EXACT)) 0) in
     let mode = mode_numbered g.row.MODE in let src : List ℕ = c.args.src.now in let p = c.requires.place in
     let r = rest-bounds mode src c.args.from in
-    let low = stored-low exact g.row.N (c.args.at + c.args.taken - c.args.from) (rest_length mode src c.args.from) (length src - (c.args.at + c.args.taken)) slack (omega (arith, p.few, p.after)) (omega (arith, r, p.inside, p.before)) narrow in
+    let low = stored-low exact g.row.N (c.args.at + c.args.taken - c.args.from) (length src - c.args.from) (rest_length mode src c.args.from) (length src - (c.args.at + c.args.taken)) slack (omega (arith, p.few, p.after)) (omega (arith, p.inside, p.before, p.after)) (omega (arith, r)) narrow in
     stored_ahead mode slack exact src c.args.target.now c.store.new.target c.args.from (c.args.at + c.args.taken - c.args.from) c.args.to c.store.ensures (omega (arith, p.inside, p.before)) low
 
 pub returns-clause-ahead : goal.returns-clause-ahead

@@ -7,3 +7,6 @@ returns-then-value-lt-HALF-clause-written g c = written-wider (omega arith) c.fo
 
 pub format_short-requires-clause-few : goal.format_short-requires-clause-few
 format_short-requires-clause-few g c = omega (arith, c.if-value-lt-HALF.true)
+
+pub returns-then-value-2-clause-written : goal.returns-then-value-2-clause-written
+returns-then-value-2-clause-written g c = written-wider (omega arith) c.format_few.ensures.written

@@ -13,7 +13,7 @@ store-requires g c =
     let exact = not (nat_eq (value_of (number g.row.EXACT)) 0) in
     let src : List ℕ = c.args.src.now in let at : ℕ = c.args.at in let n : ℕ = g.row.N in let r = c.requires in
     let long = rest-bounds (mode_numbered g.row.MODE) src at in
-    let low = stored-low exact n (length src - at) (rest_length (mode_numbered g.row.MODE) src at) 0 32 (omega (arith, r.few)) (omega (arith, long)) (λ e. omega (arith, r.narrow e)) in (
+    let low = stored-low exact n (length src - at) (length src - at) (rest_length (mode_numbered g.row.MODE) src at) 0 32 (omega (arith, r.few)) (omega arith) (omega (arith, long)) (λ e. omega (arith, r.narrow e)) in (
       omega arith,
       (
         record {
@@ -33,7 +33,7 @@ returns-clause-stretch g c =
     let all : at + left - at ≡ left = omega arith in
     let clean = subst (λ k. IsClean mode (take k (drop at src))) all (held-none mode src at left at (g.V.Flags.BitMask.BitMask.bits c.args._mask.now) r.flagged (omega arith) (omega (arith, r.inside)) r.clean) in
     let long = rest-bounds mode src at in
-    let low = stored-low exact n left (rest_length mode src at) 0 (rest_slack exact n) (omega (arith, r.few)) (omega (arith, long)) (rest-narrow exact n 0) in
+    let low = stored-low exact n left (length src - at) (rest_length mode src at) 0 (rest_slack exact n) (omega (arith, r.few)) (omega arith) (omega (arith, long)) (rest-narrow exact n 0) in
     let whole : at + left ≡ length src = omega (arith, r.inside) in
     ended (onward (stored_ahead mode (rest_slack exact n) exact src c.args.target.now c.store.new.target at left c.args.to c.store.ensures r.inside low)
     (clean_ahead mode (rest_slack exact n) src c.store.new.target at c.args.to left left c.store.ensures.ahead (omega arith) (omega (arith, r.inside)) clean)) whole refl

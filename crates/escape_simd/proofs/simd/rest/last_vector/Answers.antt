@@ -1,14 +1,16 @@
-use Rattle.std.proofs.Common.{◌≡◌, ℕ, not, nat_eq, List, length, refl, ◌∙◌, arith}
+use Rattle.std.proofs.Common.{◌≡◌, ℕ, ◌-◌, not, nat_eq, List, length, refl, sym, ◌∙◌, arith}
 use denote.Param.{number, value_of}
 use Rattle.escape_simd.specs.Modes.{mode_numbered}
 use Rattle.escape_simd.specs.Stretch.{rest_slack}
 use Rattle.escape_simd.proofs.Stretches.{standing, ended}
+use Rattle.escape_simd.proofs.Lanes.{held-some}
 use Rattle.escape_simd.proofs.RestLemmas.{last-loaded}
 use Rattle.escape_simd.proofs.simd.rest.last_vector.Goals as goal
 
 pub last_apart-requires : goal.last_apart-requires
 last_apart-requires g c =
-    let src : List ℕ = c.args.src.now in let at : ℕ = c.args.at in let n : ℕ = g.row.N in let r = c.requires in (
+    let src : List ℕ = c.args.src.now in let at : ℕ = c.args.at in let n : ℕ = g.row.N in let r = c.requires in
+    let some = held-some (mode_numbered g.row.MODE) src at (length src - at) at (g.V.Flags.BitMask.BitMask.bits c.load_rest-v.result.1) c.load_rest-v.ensures.flagged (sym c.all_zero.ensures ∙ c.if-not-all_zero.true) in (
       omega arith,
       (
         record {
@@ -17,7 +19,7 @@ last_apart-requires g c =
           few = omega (arith, r.few);
           inside = omega (arith, r.inside);
           after = omega arith;
-          before = omega (arith, r.inside, c.if-at-src.false);
+          before = omega (arith, r.inside, some);
           room = r.room;
         },
         (
@@ -36,7 +38,7 @@ returns-then-not-all_zero-clause-stretch g c =
     let end : c.last_apart.result.0 ≡ length c.args.src.now = omega (arith, p, s.inside, c.requires.inside) in
     ended s end refl
 
-pub returns-then-at-src-clause-stretch : goal.returns-then-at-src-clause-stretch
-returns-then-at-src-clause-stretch g c =
+pub returns-then-at-gt0-clause-stretch : goal.returns-then-at-gt0-clause-stretch
+returns-then-at-gt0-clause-stretch g c =
     let exact = not (nat_eq (value_of (number g.row.EXACT)) 0) in
     ended (standing (mode_numbered g.row.MODE) (rest_slack exact g.row.N) c.args.src.now c.args.target.now c.args.at c.args.to c.requires.inside) c.if-at-src.true refl

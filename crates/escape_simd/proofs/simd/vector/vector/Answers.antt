@@ -12,7 +12,7 @@ store-requires g c =
     let exact = not (nat_eq (value_of (number g.row.EXACT)) 0) in
     let src : List ℕ = c.args.src.now in let p = c.requires.place in
     let r = rest-bounds (mode_numbered g.row.MODE) src c.args.from in
-    let low = stored-low exact g.row.N (c.args.at + c.args.taken - c.args.from) (rest_length (mode_numbered g.row.MODE) src c.args.from) (length src - (c.args.at + c.args.taken)) 32 (omega (arith, p.few, p.after)) (omega (arith, r, p.inside, p.before)) c.requires.held.narrow in (
+    let low = stored-low exact g.row.N (c.args.at + c.args.taken - c.args.from) (length src - c.args.from) (rest_length (mode_numbered g.row.MODE) src c.args.from) (length src - (c.args.at + c.args.taken)) 32 (omega (arith, p.few, p.after)) (omega (arith, p.inside, p.before, p.after)) (omega (arith, r)) c.requires.held.narrow in (
       omega arith,
       (
         record {
@@ -29,12 +29,12 @@ escape_each-next-requires g c =
     let p = c.requires.place in
     (omega arith, (p.before, (p.inside, omega (arith, p.room, c.store.ensures.same_slice.len))))
 
-pub returns-then-taken-count_set-clause-stretch : goal.returns-then-taken-count_set-clause-stretch
-returns-then-taken-count_set-clause-stretch g c slack eight narrow =
+pub returns-then-is_dense-clause-stretch : goal.returns-then-is_dense-clause-stretch
+returns-then-is_dense-clause-stretch g c slack eight narrow =
     let exact = not (nat_eq (value_of (number g.row.EXACT)) 0) in
     let mode = mode_numbered g.row.MODE in let src : List ℕ = c.args.src.now in let p = c.requires.place in
     let r = rest-bounds mode src c.args.from in
-    let low = stored-low exact g.row.N (c.args.at + c.args.taken - c.args.from) (rest_length mode src c.args.from) (length src - (c.args.at + c.args.taken)) slack (omega (arith, p.few, p.after)) (omega (arith, r, p.inside, p.before)) narrow in
+    let low = stored-low exact g.row.N (c.args.at + c.args.taken - c.args.from) (length src - c.args.from) (rest_length mode src c.args.from) (length src - (c.args.at + c.args.taken)) slack (omega (arith, p.few, p.after)) (omega (arith, p.inside, p.before, p.after)) (omega (arith, r)) narrow in
     onward (stored_ahead mode slack exact src c.args.target.now c.store.new.target c.args.from (c.args.at + c.args.taken - c.args.from) c.args.to c.store.ensures (omega (arith, p.inside, p.before)) low)
     (ended (c.escape_each-next.ensures.stretch slack eight) (sym c.place_past.ensures) refl)
 
@@ -67,7 +67,7 @@ returns-clause-stretch g c slack eight narrow =
     let exact = not (nat_eq (value_of (number g.row.EXACT)) 0) in
     let mode = mode_numbered g.row.MODE in let src : List ℕ = c.args.src.now in let p = c.requires.place in
     let r = rest-bounds mode src c.args.from in
-    let low = stored-low exact g.row.N (c.args.at + c.args.taken - c.args.from) (rest_length mode src c.args.from) (length src - (c.args.at + c.args.taken)) slack (omega (arith, p.few, p.after)) (omega (arith, r, p.inside, p.before)) narrow in
+    let low = stored-low exact g.row.N (c.args.at + c.args.taken - c.args.from) (length src - c.args.from) (rest_length mode src c.args.from) (length src - (c.args.at + c.args.taken)) slack (omega (arith, p.few, p.after)) (omega (arith, p.inside, p.before, p.after)) (omega (arith, r)) narrow in
     onward (stored_ahead mode slack exact src c.args.target.now c.store.new.target c.args.from (c.args.at + c.args.taken - c.args.from) c.args.to c.store.ensures (omega (arith, p.inside, p.before)) low)
     (ended (c.turns-next.ensures.stretch slack eight narrow) (sym c.place_past-2.ensures) refl)
 
@@ -76,7 +76,7 @@ returns-then-all_zero-clause-stretch g c slack eight narrow =
     let exact = not (nat_eq (value_of (number g.row.EXACT)) 0) in
     let mode = mode_numbered g.row.MODE in let src : List ℕ = c.args.src.now in let p = c.requires.place in
     let r = rest-bounds mode src c.args.from in let left : ℕ = c.args.at + c.args.taken - c.args.from in
-    let low = stored-low exact g.row.N left (rest_length mode src c.args.from) (length src - (c.args.at + c.args.taken)) slack (omega (arith, p.few, p.after)) (omega (arith, r, p.inside, p.before)) narrow in
+    let low = stored-low exact g.row.N left (length src - c.args.from) (rest_length mode src c.args.from) (length src - (c.args.at + c.args.taken)) slack (omega (arith, p.few, p.after)) (omega (arith, p.inside, p.before, p.after)) (omega (arith, r)) narrow in
     let ahead = ahead-front mode src c.store.new.target c.args.from (c.args.at + c.args.taken) c.args.to left (omega arith) c.store.ensures.ahead in
     onward (stored_ahead mode slack exact src c.args.target.now c.store.new.target c.args.from left c.args.to c.store.ensures (omega (arith, p.inside, p.before)) low)
     (border-stretch mode src c.args.at c.args.taken c.args.from (g.V.Flags.BitMask.BitMask.bits c.args.mask.now) p.flags p.after p.before p.inside (sym c.all_zero.ensures ∙ c.if-all_zero.true) slack c.store.new.target c.args.to ahead)

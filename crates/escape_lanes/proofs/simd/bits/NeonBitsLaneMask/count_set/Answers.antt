@@ -1,5 +1,5 @@
-use Rattle.escape_lanes.proofs.HeldLemmas.{ones-tops}
+use Rattle.escape_lanes.proofs.TopLemmas.{ones-lanes}
 use Rattle.escape_lanes.proofs.simd.bits.NeonBitsLaneMask.count_set.Goals as goal
 
 pub returns : goal.returns
-returns c = ones-tops 16 c.args.self.now.0
+returns c = ones-lanes 16 c.args.self.now.tops c.args.self.now.are_tops

@@ -11,6 +11,7 @@ mod clean;
 mod entry;
 mod few;
 mod flagged;
+mod four;
 mod inner;
 mod last;
 mod many;

@@ -102,9 +102,15 @@ pub(crate) fn two_with_runs<V: Vector<N>, const MODE: u8, const N: usize, const 
 }
 
 /// The four vectors of the text from `at` on, which have the flags of the masks. Answers the places
-/// reached.
+/// reached. `ALONE` is that of [`chunk`](crate::simd::chunk::chunk).
 #[inline(always)]
-pub(crate) fn four_with_runs<V: Vector<N>, const MODE: u8, const N: usize, const EXACT: bool>(
+pub(crate) fn four_with_runs<
+    V: Vector<N>,
+    const MODE: u8,
+    const N: usize,
+    const EXACT: bool,
+    const ALONE: bool,
+>(
     src: &[u8],
     at: usize,
     target: &mut Target<'_, N>,

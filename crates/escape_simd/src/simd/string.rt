@@ -10,6 +10,7 @@ ghost use Rattle.escape_simd.specs.Laws.{IsOfOneText};
 use crate::simd::body::format_many;
 use crate::simd::classify::{HTML_MODE, JSON_MODE, Vector};
 use crate::simd::few::format_few;
+use crate::simd::four::format_four;
 use crate::simd::short::format_short;
 
 /// Escapes the text to the front of `dst` in the mode numbered `MODE`, and answers how many bytes it
@@ -33,6 +34,9 @@ pub(crate) fn format_in_mode<
     }
     if value.len() < 3 * N {
         return format_few::<V, MODE, N, CHUNK, EXACT>(value, dst);
+    }
+    if CHUNK == 4 && 4 * N <= value.len() && value.len() < 5 * N {
+        return format_four::<V, MODE, N, EXACT>(value, dst);
     }
     format_many::<V, MODE, N, CHUNK, EXACT>(value, dst)
 }

@@ -10,3 +10,6 @@ format_short-requires-clause-few g c = omega (arith, c.if-value-lt-HALF.true)
 
 pub returns-then-value-2-clause-written : goal.returns-then-value-2-clause-written
 returns-then-value-2-clause-written g c = written-wider (omega arith) c.format_few.ensures.written
+
+pub format_few-requires-clause-few : goal.format_few-requires-clause-few
+format_few-requires-clause-few g c = omega (arith, c.if-value-2.true)

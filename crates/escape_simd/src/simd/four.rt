@@ -1,0 +1,89 @@
+//! A text of as many bytes as four vectors have or more, and fewer than five have, to the front of a slice:
+//! with no loop.
+ghost use Rattle.std.specs.Prelude.{◌≡◌, ◌+◌, ◌*◌, ◌<◌, ◌≤◌, false, length, take, chars};
+ghost use Rattle.escape_lanes.specs.Written.{bytes_of, IsSameSlice};
+ghost use Rattle.escape_simd.specs.Modes.{mode_numbered};
+ghost use Rattle.escape_simd.specs.Output.{bound};
+ghost use Rattle.escape_simd.specs.Formatted.{IsWritten};
+ghost use Rattle.escape_simd.specs.Headline.{IsOnlyOutput};
+ghost use Rattle.escape_simd.specs.Laws.{IsOfOneText};
+ghost use Rattle.escape_simd.specs.Stretch.{Stretch, room_from, rest_slack};
+
+use crate::simd::body::quote;
+use crate::simd::chunk::chunk;
+use crate::simd::classify::Vector;
+use crate::simd::rest::last_vector;
+use escape_lanes::simd::target::{Target, Ticks};
+
+/// Escapes the bytes to the target from `to` on, and answers the place reached.
+#[inline(always)]
+fn escape_four<V: Vector<N>, const MODE: u8, const N: usize, const EXACT: bool>(
+    src: &[u8],
+    target: &mut Target<'_, N>,
+    to: usize,
+    ticks: &mut Ticks,
+) -> usize
+    requires some { 4 * N ≤ length src.now }
+    requires few { length src.now < 5 * N }
+    requires narrow { EXACT ≡ false → N ≤ 32 }
+    requires room { to + room_from (mode_numbered MODE) src.now 0 ≤ length (bytes_of target.old) }
+    ensures stretch { Stretch (mode_numbered MODE) (rest_slack EXACT N) src.now
+        target.old target.new 0 (length src.now) to result }
+{
+    let (next, end) = chunk::<V, MODE, N, EXACT, true>(src, 0, target, to, ticks);
+    last_vector::<V, MODE, N, EXACT>(src, next, target, end, ticks)
+}
+
+/// Writes the text between quotation marks to the front of the target. Answers how many bytes it became.
+#[inline(always)]
+fn quoted_four<V: Vector<N>, const MODE: u8, const N: usize, const EXACT: bool>(
+    src: &[u8],
+    target: &mut Target<'_, N>,
+) -> usize
+    requires some { 4 * N ≤ length src.now }
+    requires few { length src.now < 5 * N }
+    requires narrow { EXACT ≡ false → N ≤ 32 }
+    requires room { bound (mode_numbered MODE) (length src.now) ≤ length (bytes_of target.old) }
+    ensures same_slice { IsSameSlice target.old target.new }
+    ensures written { IsWritten N (mode_numbered MODE) src.now
+        (bytes_of target.old) (bytes_of target.new) result }
+{
+    let open = quote::<MODE, N>(target, 0);
+    let mut ticks = Ticks::new();
+    let close = escape_four::<V, MODE, N, EXACT>(src, target, open, &mut ticks);
+    quote::<MODE, N>(target, close)
+}
+
+/// The text to the front of `dst`.
+#[inline(never)]
+fn written_four<V: Vector<N>, const MODE: u8, const N: usize, const EXACT: bool>(
+    value: &str,
+    dst: &mut [u8],
+) -> usize
+    requires some { 4 * N ≤ length value.now }
+    requires few { length value.now < 5 * N }
+    requires narrow { EXACT ≡ false → N ≤ 32 }
+    requires room { bound (mode_numbered MODE) (length value.now) ≤ length dst.old }
+    ensures { IsWritten N (mode_numbered MODE) value.now dst.old dst.new result }
+{
+    let mut target = Target::<N>::new(dst);
+    quoted_four::<V, MODE, N, EXACT>(value.as_bytes(), &mut target)
+}
+
+/// Escapes a text of as many bytes as four vectors have or more, and fewer than five have, to the front of `dst`,
+/// and answers how many bytes it became.
+#[inline(always)]
+pub(crate) fn format_four<V: Vector<N>, const MODE: u8, const N: usize, const EXACT: bool>(
+    value: &str,
+    dst: &mut [u8],
+) -> usize
+    requires some { 4 * N ≤ length value.now }
+    requires few { length value.now < 5 * N }
+    requires narrow { EXACT ≡ false → N ≤ 32 }
+    requires room { bound (mode_numbered MODE) (length value.now) ≤ length dst.old }
+    ensures written { IsWritten N (mode_numbered MODE) value.now dst.old dst.new result }
+    ensures headline { IsOnlyOutput (mode_numbered MODE) (take result dst.new) (chars value.now) }
+    ensures equal_texts { IsOfOneText (mode_numbered MODE) value.now (take result dst.new) }
+{
+    written_four::<V, MODE, N, EXACT>(value, dst)
+}

@@ -12,11 +12,11 @@ use Rattle.escape_lanes.specs.Mode.{Mode, json, html, script, mode_of}
 use Rattle.escape_lanes.specs.Replacement.{needs_escape, replacement}
 use Rattle.escape_simd.specs.Ahead.{IsCleanBetween}
 use Rattle.escape_simd.specs.Output.{inner, passed, first_replacement, begins_separator, script_inner_after}
-use Rattle.escape_simd.specs.Stretch.{rest_length}
-use Rattle.escape_simd.proofs.Lanes.{lane-step, none_set-at}
+use Rattle.escape_simd.specs.Stretch.{HoldsClean, rest_length}
+use Rattle.escape_simd.proofs.Lanes.{lane-step, none_set-at, clean_none}
 use Rattle.escape_simd.proofs.ReplacementLemmas.{replacement-clean, length-replacement, inner-nil}
 use Rattle.escape_simd.proofs.Stretches.{rest-is}
-use Rattle.escape_simd.proofs.Texts.{inner-clean, length-separator, no_separator}
+use Rattle.escape_simd.proofs.Texts.{IsClean, inner-clean, length-separator, no_separator}
 
 -- The clean front
 
@@ -62,6 +62,15 @@ clean-four mode src at n a b c d =
     (clean-on mode src (at + n) (at + n + n) (at + 4 * n) b
     (clean-on mode src (at + n + n) (at + 2 * n + n) (at + 4 * n) (λ k after before. c k (omega (arith, after)) before)
     (λ k after before. d k (omega (arith, after)) (omega (arith, before)))))
+
+-- a vector of a clean text
+pub held-clean : (mode : Mode) (src lanes : List ℕ) (at n : ℕ) → length lanes ≡ n → at + n ≤ length src → lanes ≡ take n (drop at src) → IsCleanBetween mode src 0 (length src) → HoldsClean mode n src at lanes
+held-clean mode src lanes at n long inside held clean =
+    let each : IsClean mode lanes = λ k h.
+    ap (λ xs. needs_escape mode (get_or xs k 0)) held
+    ∙ ap (needs_escape mode) (get_or-take n (drop at src) k 0 (omega (arith, long, h)) ∙ get_or-drop at src k 0)
+    ∙ clean (at + k) (omega arith) (omega (arith, long, h, inside)) in
+    record { loaded = take_all n lanes (omega (arith, long)) ∙ held; clean = clean_none mode lanes each }
 
 -- How many bytes need an escape
 

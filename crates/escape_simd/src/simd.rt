@@ -28,7 +28,7 @@ pub mod v128;
 mod vector;
 
 pub(crate) use ahead::{
-    count_or_more, is_clean, load_masked, most_between, most_of_eight, most_of_four,
+    count_or_more, is_clean, load_masked, most_between, most_of_eight, most_of_four, most_of_fours,
 };
 pub(crate) use body::escape_at;
 pub(crate) use classify::Vector;

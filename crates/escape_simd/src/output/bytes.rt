@@ -12,13 +12,14 @@ ghost use Rattle.escape_simd.specs.Stretch.{HoldsFlags, room_from};
 
 use crate::output::moving::Appends;
 use crate::output::pieces::append_many;
-use crate::output::push::{fill, push_all, push_front, push_two, push_vector};
-use crate::simd::{Vector, escape_by_masks, escape_inner, load_masked, masks_of_two, most_of_four};
+use crate::output::push::{fill, push_four, push_front, push_two, push_vector};
+use crate::simd::{
+    Vector, escape_by_masks, escape_inner, load_masked, masks_of_two, most_of_four, most_of_fours,
+};
 use escape_lanes::simd::{BitMask, Flags, LaneMask};
 use std::alloc::Allocator;
 
-/// Appends what stands for the bytes of a text shorter than four vectors, of which at most `most` need an
-/// escape.
+/// Appends what stands for the bytes of a text, of which at most `most` need an escape.
 #[inline(never)]
 fn append_flagged<
     V: Vector<N>,
@@ -101,7 +102,7 @@ fn append_few<
     let most = most_of_four::<V, MODE, N>(bytes, 0, second, third, last);
     if most != 0 {
         // The flags that were asked above: where it is built, nothing is asked again.
-        let (mask1, mask2) = masks_of_two::<V, MODE, N>(bytes);
+        let (mask1, mask2) = masks_of_two::<V, MODE, N>(bytes, second);
         return append_by_masks::<V, A, MODE, N, CHUNK, EXACT>(bytes, mask1, mask2, most, dst);
     }
     // The last ones go over what those before them have of the same bytes.
@@ -162,6 +163,38 @@ pub(super) fn append_short<
     append_few::<V, A, MODE, N, CHUNK, EXACT>(bytes, dst);
 }
 
+/// Appends what stands for the bytes of a text of four vectors or more, and eight at most: with no loop where
+/// none needs an escape.
+#[inline(always)]
+fn append_eight<
+    V: Vector<N>,
+    A: Allocator,
+    const MODE: u8,
+    const N: usize,
+    const CHUNK: usize,
+    const EXACT: bool,
+>(bytes: &[u8], dst: &mut Vec<u8, A>)
+    requires some { 4 * N ≤ length bytes.now }
+    requires few { length bytes.now ≤ 8 * N }
+    requires narrow { N ≤ 32 }
+    requires room { vec_len dst.old + 6 * length bytes.now + 32 ≤ vec_capacity dst.old }
+    ensures items { dst.new.items ≡ dst.old.items ++ inner (mode_numbered MODE) bytes.now }
+    ensures room { vec_len dst.new + 32 ≤ vec_capacity dst.new }
+{
+    let last = bytes.len() - 4 * N;
+    let most = most_of_fours::<V, MODE, N>(bytes, 0, last);
+    if most != 0 {
+        // No more bytes need an escape than there are.
+        let few = most.min(bytes.len());
+        return append_flagged::<V, A, MODE, N, CHUNK, EXACT>(bytes, few, dst);
+    }
+    // The last four go over what the first four have of the same bytes.
+    let old = dst.len();
+    push_four::<V, A, N>(dst, bytes, 0);
+    dst.truncate(old + last);
+    push_four::<V, A, N>(dst, bytes, last);
+}
+
 /// Appends what stands for the text's bytes.
 pub(crate) fn append_bytes<
     V: Appends<N>,
@@ -179,6 +212,9 @@ pub(crate) fn append_bytes<
     let bytes = value.as_bytes();
     if bytes.len() < 4 * N {
         return append_short::<V, A, MODE, N, CHUNK, EXACT>(bytes, dst);
+    }
+    if bytes.len() <= 8 * N {
+        return append_eight::<V, A, MODE, N, CHUNK, EXACT>(bytes, dst);
     }
     append_many::<V, A, MODE, N, CHUNK, EXACT>(value, dst);
 }

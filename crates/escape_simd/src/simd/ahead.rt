@@ -50,6 +50,29 @@ fn are_clean<V: Vector<N>, const MODE: u8, const N: usize>(src: &[u8], at: usize
     flags1.join(&flags2).join(&flags3.join(&flags4)).none()
 }
 
+/// Whether no byte of a text of one to four vectors needs an escape.
+///
+/// Its first vector is asked, its last one, and what these leave between them. The last one may go over the one
+/// before.
+#[inline(always)]
+pub(crate) fn is_clean_few<V: Vector<N>, const MODE: u8, const N: usize>(src: &[u8]) -> bool
+    requires some { N ≤ length src.now }
+    requires few { length src.now ≤ 4 * N }
+    ensures { result ≡ true → IsCleanBetween (mode_numbered MODE) src.now 0 (length src.now) }
+{
+    let last = src.len() - N;
+    let first = flags_at::<V, MODE, N>(src, 0);
+    let two = first.join(&flags_at::<V, MODE, N>(src, last));
+    if last <= N {
+        return two.none();
+    }
+    let three = two.join(&flags_at::<V, MODE, N>(src, N));
+    if last <= 2 * N {
+        return three.none();
+    }
+    three.join(&flags_at::<V, MODE, N>(src, 2 * N)).none()
+}
+
 /// Which lanes are flagged in any of four vectors of the text. They may overlap.
 #[inline(always)]
 fn either_of_four<V: Vector<N>, const MODE: u8, const N: usize>(
@@ -98,6 +121,24 @@ pub(crate) fn most_of_four<V: Vector<N>, const MODE: u8, const N: usize>(
     4 * either.bitmask().count_set()
 }
 
+/// As [`most_of_four`], of twice four vectors of the text: those from `at` on, and those from `half` on.
+#[inline(always)]
+pub(crate) fn most_of_fours<V: Vector<N>, const MODE: u8, const N: usize>(
+    src: &[u8],
+    at: usize,
+    half: usize,
+) -> usize
+    requires inside { (at + 4 * N ≤ length src.now) × (half + 4 * N ≤ length src.now) }
+    requires on { half ≤ at + 4 * N }
+    ensures few { result ≤ 8 * N }
+    ensures most { count_by (needs_escape (mode_numbered MODE)) (take (half + 4 * N) src.now)
+        ≤ count_by (needs_escape (mode_numbered MODE)) (take at src.now) + result }
+{
+    let front = either_of_four::<V, MODE, N>(src, at, at + N, at + 2 * N, at + 3 * N);
+    let back = either_of_four::<V, MODE, N>(src, half, half + N, half + 2 * N, half + 3 * N);
+    8 * front.join(&back).bitmask().count_set()
+}
+
 /// As [`most_of_four`], of the eight vectors of the text from `at` on.
 #[inline(always)]
 pub(crate) fn most_of_eight<V: Vector<N>, const MODE: u8, const N: usize>(
@@ -109,10 +150,7 @@ pub(crate) fn most_of_eight<V: Vector<N>, const MODE: u8, const N: usize>(
     ensures most { count_by (needs_escape (mode_numbered MODE)) (take (at + 8 * N) src.now)
         ≤ count_by (needs_escape (mode_numbered MODE)) (take at src.now) + result }
 {
-    let half = at + 4 * N;
-    let front = either_of_four::<V, MODE, N>(src, at, at + N, at + 2 * N, at + 3 * N);
-    let back = either_of_four::<V, MODE, N>(src, half, half + N, half + 2 * N, half + 3 * N);
-    8 * front.join(&back).bitmask().count_set()
+    most_of_fours::<V, MODE, N>(src, at, at + 4 * N)
 }
 
 /// At most so many bytes of the text from one place up to another need an escape. Those past the last

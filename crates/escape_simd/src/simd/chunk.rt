@@ -80,17 +80,14 @@ pub(crate) fn pair<V: Vector<N>, const MODE: u8, const N: usize, const EXACT: bo
 }
 
 /// Four vectors of the text, classified at once, since most are clean. Answers the places reached.
-///
-/// `ALONE` says which of its two callers it is made for: it is so large that it is a part of a caller only where it
-/// has no other.
 #[inline(always)]
-pub(crate) fn chunk<
-    V: Vector<N>,
-    const MODE: u8,
-    const N: usize,
-    const EXACT: bool,
-    const ALONE: bool,
->(src: &[u8], at: usize, target: &mut Target<'_, N>, to: usize, ticks: &mut Ticks) -> (usize, usize)
+pub(crate) fn chunk<V: Vector<N>, const MODE: u8, const N: usize, const EXACT: bool>(
+    src: &[u8],
+    at: usize,
+    target: &mut Target<'_, N>,
+    to: usize,
+    ticks: &mut Ticks,
+) -> (usize, usize)
     requires inside { at + 4 * N ≤ length src.now }
     requires narrow { EXACT ≡ false → N ≤ 32 }
     requires room { to + room_from (mode_numbered MODE) src.now at ≤ length (bytes_of target.old) }
@@ -110,7 +107,7 @@ pub(crate) fn chunk<
     let flags3 = v3.flags(MODE, ticks);
     let flags4 = v4.flags(MODE, ticks);
     if !flags1.join(&flags2).join(&flags3.join(&flags4)).none() {
-        return four_with_runs::<V, MODE, N, EXACT, ALONE>(
+        return four_with_runs::<V, MODE, N, EXACT, false>(
             src,
             at,
             target,

@@ -102,7 +102,10 @@ pub(crate) fn two_with_runs<V: Vector<N>, const MODE: u8, const N: usize, const 
 }
 
 /// The four vectors of the text from `at` on, which have the flags of the masks. Answers the places
-/// reached. `ALONE` is that of [`chunk`](crate::simd::chunk::chunk).
+/// reached.
+///
+/// `ALONE` says which of its two callers it is made for: it is so large that it is a part of a caller only where it
+/// has no other.
 #[inline(always)]
 pub(crate) fn four_with_runs<
     V: Vector<N>,

@@ -57,7 +57,8 @@ pub(crate) fn escape_inner<
         return escape_at::<V, MODE, N, CHUNK, EXACT>(src, dst, to);
     }
     if N <= src.len() {
-        let (mask1, mask2) = masks_of_two::<V, MODE, N>(src);
+        let second = N.min(src.len() - N);
+        let (mask1, mask2) = masks_of_two::<V, MODE, N>(src, second);
         return escape_few_at::<V, MODE, N, EXACT>(src, mask1, mask2, dst, to);
     }
     escape_short_at::<V, MODE, N, EXACT>(src, dst, to)

@@ -36,7 +36,7 @@ pub(crate) fn escape_many<
     let mut at = 0;
     let mut end = to;
     'chunks: while CHUNK == 4 && 4 * N <= src.len() - at {
-        let (next, reached) = chunk::<V, MODE, N, EXACT, false>(src, at, target, end, ticks);
+        let (next, reached) = chunk::<V, MODE, N, EXACT>(src, at, target, end, ticks);
         at = next;
         end = reached;
     }

@@ -54,21 +54,36 @@ fn escape_few<V: Vector<N>, const MODE: u8, const N: usize, const EXACT: bool, c
     last_vector::<V, MODE, N, EXACT>(src, next, target, end, ticks)
 }
 
-/// Which bytes of the text's whole vectors need an escape. Where it has but one, the second mask says nothing.
+/// Which bytes of the vector of the text at `at` need an escape.
+#[inline(always)]
+pub(crate) fn mask_at<V: Vector<N>, const MODE: u8, const N: usize>(
+    src: &[u8],
+    at: usize,
+) -> <V::Flags as Flags>::BitMask
+    requires { at + N ≤ length src.now }
+    ensures { HoldsFlags (mode_numbered MODE) src.now at N at (V.Flags.BitMask.bits result) }
+{
+    V::load(src, at).flags(MODE, &mut Ticks::new()).bitmask()
+}
+
+/// Which bytes of the text's first two whole vectors need an escape. Where it has but one, the second mask is that of a
+/// vector at any place.
 #[inline(always)]
 pub(crate) fn masks_of_two<V: Vector<N>, const MODE: u8, const N: usize>(
     src: &[u8],
+    second: usize,
 ) -> (<V::Flags as Flags>::BitMask, <V::Flags as Flags>::BitMask)
     requires some { N ≤ length src.now }
+    requires inside { second + N ≤ length src.now }
+    requires second { 2 * N ≤ length src.now → second ≡ N }
     ensures flagged1 { HoldsFlags (mode_numbered MODE) src.now 0 N 0 (V.Flags.BitMask.bits result.0) }
     ensures flagged2 { 2 * N ≤ length src.now
         → HoldsFlags (mode_numbered MODE) src.now N N N (V.Flags.BitMask.bits result.1) }
 {
-    let mut ticks = Ticks::new();
-    let mask1 = V::load(src, 0).flags(MODE, &mut ticks).bitmask();
-    let second = N.min(src.len() - N);
-    let mask2 = V::load(src, second).flags(MODE, &mut ticks).bitmask();
-    (mask1, mask2)
+    (
+        mask_at::<V, MODE, N>(src, 0),
+        mask_at::<V, MODE, N>(src, second),
+    )
 }
 
 /// Escapes the bytes, of whose whole vectors the masks have the flags, to `dst` from `to` on, with no quotation

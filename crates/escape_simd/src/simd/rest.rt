@@ -13,7 +13,8 @@ use escape_lanes::simd::target::{Target, Ticks};
 
 /// The text's last bytes, fewer than a vector has, if any. Answers the place reached.
 ///
-/// An empty text is a vector of zeros, as where a short text has no way for itself (`short.rt`).
+/// Of an empty text a vector of zeros is stored: a short text is not asked whether it is empty (`short.rt`), and all calls
+/// leave the same bytes past the count.
 #[inline(always)]
 pub(crate) fn last_vector<V: Vector<N>, const MODE: u8, const N: usize, const EXACT: bool>(
     src: &[u8],

@@ -7,3 +7,9 @@ returns-clause-headline g c = IsOnlyOutput-output _ _ _ (search rules) c.utf8.va
 
 pub returns-clause-equal_texts : goal.returns-clause-equal_texts
 returns-clause-equal_texts g c = IsOfOneText-output _ _ _ (search rules) c.utf8.value
+
+pub returns-then-last-clause-headline : goal.returns-then-last-clause-headline
+returns-then-last-clause-headline g c = IsOnlyOutput-output _ _ _ (search rules) c.utf8.value
+
+pub returns-then-last-clause-equal_texts : goal.returns-then-last-clause-equal_texts
+returns-then-last-clause-equal_texts g c = IsOfOneText-output _ _ _ (search rules) c.utf8.value

@@ -7,3 +7,9 @@ returns-clause-headline g c = IsOnlyOutput-output _ _ _ (search rules) c.utf8.va
 
 pub returns-clause-equal_texts : goal.returns-clause-equal_texts
 returns-clause-equal_texts g c = IsOfOneText-output _ _ _ (search rules) c.utf8.value
+
+pub returns-then-is_clean_few-clause-headline : goal.returns-then-is_clean_few-clause-headline
+returns-then-is_clean_few-clause-headline g c = IsOnlyOutput-output _ _ _ (search rules) c.utf8.value
+
+pub returns-then-is_clean_few-clause-equal_texts : goal.returns-then-is_clean_few-clause-equal_texts
+returns-then-is_clean_few-clause-equal_texts g c = IsOfOneText-output _ _ _ (search rules) c.utf8.value

@@ -9,7 +9,7 @@ pub escape_four-close-requires : goal.escape_four-close-requires
 escape_four-close-requires g c =
     let mode = mode_numbered g.row.MODE in let src : List ℕ = c.args.src.now in let r = c.requires in
     let b = bound-quotes mode (length src) in let q = quote-short mode in let o = c.quote-open.ensures in let long = rest-bounds mode src 0 in
-    (omega arith, (r.some, (r.few, (r.narrow, omega (arith, b, q, long, o.end, o.same_slice.len, r.room)))))
+    (omega arith, (r.some, (r.few, (r.narrow, (r.flagged1, (r.flagged2, omega (arith, b, q, long, o.end, o.same_slice.len, r.room)))))))
 
 pub quote-requires : goal.quote-requires
 quote-requires g c =

@@ -3,6 +3,7 @@ pub mod ReplacementLemmas
 pub mod Texts
 pub mod Stretches
 pub mod Lanes
+pub mod AsItIs
 pub mod Costs
 pub mod Whole
 pub mod Escapes

@@ -134,6 +134,12 @@ pub record IsStored {N : ℕ} (exact : Bool) (src : List ℕ) (old new : Target 
   pub escaped : escaped_of new ≡ escaped_of old
   pub quotes : quotes_of new ≡ quotes_of old
 
+-- What is written of a text from `start` up to `to` has no fewer bytes than were passed of it; where it has as many, it is
+-- these bytes.
+pub record IsWrittenUpTo {N : ℕ} (src : List ℕ) (target : Target N) (at start to : ℕ) : Type 0 where
+  pub least : start + at ≤ to
+  pub as_it_is : to ≡ start + at → take at (drop start (bytes_of target)) ≡ take at src
+
 -- the text's clean bytes from `from` on, as far as the border, stand in a target from `to` on
 abbrev pub CleanAhead : {N : ℕ} → Mode → List ℕ → Target N → ℕ → ℕ → ℕ → Type 0
 CleanAhead mode src target from border to = (count : ℕ) → from + count ≤ border → ((p : ℕ) → from ≤ p → p < from + count → needs_escape mode (slice_index src p) ≡ false)

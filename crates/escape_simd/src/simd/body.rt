@@ -1,5 +1,5 @@
 //! The body of all kernels: a text's bytes between quotation marks.
-ghost use Rattle.std.specs.Prelude.{◌≡◌, ◌+◌, ◌-◌, ◌*◌, ◌/◌, ◌<◌, ◌≤◌, ◌++◌, false, true, length, take, drop, chars};
+ghost use Rattle.std.specs.Prelude.{◌≡◌, ◌+◌, ◌<◌, ◌≤◌, ◌++◌, false, length, take, drop, chars};
 ghost use Rattle.escape_lanes.specs.Mode.{mode_of};
 ghost use Rattle.escape_lanes.specs.Written.{bytes_of, stored_of, escaped_of, quotes_of, IsSameSlice};
 ghost use Rattle.escape_simd.specs.Modes.{mode_numbered};
@@ -7,12 +7,9 @@ ghost use Rattle.escape_simd.specs.Output.{bound, quote_of};
 ghost use Rattle.escape_simd.specs.Formatted.{IsFormatted, IsInnerAt, IsWritten};
 ghost use Rattle.escape_simd.specs.Headline.{IsOnlyOutput};
 ghost use Rattle.escape_simd.specs.Laws.{IsOfOneText};
-ghost use Rattle.escape_simd.specs.Runs.{run_count};
-ghost use Rattle.escape_simd.specs.Stretch.{Stretch, room_from, rest_slack};
+ghost use Rattle.escape_simd.specs.Stretch.{room_from, rest_slack};
 
-use crate::simd::ahead::is_clean_few;
 use crate::simd::classify::{HTML_MODE, JSON_MODE, Vector};
-use crate::simd::clean::pass_few;
 use crate::simd::many::escape_many;
 use escape_lanes::simd::target::{Target, Ticks};
 
@@ -57,39 +54,6 @@ pub(crate) fn quote<const MODE: u8, const N: usize>(target: &mut Target<'_, N>, 
     to
 }
 
-/// Whether a text of `len` bytes, where it is clean, is stored by whole vectors that may overlap: one that has fewer
-/// bytes than three have, or as many as four that are asked at once.
-#[inline(always)]
-fn is_few<const N: usize, const CHUNK: usize>(len: usize) -> bool
-    requires { N ≤ 64 }
-    ensures { result ≡ true → (N ≤ len) × (len ≤ 4 * N) }
-{
-    N <= len && (len < 3 * N || CHUNK == 4 && len == 4 * N)
-}
-
-/// Escapes the bytes of a whole text to the target from `to` on, and answers the place reached. It goes by its length,
-/// as where the target is made over a slice (`string.rt`), so that the bytes past the output are the same.
-#[inline(always)]
-fn escape_text<V: Vector<N>, const MODE: u8, const N: usize, const CHUNK: usize, const EXACT: bool>(
-    src: &[u8],
-    target: &mut Target<'_, N>,
-    to: usize,
-    ticks: &mut Ticks,
-) -> usize
-    requires narrow { EXACT ≡ false → N ≤ 32 }
-    requires room { to + room_from (mode_numbered MODE) src.now 0 ≤ length (bytes_of target.old) }
-    ensures stretch { Stretch (mode_numbered MODE) (rest_slack EXACT N) src.now
-        target.old target.new 0 (length src.now) to result }
-    ensures stored { stored_of target.new
-        ≤ stored_of target.old + run_count (mode_numbered MODE) src.now + length src.now / N + 1 }
-    ensures classified { ticks.new + stored_of target.old ≡ ticks.old + stored_of target.new }
-{
-    if is_few::<N, CHUNK>(src.len()) && is_clean_few::<V, MODE, N>(src) {
-        return pass_few::<V, MODE, N>(src, target, to, ticks);
-    }
-    escape_many::<V, MODE, N, CHUNK, EXACT>(src, target, to, ticks)
-}
-
 /// Escapes the text to the front of the target, and answers how many bytes it became.
 ///
 /// `CHUNK` says how many vectors are classified at once: four (and two of those that are left), two or
@@ -110,7 +74,7 @@ pub(crate) fn quoted<
 {
     let open = quote::<MODE, N>(target, 0);
     let bytes = value.as_bytes();
-    let close = escape_text::<V, MODE, N, CHUNK, EXACT>(bytes, target, open, ticks);
+    let close = escape_many::<V, MODE, N, CHUNK, EXACT>(bytes, target, open, ticks);
     quote::<MODE, N>(target, close)
 }
 

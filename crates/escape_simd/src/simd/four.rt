@@ -44,7 +44,7 @@ fn escape_four<V: Vector<N>, const MODE: u8, const N: usize, const EXACT: bool>(
     let (next, end) = four_with_runs::<V, MODE, N, EXACT, true>(
         src, 0, target, to, mask1, mask2, mask3, mask4, ticks,
     );
-    last_vector::<V, MODE, N, EXACT>(src, next, target, end, ticks)
+    last_vector::<V, MODE, N, EXACT>(src, next, target, to, end, ticks)
 }
 
 /// Writes the text, of whose first two vectors the masks have the flags, between quotation marks to the front of the target.

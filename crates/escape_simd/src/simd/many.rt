@@ -50,5 +50,5 @@ pub(crate) fn escape_many<
         at = next;
         end = reached;
     }
-    last_vector::<V, MODE, N, EXACT>(src, at, target, end, ticks)
+    last_vector::<V, MODE, N, EXACT>(src, at, target, to, end, ticks)
 }

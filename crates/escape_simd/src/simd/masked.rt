@@ -51,7 +51,7 @@ fn escape_few<V: Vector<N>, const MODE: u8, const N: usize, const EXACT: bool, c
     let (next, end) = vector_at_end::<V, MODE, N, EXACT>(
         src, at, N, from, target, end, &v, &mask, ticks,
     );
-    last_vector::<V, MODE, N, EXACT>(src, next, target, end, ticks)
+    last_vector::<V, MODE, N, EXACT>(src, next, target, to, end, ticks)
 }
 
 /// Which bytes of the vector of the text at `at` need an escape.

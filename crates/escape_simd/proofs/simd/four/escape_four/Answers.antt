@@ -1,6 +1,7 @@
 use Rattle.std.proofs.Common.{ℕ, List, subst, arith}
 use Rattle.escape_simd.specs.Modes.{mode_numbered}
 use Rattle.escape_simd.specs.Stretch.{HoldsFlags}
+use Rattle.escape_simd.proofs.AsItIs.{written_up_to}
 use Rattle.escape_simd.proofs.Stretches.{onward}
 use Rattle.escape_simd.proofs.simd.four.escape_four.Goals as goal
 
@@ -16,7 +17,7 @@ four_with_runs-next-requires g c =
 pub last_vector-requires : goal.last_vector-requires
 last_vector-requires g c =
     let r = c.requires in let s = c.four_with_runs-next.ensures.stretch in
-    (omega arith, (s.inside, (omega (arith, c.four_with_runs-next.ensures.passed.whole, r.few), (r.narrow, omega (arith, s.limit, s.same_slice.len, r.room)))))
+    (omega arith, (s.inside, (omega (arith, c.four_with_runs-next.ensures.passed.whole, r.few), (r.narrow, (written_up_to s (omega (arith, r.room)), omega (arith, s.limit, s.same_slice.len, r.room))))))
 
 pub returns : goal.returns
 returns g c = record { stretch = onward c.four_with_runs-next.ensures.stretch c.last_vector.ensures.stretch }

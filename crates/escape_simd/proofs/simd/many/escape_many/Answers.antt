@@ -3,6 +3,7 @@ use denote.Param.{number, value_of}
 use Rattle.escape_lanes.specs.Written.{stored_of}
 use Rattle.escape_simd.specs.Modes.{mode_numbered}
 use Rattle.escape_simd.specs.Stretch.{rest_slack}
+use Rattle.escape_simd.proofs.AsItIs.{written_up_to}
 use Rattle.escape_simd.proofs.Stretches.{standing, onward}
 use Rattle.escape_simd.proofs.Costs.{paid-onward, paid-nothing, whole-vectors}
 use Rattle.escape_simd.proofs.simd.many.escape_many.Goals as goal
@@ -48,6 +49,11 @@ vectors-preserved g c =
       stretch = onward inv.stretch e.stretch;
       paid = paid-onward (omega (arith, several)) inv.stretch.forward e.stretch.forward inv.paid e.paid;
     }
+
+pub last_vector-requires : goal.last_vector-requires
+last_vector-requires g c =
+    let r = c.requires in let s = c.vectors.invariant.stretch in
+    (omega arith, (s.inside, (omega (arith, c.vectors-test.false, s.inside), (r.narrow, (written_up_to s (omega (arith, r.room)), omega (arith, s.limit, s.same_slice.len, r.room))))))
 
 pub returns-clause-stretch : goal.returns-clause-stretch
 returns-clause-stretch g c = onward c.vectors.invariant.stretch c.last_vector.ensures.stretch

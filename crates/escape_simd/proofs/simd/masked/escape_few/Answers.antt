@@ -1,8 +1,9 @@
-use Rattle.std.proofs.Common.{ℕ, ◌+◌, ◌≤◌, not, nat_eq, List, length, subst, sym, ap, ◌∙◌, arith}
+use Rattle.std.proofs.Common.{ℕ, ◌+◌, ◌<◌, ◌≤◌, not, nat_eq, List, length, subst, sym, ap, ◌∙◌, arith}
 use denote.Param.{number, value_of}
 use Rattle.escape_lanes.specs.Written.{bytes_of}
 use Rattle.escape_simd.specs.Modes.{mode_numbered}
 use Rattle.escape_simd.specs.Stretch.{Stretch, HoldsFlags, Passed, room_from, rest_slack}
+use Rattle.escape_simd.proofs.AsItIs.{written_up_to}
 use Rattle.escape_simd.proofs.Stretches.{onward, widened, standing, ended}
 use Rattle.escape_simd.proofs.Lanes.{passed-vector, none-before, loaded-front}
 use Rattle.escape_simd.proofs.RestLemmas.{rest-slack-some}
@@ -20,6 +21,24 @@ returns g c =
       | else-src w ↦ subst (λ t. Stretch {N = n} mode slack src c.args.target.now t 0 c.if-src.from c.args.to c.if-src.end) (sym w.target-is) (ended (standing mode slack src c.args.target.now 0 c.args.to (omega arith)) (sym w.from-is) (sym w.end-is))
     ] in
     record { stretch = onward first (onward c.vector_at_end-next.ensures.stretch c.last_vector.ensures.stretch) }
+
+pub last_vector-requires : goal.last_vector-requires
+last_vector-requires g c =
+    let mode = mode_numbered g.row.MODE in let n : ℕ = g.row.N in let src : List ℕ = c.args.src.now in let r = c.requires in
+    let slack : ℕ = rest_slack (not (nat_eq (value_of (number g.row.EXACT)) 0)) n in
+    let some = rest-slack-some (not (nat_eq (value_of (number g.row.EXACT)) 0)) n g.met.V.Vector.several in
+    let first : Stretch {N = n} mode slack src c.args.target.now c.if-src.target 0 c.if-src.from c.args.to c.if-src.end =
+    elim c.if-src.branch [
+      | then-src w ↦ subst (λ t. Stretch {N = n} mode slack src c.args.target.now t 0 c.if-src.from c.args.to c.if-src.end) (sym w.target-is) (ended (widened slack some w.flagged_vector-next.ensures.stretch) (sym w.from-is) (sym w.end-is))
+      | else-src w ↦ subst (λ t. Stretch {N = n} mode slack src c.args.target.now t 0 c.if-src.from c.args.to c.if-src.end) (sym w.target-is) (ended (standing mode slack src c.args.target.now 0 c.args.to (omega arith)) (sym w.from-is) (sym w.end-is))
+    ] in
+    let whole = c.vector_at_end-next.ensures.passed.whole in
+    let few : length src < c.vector_at_end-next.result.0 + n = elim c.if-src.branch [
+      | then-src w ↦ omega (arith, w.at-is, whole, r.few)
+      | else-src w ↦ omega (arith, w.at-is, whole, w.if-src.false)
+    ] in
+    let s = onward first c.vector_at_end-next.ensures.stretch in
+    (omega arith, (s.inside, (few, (r.narrow, (written_up_to s (omega (arith, r.room)), omega (arith, s.limit, s.same_slice.len, r.room))))))
 
 pub vector_at_end-next-requires : goal.vector_at_end-next-requires
 vector_at_end-next-requires g c =

@@ -8,6 +8,7 @@ mod body;
 mod chunk;
 mod classify;
 mod clean;
+mod count;
 mod entry;
 mod few;
 mod flagged;
@@ -27,12 +28,11 @@ pub mod util;
 pub mod v128;
 mod vector;
 
-pub(crate) use ahead::{
-    count_or_more, is_clean, load_masked, most_between, most_of_eight, most_of_four, most_of_fours,
-};
+pub(crate) use ahead::{load_masked, most_between, most_of_eight, most_of_four, most_of_fours};
 pub(crate) use body::escape_at;
 pub(crate) use classify::Vector;
 pub use classify::{HTML_MODE, JSON_MODE, SCRIPT_MODE};
+pub(crate) use count::{count_or_more, is_clean};
 pub use escape_lanes::simd::{
     BitMask, Flags, LaneMask, LoadLast, Mask, MoveDown, Simd, bits, target,
 };

@@ -14,7 +14,7 @@ use escape_lanes::simd::target::{Target, Ticks};
 /// Nothing is left of it where it is built. With the classifiers in them its callers would be too large for the
 /// toolchain to inline, and the body with them.
 #[inline]
-fn classify_again<V: Vector<N>, const MODE: u8, const N: usize>(v: &V, ticks: &mut Ticks)
+pub(crate) fn classify_again<V: Vector<N>, const MODE: u8, const N: usize>(v: &V, ticks: &mut Ticks)
     ensures { ticks.new ≡ ticks.old + 1 }
 {
     let _ = v.flags(MODE, ticks);

@@ -8,6 +8,7 @@ ghost use Rattle.escape_simd.specs.Output.{bound};
 ghost use Rattle.escape_simd.specs.Formatted.{IsWritten};
 ghost use Rattle.escape_simd.specs.Stretch.{Stretch, HoldsFlags};
 
+use crate::simd::again::classify_again;
 use crate::simd::body::quote;
 use crate::simd::classify::Vector;
 use crate::simd::last::pass_rest;
@@ -40,8 +41,7 @@ pub(crate) fn quoted_one<V: Vector<N>, const MODE: u8, const N: usize, const EXA
     quote::<MODE, N>(target, close)
 }
 
-/// Stores the vector of the text at `at`, which is clean, and classifies it for its tick: where it is built, nothing is
-/// asked again.
+/// Stores the vector of the text at `at`, which is clean, and classifies it for its tick.
 #[inline(always)]
 fn pass_at<V: Vector<N>, const MODE: u8, const N: usize>(
     src: &[u8],
@@ -60,7 +60,7 @@ fn pass_at<V: Vector<N>, const MODE: u8, const N: usize>(
     ensures tick { ticks.new ≡ ticks.old + 1 }
 {
     let v = V::load(src, at);
-    let _ = v.flags(MODE, ticks);
+    classify_again::<V, MODE, N>(&v, ticks);
     pass::<V, MODE, N>(src, at, target, to, &v);
 }
 

@@ -65,7 +65,26 @@ fn quoted_flagged<V: Vector<N>, const MODE: u8, const N: usize, const EXACT: boo
     quote::<MODE, N>(target, close)
 }
 
-/// The text, some of whose bytes the mask flags, to the front of `dst`, in a function of its own.
+/// The text, some of whose bytes the mask flags, to the front of `dst`.
+#[inline(always)]
+fn written_flagged<V: Vector<N>, const MODE: u8, const N: usize, const EXACT: bool>(
+    value: &str,
+    dst: &mut [u8],
+    mask: &<V::Flags as Flags>::BitMask,
+) -> usize
+    requires some { 0 < length value.now }
+    requires few { length value.now < N }
+    requires narrow { EXACT ≡ false → N ≤ 32 }
+    requires flagged { HoldsFlags (mode_numbered MODE) value.now 0 (length value.now) 0
+        (V.Flags.BitMask.bits mask.now) }
+    requires room { bound (mode_numbered MODE) (length value.now) ≤ length dst.old }
+    ensures { IsWritten N (mode_numbered MODE) value.now dst.old dst.new result }
+{
+    let mut target = Target::<N>::new(dst);
+    quoted_flagged::<V, MODE, N, EXACT>(value.as_bytes(), mask, &mut target)
+}
+
+/// As [`written_flagged`], in a function of its own.
 #[inline(never)]
 fn format_flagged<V: Vector<N>, const MODE: u8, const N: usize, const EXACT: bool>(
     value: &str,
@@ -80,8 +99,7 @@ fn format_flagged<V: Vector<N>, const MODE: u8, const N: usize, const EXACT: boo
     requires room { bound (mode_numbered MODE) (length value.now) ≤ length dst.old }
     ensures { IsWritten N (mode_numbered MODE) value.now dst.old dst.new result }
 {
-    let mut target = Target::<N>::new(dst);
-    quoted_flagged::<V, MODE, N, EXACT>(value.as_bytes(), &mask, &mut target)
+    written_flagged::<V, MODE, N, EXACT>(value, dst, &mask)
 }
 
 /// The text to the front of `dst`.
@@ -101,6 +119,11 @@ fn written_short<
     let src = value.as_bytes();
     let (v, mask) = load_rest::<V, MODE, N>(src, 0, &mut Ticks::new());
     if !mask.all_zero() {
+        // A jump from this test to another function would leave the upper halves of wide registers in
+        // use, and some processors let the caller wait for that: a hundred nanoseconds for each call.
+        if 16 < N && !EXACT {
+            return written_flagged::<V, MODE, N, EXACT>(value, dst, &mask);
+        }
         return format_flagged::<V, MODE, N, EXACT>(value, dst, mask);
     }
     let mut target = Target::<N>::new(dst);

@@ -12,3 +12,12 @@ format_flagged-requires g c =
     let flagged = subst (λ xs. HoldsFlags mode xs 0 (length c.args.value.now) 0 bits) c.as_bytes-src.ensures.value (subst (λ k. HoldsFlags mode c.as_bytes-src.result.now 0 k 0 bits) all l.flagged) in
     let some = held-some mode c.args.value.now 0 (length c.args.value.now) 0 bits flagged (sym c.all_zero.ensures ∙ c.if-not-all_zero.true) in
     record { some = some; few = r.few; narrow = r.narrow; flagged = flagged; room = r.room }
+
+pub written_flagged-requires : goal.written_flagged-requires
+written_flagged-requires g c =
+    let mode = mode_numbered g.row.MODE in let r = c.requires in let l = c.load_rest-v.ensures in
+    let bits = g.V.Flags.BitMask.BitMask.bits c.load_rest-v.result.1 in
+    let all : length c.as_bytes-src.result.now - 0 ≡ length c.args.value.now = omega (arith, ap length c.as_bytes-src.ensures.value) in
+    let flagged = subst (λ xs. HoldsFlags mode xs 0 (length c.args.value.now) 0 bits) c.as_bytes-src.ensures.value (subst (λ k. HoldsFlags mode c.as_bytes-src.result.now 0 k 0 bits) all l.flagged) in
+    let some = held-some mode c.args.value.now 0 (length c.args.value.now) 0 bits flagged (sym c.all_zero.ensures ∙ c.if-not-all_zero.true) in
+    record { some = some; few = r.few; narrow = r.narrow; flagged = flagged; room = r.room }

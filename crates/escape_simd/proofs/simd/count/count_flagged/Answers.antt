@@ -3,7 +3,7 @@ use Rattle.std.proofs.lemmas.List.Sums.{count_by-le-length}
 use Rattle.escape_lanes.specs.Replacement.{needs_escape}
 use Rattle.escape_simd.specs.Modes.{mode_numbered}
 use Rattle.escape_simd.proofs.AheadLemmas.{count-last, count-few}
-use Rattle.escape_simd.proofs.simd.ahead.count_flagged.Goals as goal
+use Rattle.escape_simd.proofs.simd.count.count_flagged.Goals as goal
 
 pub overflow_add-count : goal.overflow_add-count
 overflow_add-count g c =

@@ -3,7 +3,7 @@ use Rattle.std.specs.List.{count_by}
 use Rattle.escape_lanes.specs.Replacement.{needs_escape}
 use Rattle.escape_simd.specs.Modes.{mode_numbered}
 use Rattle.escape_simd.proofs.AheadLemmas.{count-clean}
-use Rattle.escape_simd.proofs.simd.ahead.count_four.Goals as goal
+use Rattle.escape_simd.proofs.simd.count.count_four.Goals as goal
 
 pub returns-then-are_clean : goal.returns-then-are_clean
 returns-then-are_clean g c =

@@ -2,7 +2,7 @@ use Rattle.std.proofs.Common.{ℕ, ◌-◌, List, length, arith}
 use Rattle.escape_lanes.specs.Replacement.{needs_escape}
 use Rattle.escape_simd.specs.Modes.{mode_numbered}
 use Rattle.escape_simd.proofs.AheadLemmas.{three-all, three-most}
-use Rattle.escape_simd.proofs.simd.ahead.count_three.Goals as goal
+use Rattle.escape_simd.proofs.simd.count.count_three.Goals as goal
 
 pub returns-clause-all : goal.returns-clause-all
 returns-clause-all g c =

@@ -2,7 +2,7 @@ use Rattle.std.proofs.Common.{◌≡◌, ◌-◌, ◌≤◌, length, take}
 use Rattle.std.specs.List.{count_by}
 use Rattle.escape_lanes.specs.Replacement.{needs_escape}
 use Rattle.escape_simd.specs.Modes.{mode_numbered}
-use Rattle.escape_simd.proofs.simd.ahead.count_flagged.Given as goal
+use Rattle.escape_simd.proofs.simd.count.count_flagged.Given as goal
 
 -- the bytes passed are counted
 abbrev pub invariant-chunks : goal.invariant-chunks

@@ -4,7 +4,7 @@ use Rattle.std.proofs.lemmas.Bool.Decides.{eqb_tells}
 use Rattle.escape_lanes.specs.Replacement.{needs_escape}
 use Rattle.escape_simd.specs.Modes.{mode_numbered}
 use Rattle.escape_simd.proofs.AheadLemmas.{count-front}
-use Rattle.escape_simd.proofs.simd.ahead.is_clean.Goals as goal
+use Rattle.escape_simd.proofs.simd.count.is_clean.Goals as goal
 
 -- a number that isn't zero
 some-counted : (n : ℕ) → nat_eq n 0 ≡ false → 0 < n

@@ -3,7 +3,7 @@ use Rattle.std.proofs.lemmas.List.Sums.{count_by-le-length}
 use Rattle.escape_lanes.specs.Replacement.{needs_escape}
 use Rattle.escape_simd.specs.Modes.{mode_numbered}
 use Rattle.escape_simd.proofs.AheadLemmas.{count-more}
-use Rattle.escape_simd.proofs.simd.ahead.count_at.Goals as goal
+use Rattle.escape_simd.proofs.simd.count.count_at.Goals as goal
 
 pub returns-clause-few : goal.returns-clause-few
 returns-clause-few g c =

@@ -71,7 +71,7 @@ fn is_right_by(
 
 #[test]
 fn letters_or_quotes_of_each_length(rt: HostRuntime) -> Result<(), Fail> {
-    for len in LENGTHS {
+    for len in 0..=257 {
         is_right(&rt, letters_and_quotes(rt.alloc(), len, 0, 0)?.as_str())?;
         is_right(&rt, letters_and_quotes(rt.alloc(), len, 0, len)?.as_str())?;
     }
@@ -194,6 +194,16 @@ fn an_ampersand_at_each_place(rt: HostRuntime) -> Result<(), Fail> {
 #[test]
 fn an_ellipsis_at_each_place(rt: HostRuntime) -> Result<(), Fail> {
     is_right_with(&rt, "\u{2026}")
+}
+
+/// It has a flag and stands for itself, so the rest of the text is stored as that of a clean one.
+#[test]
+fn an_ellipsis_and_letters_of_each_length(rt: HostRuntime) -> Result<(), Fail> {
+    for len in 0..=257 {
+        let text = repeated(rt.alloc(), &[(1, "\u{2026}"), (len, "a")])?;
+        is_right_in(&rt, Mode::Script, text.as_str())?;
+    }
+    Ok(())
 }
 
 #[test]

@@ -4,6 +4,7 @@ pub mod avx2;
 pub mod avx512;
 pub mod bits;
 pub mod down;
+pub mod ends;
 pub mod flags;
 mod front;
 mod halves;
@@ -19,6 +20,7 @@ pub mod traits;
 pub mod v128;
 
 pub use down::MoveDown;
+pub use ends::LoadEnds;
 pub use flags::{Flags, LaneMask};
 pub use last::LoadLast;
 pub use traits::{BitMask, Mask, Simd};

@@ -13,6 +13,7 @@ ghost use Rattle.escape_lanes.specs.Replacement.{needs_escape};
 mod script;
 
 use crate::simd::down::{self, MoveDown};
+use crate::simd::ends::{self, LoadEnds};
 use crate::simd::flags::Flags;
 use crate::simd::lanes;
 use crate::simd::last::{self, LoadLast};
@@ -192,6 +193,15 @@ impl Simd for Simd256u {
     fn le(&self, rhs: &Self) -> Mask256 {
         Mask256 {
             bits: bits(&lanes::le(&self.lanes, &rhs.lanes)),
+        }
+    }
+}
+
+impl LoadEnds for Simd256u {
+    #[inline(always)]
+    fn load_ends(src: &[u8]) -> Self {
+        Simd256u {
+            lanes: ends::ends_32(src),
         }
     }
 }

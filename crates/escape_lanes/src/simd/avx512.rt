@@ -12,6 +12,7 @@ ghost use Rattle.escape_lanes.specs.Replacement.{needs_escape};
 mod script;
 
 use crate::simd::down::{self, MoveDown};
+use crate::simd::ends::{self, LoadEnds};
 use crate::simd::flags::Flags;
 use crate::simd::lanes;
 use crate::simd::last::{self, LoadLast};
@@ -184,6 +185,15 @@ impl Simd for Simd512u {
     fn le(&self, rhs: &Self) -> Mask512 {
         Mask512 {
             bits: lanes::bits(&lanes::le(&self.lanes, &rhs.lanes)),
+        }
+    }
+}
+
+impl LoadEnds for Simd512u {
+    #[inline(always)]
+    fn load_ends(src: &[u8]) -> Self {
+        Simd512u {
+            lanes: ends::ends_64(src),
         }
     }
 }

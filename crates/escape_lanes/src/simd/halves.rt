@@ -4,6 +4,9 @@ ghost use Rattle.escape_lanes.specs.Lanes.{AreBytes};
 
 use std::simd::prelude::*;
 
+// All lanes of two vectors of 8.
+const BOTH_8: [usize; 16] = [0, 1, 2, 3, 4, 5, 6, 7, 8, 9, 10, 11, 12, 13, 14, 15];
+
 // All lanes of two vectors of 16.
 const BOTH_16: [usize; 32] = [
     0, 1, 2, 3, 4, 5, 6, 7, 8, 9, 10, 11, 12, 13, 14, 15, 16, 17, 18, 19, 20, 21, 22, 23, 24, 25,
@@ -16,6 +19,16 @@ const BOTH_32: [usize; 64] = [
     26, 27, 28, 29, 30, 31, 32, 33, 34, 35, 36, 37, 38, 39, 40, 41, 42, 43, 44, 45, 46, 47, 48, 49,
     50, 51, 52, 53, 54, 55, 56, 57, 58, 59, 60, 61, 62, 63,
 ];
+
+/// Two vectors of 8 lanes as one.
+#[inline(always)]
+pub(crate) fn both_8(low: u8x8, high: u8x8) -> u8x16
+    requires low { length low ≡ 8 }
+    requires high { length high ≡ 8 }
+    ensures { result ≡ low ++ high }
+{
+    low.shuffle(high, BOTH_8)
+}
 
 /// Two vectors of 16 lanes as one.
 #[inline(always)]

@@ -10,6 +10,7 @@ ghost use Rattle.escape_lanes.specs.Replacement.{needs_escape};
 mod script;
 
 use crate::simd::down::{self, MoveDown};
+use crate::simd::ends::{self, LoadEnds};
 use crate::simd::flags::Flags;
 use crate::simd::lanes;
 use crate::simd::last::{self, LoadLast};
@@ -180,6 +181,15 @@ impl Simd for Simd128u {
     fn le(&self, rhs: &Self) -> Mask128 {
         Mask128 {
             lanes: lanes::le(&self.lanes, &rhs.lanes),
+        }
+    }
+}
+
+impl LoadEnds for Simd128u {
+    #[inline(always)]
+    fn load_ends(src: &[u8]) -> Self {
+        Simd128u {
+            lanes: ends::ends_16(src),
         }
     }
 }

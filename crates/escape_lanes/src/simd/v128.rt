@@ -16,6 +16,7 @@ ghost use Rattle.escape_lanes.specs.Words.{lanes_of_word, lanes_of_words, words-
 mod script;
 
 use crate::simd::down::{self, MoveDown};
+use crate::simd::ends::LoadEnds;
 use crate::simd::flags::Flags;
 use crate::simd::last::{self, LoadLast};
 use crate::simd::target::Ticks;
@@ -312,6 +313,16 @@ impl Simd for Simd128u {
     fn le(&self, rhs: &Self) -> Mask128 {
         Mask128 {
             bits: bits(&le(&lanes_of(self), &lanes_of(rhs))),
+        }
+    }
+}
+
+impl LoadEnds for Simd128u {
+    #[inline(always)]
+    fn load_ends(src: &[u8]) -> Self {
+        Simd128u {
+            low: word_at(src, 0),
+            high: word_at(src, src.len() - 8),
         }
     }
 }

@@ -1,10 +1,10 @@
 -- What masks tell of a text before it is written: its clean front, and how many bytes need an escape.
-use Rattle.std.proofs.Common.{◌≡◌, ℕ, zero, suc, ◌+◌, ◌-◌, ◌*◌, ◌<◌, ◌≤◌, Bool, true, false, cond, ◌||◌, List, [], ◌∷◌, ◌++◌, length, take, drop, slice_range, get_or, map, replicate, refl, sym, ap, ◌∙◌, arith, inl, inr, length-append, length-drop, length-take, length-take-le}
+use Rattle.std.proofs.Common.{◌≡◌, ℕ, zero, suc, ◌+◌, ◌-◌, ◌*◌, ◌<◌, ◌≤◌, Bool, true, false, cond, ◌||◌, List, [], ◌∷◌, ◌++◌, length, take, drop, slice_range, get_or, map, replicate, refl, sym, ap, subst, ◌∙◌, arith, inl, inr, length-append, length-drop, length-take, length-take-le}
 use Rattle.std.specs.List.{count_by}
 use Rattle.std.proofs.Math.Seq.{take-add}
 use Rattle.std.proofs.lemmas.Bool.{cases_Bool}
 use Rattle.std.proofs.lemmas.Bool.Decides.{leb_tells}
-use Rattle.std.proofs.lemmas.List.{length-map, take-take, get_or-take, get_or-drop, get_or-map, get_or_append_left, take-append-drop, take_all, append-nil}
+use Rattle.std.proofs.lemmas.List.{length-map, take-take, get_or-take, get_or-drop, get_or-map, get_or_append_left, get_or-append_right, take-append-drop, take_all, append-nil}
 use Rattle.std.proofs.lemmas.List.Sums.{sum_by-append, sum_by-take-le, count_by-le-length}
 use Rattle.std.specs.Simd.Lanes.{zip2}
 use Rattle.escape_lanes.specs.Bits.{none_set}
@@ -13,7 +13,7 @@ use Rattle.escape_lanes.specs.Replacement.{needs_escape, replacement}
 use Rattle.escape_simd.specs.Ahead.{IsCleanBetween}
 use Rattle.escape_simd.specs.Output.{inner, passed, first_replacement, begins_separator, script_inner_after}
 use Rattle.escape_simd.specs.Stretch.{HoldsClean, rest_length}
-use Rattle.escape_simd.proofs.Lanes.{lane-step, none_set-at, clean_none}
+use Rattle.escape_simd.proofs.Lanes.{lane-step, none_set-at, clean_none, none_clean}
 use Rattle.escape_simd.proofs.ReplacementLemmas.{replacement-clean, length-replacement, inner-nil}
 use Rattle.escape_simd.proofs.Stretches.{rest-is}
 use Rattle.escape_simd.proofs.Texts.{IsClean, inner-clean, length-separator, no_separator}
@@ -62,6 +62,25 @@ clean-four mode src at n a b c d =
     (clean-on mode src (at + n) (at + n + n) (at + 4 * n) b
     (clean-on mode src (at + n + n) (at + 2 * n + n) (at + 4 * n) (λ k after before. c k (omega (arith, after)) before)
     (λ k after before. d k (omega (arith, after)) (omega (arith, before)))))
+
+-- both ends of a text no longer than they are
+pub clean-ends : (mode : Mode) (src lanes : List ℕ) (half : ℕ) → half ≤ length src → length src ≤ half + half → lanes ≡ take half src ++ drop (length src - half) src
+    → none_set (map (needs_escape mode) lanes) ≡ true → IsCleanBetween mode src 0 (length src)
+clean-ends mode src lanes half some few held none k after before =
+    let first = take half src in let last = drop (length src - half) src in
+    let l = length-take-le half src some in let m = length-drop (length src - half) src in
+    let long = length-append first last in
+    let each : IsClean mode (first ++ last) = subst (IsClean mode) held (none_clean mode lanes none) in
+    elim (leb_tells half k) [
+      | inl on ↦
+          let i : ℕ = half + (k - (length src - half)) in
+          let e : length src - half + (i - half) ≡ k = omega (arith, on.1, some, few) in
+          let at = get_or-append_right first last half i 0 l (omega arith) ∙ get_or-drop (length src - half) src (i - half) 0 ∙ ap (λ n. get_or src n 0) e in
+          sym (ap (needs_escape mode) at) ∙ each i (omega (arith, long, l, m, before, on.1, some, few))
+      | inr under ↦
+          let at = get_or_append_left first last 0 k (omega (arith, under.1, l)) ∙ get_or-take half src k 0 (omega (arith, under.1)) in
+          sym (ap (needs_escape mode) at) ∙ each k (omega (arith, long, l, m, before, under.1))
+    ]
 
 -- a vector of a clean text
 pub held-clean : (mode : Mode) (src lanes : List ℕ) (at n : ℕ) → length lanes ≡ n → at + n ≤ length src → lanes ≡ take n (drop at src) → IsCleanBetween mode src 0 (length src) → HoldsClean mode n src at lanes

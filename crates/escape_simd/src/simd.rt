@@ -9,6 +9,7 @@ mod chunk;
 mod classify;
 mod clean;
 mod count;
+mod ends;
 mod entry;
 mod few;
 mod flagged;
@@ -34,7 +35,7 @@ pub(crate) use classify::Vector;
 pub use classify::{HTML_MODE, JSON_MODE, SCRIPT_MODE};
 pub(crate) use count::{count_or_more, is_clean};
 pub use escape_lanes::simd::{
-    BitMask, Flags, LaneMask, LoadLast, Mask, MoveDown, Simd, bits, target,
+    BitMask, Flags, LaneMask, LoadEnds, LoadLast, Mask, MoveDown, Simd, bits, target,
 };
 pub(crate) use inner::{escape_by_masks, escape_inner};
 pub(crate) use masked::masks_of_two;

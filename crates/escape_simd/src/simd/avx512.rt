@@ -18,7 +18,7 @@ pub use escape_lanes::simd::avx512::{
     Flags512, Mask512, Simd512u, escaped_flags, escaped_mask, script_flags, script_mask,
 };
 use escape_lanes::simd::target::{Target, Ticks};
-use escape_lanes::simd::{LoadLast, MoveDown, Simd};
+use escape_lanes::simd::{LoadEnds, LoadLast, MoveDown, Simd};
 
 /// How many bytes half a vector has.
 const HALF: usize = 32;
@@ -44,6 +44,11 @@ impl Vector<64> for Simd512u {
     #[inline(always)]
     fn load_last(text: &[u8], count: usize) -> Self {
         <Self as LoadLast>::load_last(text, count)
+    }
+
+    #[inline(always)]
+    fn load_ends(text: &[u8]) -> Self {
+        <Self as LoadEnds>::load_ends(text)
     }
 
     #[inline(always)]

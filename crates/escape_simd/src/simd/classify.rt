@@ -1,5 +1,5 @@
 //! What the kernels' body asks of a vector.
-ghost use Rattle.std.specs.Prelude.{◌≡◌, ℕ, ◌+◌, ◌-◌, ◌<◌, ◌≤◌, ◌++◌, false, List, length, take, drop, replicate, map};
+ghost use Rattle.std.specs.Prelude.{◌≡◌, ℕ, ◌+◌, ◌-◌, ◌/◌, ◌<◌, ◌≤◌, ◌++◌, false, List, length, take, drop, replicate, map};
 ghost use Rattle.escape_lanes.specs.Replacement.{needs_escape};
 ghost use Rattle.escape_lanes.specs.Written.{bytes_of};
 ghost use Rattle.escape_simd.specs.Modes.{mode_numbered};
@@ -38,6 +38,12 @@ pub(crate) trait Vector<const N: usize>: Drop {
         requires inside { count ≤ length text.now }
         ensures { lanes result
             ≡ drop (length text.now - count) text.now ++ replicate (N - count) 0 };
+
+    /// The text's first bytes in the first half of the lanes, and its last ones in the second.
+    fn load_ends(text: &[u8]) -> Self
+        requires { N / 2 ≤ length text.now }
+        ensures { lanes result
+            ≡ take (N / 2) text.now ++ drop (length text.now - N / 2) text.now };
 
     /// The lanes from `count` on, and zeros after them.
     fn move_down(&self, count: usize) -> Self

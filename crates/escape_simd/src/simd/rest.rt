@@ -48,5 +48,8 @@ pub(crate) fn last_vector<V: Vector<N>, const MODE: u8, const N: usize, const EX
     if N <= at && to == start + at {
         return pass_over::<V, MODE, N>(src, at, &mask, target, start);
     }
+    if at == 0 && N / 2 <= src.len() {
+        return pass_rest::<V, MODE, N, true>(src, at, &v, &mask, target, to);
+    }
     pass_rest::<V, MODE, N, EXACT>(src, at, &v, &mask, target, to)
 }

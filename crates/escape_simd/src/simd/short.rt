@@ -9,9 +9,10 @@ ghost use Rattle.escape_simd.specs.Headline.{IsOnlyOutput};
 ghost use Rattle.escape_simd.specs.Laws.{IsOfOneText};
 ghost use Rattle.escape_simd.specs.Stretch.{HoldsFlags, room_from, rest_slack};
 
-use crate::simd::body::{format_many, quote};
+use crate::simd::body::quote;
 use crate::simd::classify::Vector;
 use crate::simd::clean::quoted_one;
+use crate::simd::ends::{is_clean_ends, written_all};
 use crate::simd::last::load_rest;
 use crate::simd::vector::{vector, vector_at_end};
 use escape_lanes::simd::target::{Target, Ticks};
@@ -117,6 +118,9 @@ fn written_short<
     ensures { IsWritten N (mode_numbered MODE) value.now dst.old dst.new result }
 {
     let src = value.as_bytes();
+    if N / 2 <= src.len() && is_clean_ends::<V, MODE, N>(src) {
+        return written_all::<V, MODE, N>(src, dst);
+    }
     let (v, mask) = load_rest::<V, MODE, N>(src, 0, &mut Ticks::new());
     if !mask.all_zero() {
         // A jump from this test to another function would leave the upper halves of wide registers in

@@ -15,7 +15,7 @@ pub use escape_lanes::simd::sse2::{
     Flags128, Mask128, Simd128u, escaped_flags, escaped_mask, script_flags, script_mask,
 };
 use escape_lanes::simd::target::{Target, Ticks};
-use escape_lanes::simd::{LoadLast, MoveDown, Simd};
+use escape_lanes::simd::{LoadEnds, LoadLast, MoveDown, Simd};
 
 impl Vector<16> for Simd128u {
     type Flags = Flags128;
@@ -38,6 +38,11 @@ impl Vector<16> for Simd128u {
     #[inline(always)]
     fn load_last(text: &[u8], count: usize) -> Self {
         <Self as LoadLast>::load_last(text, count)
+    }
+
+    #[inline(always)]
+    fn load_ends(text: &[u8]) -> Self {
+        <Self as LoadEnds>::load_ends(text)
     }
 
     #[inline(always)]

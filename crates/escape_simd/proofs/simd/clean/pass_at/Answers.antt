@@ -5,5 +5,6 @@ use Rattle.escape_simd.proofs.simd.clean.pass_at.Goals as goal
 
 pub pass-requires : goal.pass-requires
 pass-requires g c =
-    let clean = held-clean (mode_numbered g.row.MODE) c.args.src.now (g.V.Vector.lanes c.load-v.result) c.args.at g.row.N (g.met.V.Vector.width c.load-v.result) c.requires.inside c.load-v.ensures c.requires.clean in
-    (omega arith, (c.requires.inside, (clean, c.requires.room)))
+    let r = c.requires in
+    let clean = held-clean (mode_numbered g.row.MODE) c.args.src.now (g.V.Vector.lanes c.args.v.now) c.args.at g.row.N (g.met.V.Vector.width c.args.v.now) r.inside r.loaded r.clean in
+    (omega arith, (r.inside, (clean, r.room)))

@@ -57,3 +57,8 @@ returns-then-to-start-clause-stretch g c =
     let slack : ℕ = rest_slack exact g.row.N in
     let over = widened slack (rest-slack-some exact g.row.N g.met.V.Vector.several) c.pass_over.ensures.stretch in
     onward_at (standing mode slack src c.args.target.now c.args.at c.args.to c.requires.inside) over refl c.if-to-start.true
+
+pub returns-then-src-clause-stretch : goal.returns-then-src-clause-stretch
+returns-then-src-clause-stretch g c =
+    let exact = not (nat_eq (value_of (number g.row.EXACT)) 0) in
+    widened (rest_slack exact g.row.N) (rest-slack-some exact g.row.N g.met.V.Vector.several) c.pass_rest.ensures.stretch

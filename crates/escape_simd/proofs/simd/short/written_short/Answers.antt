@@ -21,3 +21,6 @@ written_flagged-requires g c =
     let flagged = subst (λ xs. HoldsFlags mode xs 0 (length c.args.value.now) 0 bits) c.as_bytes-src.ensures.value (subst (λ k. HoldsFlags mode c.as_bytes-src.result.now 0 k 0 bits) all l.flagged) in
     let some = held-some mode c.args.value.now 0 (length c.args.value.now) 0 bits flagged (sym c.all_zero.ensures ∙ c.if-not-all_zero.true) in
     record { some = some; few = r.few; narrow = r.narrow; flagged = flagged; room = r.room }
+
+pub is_clean_ends-requires-clause-some : goal.is_clean_ends-requires-clause-some
+is_clean_ends-requires-clause-some g c = c.if-src.true

@@ -51,7 +51,7 @@ static void make_text(char *text, size_t length, size_t which) {
     size_t at;
     for (at = 0; at < length; at++) {
         int is_flagged = which != 0 && at % (TEXTS - which) == (size_t)which % (TEXTS - which);
-        text[at] = is_flagged ? "\"<"[at % 2] : 'a';
+        text[at] = is_flagged ? '"' : 'a';
     }
 }
 

@@ -28,6 +28,10 @@ third-inside src at begins =
       | inr within ↦ within.1
     ]
 
+-- none begins with another byte than e2
+pub other-byte : (src : List ℕ) (at : ℕ) → (get_or src at 0 ≡ 226 → ⊥) → begins_separator (drop at src) ≡ false
+other-byte src at other = let e = begins-at src at in grind (arith, nat_tests, e, other)
+
 -- its third byte, told of the text
 pub third-at : (src : List ℕ) (at : ℕ) → get_or (drop at src) 2 0 ≡ get_or src (at + 2) 0
 third-at src at = get_or-drop at src 2 0

@@ -9,6 +9,7 @@ mod chunk;
 mod classify;
 mod clean;
 mod count;
+mod each;
 mod ends;
 mod entry;
 mod few;

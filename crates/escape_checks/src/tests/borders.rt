@@ -149,15 +149,15 @@ fn byte_loop_behind_kernel(rt: HostRuntime) {
     }
 }
 
-// A vector a quarter of whose bytes need an escape is written byte by byte: so texts with one more, as
-// many and one fewer, and with what begins with e2 among them and across the borders.
+// A vector of whose bytes more than a sixth need an escape is written byte by byte: so texts with one more,
+// as many and one fewer, and with what begins with e2 among them and across the borders.
 #[test]
 fn many_escapes_in_each_width(rt: HostRuntime) -> Result<(), Fail> {
     let parts = [
         "\"a",
-        "\"aa",
-        "\"aaa",
         "\"aaaa",
+        "\"aaaaa",
+        "\"aaaaaa",
         "\"\u{2028}",
         "\u{2029}\u{2026}<",
         "\"\u{20ac}\n",
@@ -169,6 +169,19 @@ fn many_escapes_in_each_width(rt: HostRuntime) -> Result<(), Fail> {
                 let text = repeated(rt.alloc(), &[(before, "a"), (count, part), (1, "a\"a")])?;
                 is_right(&rt, text.as_str())?;
             }
+        }
+    }
+    Ok(())
+}
+
+// Many escapes are written sixteen at a time where a separator may begin with none of these: so one at each
+// place of such a text, and a character that begins as it does.
+#[test]
+fn a_separator_at_each_place_of_many_escapes(rt: HostRuntime) -> Result<(), Fail> {
+    for part in ["\u{2028}", "\u{2026}"] {
+        for place in 0..=130 {
+            let text = repeated(rt.alloc(), &[(place, "<"), (1, part), (130 - place, "<")])?;
+            is_right_in(&rt, Mode::Script, text.as_str())?;
         }
     }
     Ok(())

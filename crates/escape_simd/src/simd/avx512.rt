@@ -88,7 +88,7 @@ fn format_in_mode<const MODE: u8>(value: &str, dst: &mut [u8]) -> usize
     ensures equal_texts { IsOfOneText (mode_numbered MODE) value.now (take result dst.new) }
 {
     if value.len() < HALF {
-        return format_short::<Simd256u, MODE, 32, 2, true>(value, dst);
+        return format_short::<Simd256u, MODE, 32, true>(value, dst);
     }
     if MODE != SCRIPT_MODE && HALF + 8 <= value.len() && value.len() < 3 * HALF {
         return format_few::<Simd256u, MODE, 32, 2, true>(value, dst);

@@ -8,6 +8,7 @@ ghost use Rattle.escape_simd.specs.Runs.{run_count};
 ghost use Rattle.escape_simd.specs.Stretch.{Stretch, Paid, room_from, rest_slack};
 
 use crate::simd::classify::Vector;
+use crate::simd::each::escape_on;
 use crate::simd::flagged::{four_with_runs, last_flagged_vector, two_with_runs};
 use crate::simd::pass::{pass, pass_two};
 use crate::simd::util::run;
@@ -41,6 +42,7 @@ pub(crate) fn whole_vector<
             src, at, at, target, to, mask, ticks,
         );
         if CHUNK == 1 {
+            let (next, end) = escape_on::<MODE, N>(src, next, target, end);
             return run::<MODE, N>(src, next, target, end);
         }
         return (next, end);

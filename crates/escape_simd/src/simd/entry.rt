@@ -41,13 +41,16 @@ pub(crate) fn word<const MODE: u8>(b: u8) -> &'static [u8; 8]
     }
 }
 
+/// The byte with which each separator begins, and other characters.
+pub(crate) const SEPARATOR_LEAD: u8 = 0xe2;
+
 /// Whether a separator begins at `at`: e2 80 a8 or e2 80 a9.
 #[inline(always)]
 pub(crate) fn is_separator(src: &[u8], at: usize) -> bool
     requires { at < length src.now }
     ensures { result ≡ begins_separator (drop at src.now) }
 {
-    if src[at] != 0xe2 {
+    if src[at] != SEPARATOR_LEAD {
         return false;
     }
     if src.len() - at < 3 {

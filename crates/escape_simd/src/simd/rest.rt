@@ -15,7 +15,8 @@ use escape_lanes::simd::target::{Target, Ticks};
 /// place reached.
 ///
 /// All calls leave the same bytes past the count. So where the text stands as it is up to here, the last vector is stored
-/// whole over what the one before has of the same bytes, as `pass_few` stores it (`clean.rt`). And of an empty text a vector
+/// whole over what the one before has of the same bytes, as `pass_few` stores it (`clean.rt`). A clean text of half a vector
+/// or more, and fewer bytes than one has, is stored exactly, as by both its ends (`ends.rt`). And of an empty text a vector
 /// of zeros is stored, since a short one is not asked whether it is empty (`short.rt`).
 #[inline(always)]
 pub(crate) fn last_vector<V: Vector<N>, const MODE: u8, const N: usize, const EXACT: bool>(

@@ -1,5 +1,5 @@
-//! A text shorter than a vector, to the front of a slice: one vector stored whole where no byte needs an
-//! escape, with no stack frame for more.
+//! A text shorter than a vector, to the front of a slice: where no byte needs an escape, stored by both its ends, or one of
+//! fewer bytes than half a vector as one vector, with no stack frame for more.
 ghost use Rattle.std.specs.Prelude.{◌≡◌, ◌+◌, ◌<◌, ◌≤◌, ◌++◌, false, length, take, drop, chars};
 ghost use Rattle.escape_lanes.specs.Written.{bytes_of, IsSameSlice};
 ghost use Rattle.escape_simd.specs.Modes.{mode_numbered};
@@ -105,13 +105,10 @@ fn format_flagged<V: Vector<N>, const MODE: u8, const N: usize, const EXACT: boo
 
 /// The text to the front of `dst`.
 #[inline(always)]
-fn written_short<
-    V: Vector<N>,
-    const MODE: u8,
-    const N: usize,
-    const CHUNK: usize,
-    const EXACT: bool,
->(value: &str, dst: &mut [u8]) -> usize
+fn written_short<V: Vector<N>, const MODE: u8, const N: usize, const EXACT: bool>(
+    value: &str,
+    dst: &mut [u8],
+) -> usize
     requires few { length value.now < N }
     requires narrow { EXACT ≡ false → N ≤ 32 }
     requires room { bound (mode_numbered MODE) (length value.now) ≤ length dst.old }
@@ -136,13 +133,10 @@ fn written_short<
 
 /// Escapes a text shorter than a vector to the front of `dst`, and answers how many bytes it became.
 #[inline(always)]
-pub(crate) fn format_short<
-    V: Vector<N>,
-    const MODE: u8,
-    const N: usize,
-    const CHUNK: usize,
-    const EXACT: bool,
->(value: &str, dst: &mut [u8]) -> usize
+pub(crate) fn format_short<V: Vector<N>, const MODE: u8, const N: usize, const EXACT: bool>(
+    value: &str,
+    dst: &mut [u8],
+) -> usize
     requires few { length value.now < N }
     requires narrow { EXACT ≡ false → N ≤ 32 }
     requires room { bound (mode_numbered MODE) (length value.now) ≤ length dst.old }
@@ -150,5 +144,5 @@ pub(crate) fn format_short<
     ensures headline { IsOnlyOutput (mode_numbered MODE) (take result dst.new) (chars value.now) }
     ensures equal_texts { IsOfOneText (mode_numbered MODE) value.now (take result dst.new) }
 {
-    written_short::<V, MODE, N, CHUNK, EXACT>(value, dst)
+    written_short::<V, MODE, N, EXACT>(value, dst)
 }

@@ -30,7 +30,7 @@ pub(crate) fn format_in_mode<
     ensures equal_texts { IsOfOneText (mode_numbered MODE) value.now (take result dst.new) }
 {
     if value.len() < N {
-        return format_short::<V, MODE, N, CHUNK, EXACT>(value, dst);
+        return format_short::<V, MODE, N, EXACT>(value, dst);
     }
     if value.len() < 3 * N {
         return format_few::<V, MODE, N, CHUNK, EXACT>(value, dst);

@@ -1,4 +1,4 @@
-//! The run of escapes, and what stands for bytes many of which need one.
+//! What stands for a byte, and the run of escapes.
 ghost use Rattle.std.specs.Prelude.{◌≡◌, ℕ, ◌+◌, ◌-◌, ◌*◌, ◌<◌, ◌≤◌, ◌++◌, true, false, IsTrue, length, take, drop, slice_index, slice_range, if◌then◌else◌};
 ghost use Rattle.std.proofs.Math.Seq.{paste};
 ghost use Rattle.escape_lanes.specs.Entry.{entry_word};
@@ -8,7 +8,7 @@ ghost use Rattle.escape_lanes.specs.Written.{bytes_of, stored_of, escaped_of, qu
 ghost use Rattle.escape_simd.specs.Modes.{mode_numbered};
 ghost use Rattle.escape_simd.specs.Output.{inner, passed};
 ghost use Rattle.escape_simd.specs.Runs.{run_count};
-ghost use Rattle.escape_simd.specs.Stretch.{Stretch, run_end, rest_length, Passed, look_ahead, room_from, run_reach};
+ghost use Rattle.escape_simd.specs.Stretch.{Stretch, run_end, rest_length, look_ahead, run_reach};
 
 use crate::simd::classify::{HTML_MODE, JSON_MODE, SCRIPT_MODE};
 use crate::simd::entry::{entry, is_separator, separator_entry, word};
@@ -42,7 +42,11 @@ pub(crate) fn escape<const MODE: u8, const N: usize>(
 
 /// Writes what stands for the byte, be it an escape or the byte itself. Answers the place after it.
 #[inline(always)]
-fn put_byte<const MODE: u8, const N: usize>(b: u8, target: &mut Target<'_, N>, to: usize) -> usize
+pub(crate) fn put_byte<const MODE: u8, const N: usize>(
+    b: u8,
+    target: &mut Target<'_, N>,
+    to: usize,
+) -> usize
     requires { to + 8 ≤ length (bytes_of target.old) }
     ensures same_slice { IsSameSlice target.old target.new }
     ensures end { result ≡ to + length (replacement (mode_numbered MODE) b) }
@@ -56,40 +60,6 @@ fn put_byte<const MODE: u8, const N: usize>(b: u8, target: &mut Target<'_, N>, t
     // Whether it is an escape is for the count alone, and costs nothing.
     target.put_word(to, word, entry::<MODE>(b).0 != 0);
     to + word[7] as usize
-}
-
-/// Writes what stands for the text's bytes from `at` up to `border`, one after another, and for what of a
-/// separator goes past it. Answers the places reached.
-///
-/// No branch hangs on what the bytes are: so where many of them need an escape it is faster than a mask.
-#[inline(always)]
-pub(crate) fn escape_each<const MODE: u8, const N: usize>(
-    src: &[u8],
-    at: usize,
-    border: usize,
-    target: &mut Target<'_, N>,
-    to: usize,
-) -> (usize, usize)
-    requires some { at < border }
-    requires inside { border ≤ length src.now }
-    requires room { to + room_from (mode_numbered MODE) src.now at ≤ length (bytes_of target.old) }
-    ensures stretch { (slack : ℕ)
-        → 8 ≤ slack
-        → Stretch (mode_numbered MODE) slack src.now
-        target.old target.new at result.0 to result.1 }
-    ensures passed { Passed (mode_numbered MODE) src.now border result.0 }
-    ensures runs { run_count (mode_numbered MODE) (drop result.0 src.now)
-        ≤ run_count (mode_numbered MODE) (drop at src.now) }
-    ensures stored { stored_of target.new ≡ stored_of target.old }
-{
-    let mut next = at;
-    let mut end = to;
-    'bytes: while next < border {
-        let (after, reached) = escape::<MODE, N>(src, next, target, end);
-        next = after;
-        end = reached;
-    }
-    (next, end)
 }
 
 /// Escapes the run that is at `at`, if one is, as far as the table has it go on: with no mask and no vector.

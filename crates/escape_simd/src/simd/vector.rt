@@ -7,8 +7,8 @@ ghost use Rattle.escape_simd.specs.Stretch.{Stretch, IsHeld, IsVectorAt, IsByteW
 
 use crate::simd::again::vector_from;
 use crate::simd::classify::{SCRIPT_MODE, Vector, store};
+use crate::simd::each::escape_each;
 use crate::simd::turn::turns;
-use crate::simd::util::escape_each;
 use escape_lanes::simd::target::{Target, Ticks};
 use escape_lanes::simd::{BitMask, Flags, LaneMask};
 

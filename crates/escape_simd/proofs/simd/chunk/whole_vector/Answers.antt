@@ -47,16 +47,16 @@ pass-requires g c =
 pub returns-then-this-eq1-clause-stretch : goal.returns-then-this-eq1-clause-stretch
 returns-then-this-eq1-clause-stretch g c =
     let exact = not (nat_eq (value_of (number g.row.EXACT)) 0) in
-    onward c.last_flagged_vector-next.ensures.stretch (widened (rest_slack exact g.row.N) (rest-slack-some exact g.row.N g.met.V.Vector.several) c.run.ensures.stretch)
+    onward c.last_flagged_vector-next.ensures.stretch (widened (rest_slack exact g.row.N) (rest-slack-some exact g.row.N g.met.V.Vector.several) (onward c.escape_on-next.ensures.stretch c.run.ensures.stretch))
 
 pub returns-then-this-eq1-clause-paid : goal.returns-then-this-eq1-clause-paid
 returns-then-this-eq1-clause-paid g c =
     let several = g.met.V.Vector.several in
-    let e = c.last_flagged_vector-next.ensures in let on = c.run.ensures in
-    let v = vectors-least g.row.N (omega (arith, several)) 1 (c.run.result.0 - c.args.at) (omega (arith, e.passed.whole, on.stretch.forward)) in
+    let e = c.last_flagged_vector-next.ensures in let on = c.escape_on-next.ensures in let last = c.run.ensures in
+    let v = vectors-least g.row.N (omega (arith, several)) 1 (c.run.result.0 - c.args.at) (omega (arith, e.passed.whole, on.stretch.forward, last.stretch.forward)) in
     record {
-      stored = omega (arith, e.stored, on.stored, on.runs, v);
-      classified = omega (arith, e.classified, on.stored, c.flags-flags.ensures.tick);
+      stored = omega (arith, e.stored, on.stored, on.runs, last.stored, last.runs, v);
+      classified = omega (arith, e.classified, on.stored, last.stored, c.flags-flags.ensures.tick);
     }
 
 pub returns-clause-paid : goal.returns-clause-paid

@@ -10,7 +10,7 @@ use Rattle.escape_simd.specs.Output.{begins_separator}
 use Rattle.escape_simd.specs.Runs.{run_count}
 use Rattle.escape_simd.specs.Stretch.{look_ahead, run_reach}
 use Rattle.escape_simd.proofs.Each.{last-word, two≤escape, word-stretch, word-kept}
-use Rattle.escape_simd.proofs.Escapes.{begins-at, passed-alone}
+use Rattle.escape_simd.proofs.Escapes.{other-byte, passed-alone}
 use Rattle.escape_simd.proofs.ReplacementLemmas.{replacement-clean}
 use Rattle.escape_simd.proofs.Texts.{runs-step, run_end-here, run_end-stop, run_end-end}
 use Rattle.escape_simd.proofs.Stretches.{standing, onward, ended, drop_further}
@@ -35,13 +35,9 @@ e2_count : length (replacement script 226) ≡ 1
 unfolding replacement
 e2_count = refl
 
--- no separator begins with another byte than e2
-other_byte : (src : List ℕ) (at : ℕ) → (get_or src at 0 ≡ 226 → ⊥) → begins_separator (drop at src) ≡ false
-other_byte src at other = let e = begins-at src at in grind (arith, nat_tests, e, other)
-
--- so none begins with a byte for which two stand
+-- no separator begins with a byte for which two stand
 no_separator : (mode : Mode) (src : List ℕ) (at : ℕ) → 2 ≤ length (replacement mode (get_or src at 0)) → mode ≡ script → begins_separator (drop at src) ≡ false
-no_separator mode src at some third = other_byte src at (λ is. let one = ap₂ (λ m b. length (replacement m b)) third is ∙ e2_count in omega (arith, one, some))
+no_separator mode src at some third = other-byte src at (λ is. let one = ap₂ (λ m b. length (replacement m b)) third is ∙ e2_count in omega (arith, one, some))
 
 -- the byte's word tells how many stand for it
 told : (mode : Mode) (b : ℕ) (word : List ℕ) → word ≡ entry_word mode b → get_or word 7 0 ≡ length (replacement mode b)

@@ -1,0 +1,32 @@
+use Rattle.std.proofs.Common.{◌≡◌, ℕ, ◌-◌, ◌≤◌, drop}
+use Rattle.escape_lanes.specs.Written.{stored_of}
+use Rattle.escape_simd.specs.Modes.{mode_numbered}
+use Rattle.escape_simd.specs.Runs.{run_count}
+use Rattle.escape_simd.specs.Stretch.{Stretch}
+use Rattle.escape_simd.proofs.simd.each.put_each.Given as goal
+
+abbrev pub invariant-sixteens : goal.invariant-sixteens
+invariant-sixteens g l =
+    let mode = mode_numbered g.row.MODE in
+    record {
+      stretch : (slack : ℕ) → 8 ≤ slack → Stretch mode slack l.src l.initial.target l.target l.at l.next l.to l.end;
+      end : l.next ≤ l.border;
+      runs : run_count mode (drop l.next l.src) ≤ run_count mode (drop l.at l.src);
+      stored : stored_of l.target ≡ stored_of l.initial.target;
+    }
+
+abbrev pub decreases-sixteens : goal.decreases-sixteens
+decreases-sixteens g l = l.border - l.next
+
+abbrev pub invariant-bytes : goal.invariant-bytes
+invariant-bytes g l =
+    let mode = mode_numbered g.row.MODE in
+    record {
+      stretch : (slack : ℕ) → 8 ≤ slack → Stretch mode slack l.src l.initial.target l.target l.initial.next l.next l.initial.end l.end;
+      end : l.next ≤ l.border;
+      runs : run_count mode (drop l.next l.src) ≤ run_count mode (drop l.initial.next l.src);
+      stored : stored_of l.target ≡ stored_of l.initial.target;
+    }
+
+abbrev pub decreases-bytes : goal.decreases-bytes
+decreases-bytes g l = l.border - l.next

@@ -4,7 +4,6 @@ use crate::simd::bits::NeonBits;
 use crate::simd::target::{Target, Ticks};
 use crate::simd::{BitMask, Flags, LaneMask, Mask, Simd, avx2, avx512, neon, sse2, v128};
 use crate::tables::{HTML_CANDIDATE_TAB, HTML_HI_NIBBLE_TAB, HTML_LO_NIBBLE_TAB};
-use crate::tests::{needs_html, needs_json, needs_script};
 
 // The bytes that HTML escapes, others that share a half with one of them, and the ends.
 const ROW: [u8; 16] = [
@@ -337,88 +336,4 @@ fn flags_that_are_joined(rt: HostRuntime) {
     let one = avx512::escaped_flags::<true>(&v, &mut ticks);
     let two = avx512::escaped_flags::<true>(&w, &mut ticks);
     assert_eq!(rt; joined(&one, &two), [0, 9, 4]);
-}
-
-// Each byte in each lane, of the kernels with 16 lanes.
-#[test]
-fn every_byte_in_every_lane(rt: HostRuntime) {
-    let mut ticks = Ticks::new();
-    for b in 0..=255 {
-        for k in 0..16 {
-            let mut src = [b'a'; 16];
-            src[k] = b;
-            let expected = [
-                if needs_json(b) { k } else { 16 },
-                if needs_html(b) { k } else { 16 },
-                if needs_script(b) { k } else { 16 },
-            ];
-            let v = v128::Simd128u::loadu(&src);
-            let json = v128::escaped_mask::<false>(&v, &mut ticks).first_offset();
-            let html = v128::escaped_mask::<true>(&v, &mut ticks).first_offset();
-            let script = v128::script_mask(&v, &mut ticks).first_offset();
-            assert_eq!(rt; [json, html, script], expected, "v128: byte {b}, lane {k}");
-            let v = sse2::Simd128u::loadu(&src);
-            let json = sse2::escaped_mask::<false>(&v, &mut ticks).first_offset();
-            let html = sse2::escaped_mask::<true>(&v, &mut ticks).first_offset();
-            let script = sse2::script_mask(&v, &mut ticks).first_offset();
-            assert_eq!(rt; [json, html, script], expected, "sse2: byte {b}, lane {k}");
-            let v = neon::Simd128u::loadu(&src);
-            let json = neon::escaped_mask::<false>(&v, &mut ticks).first_offset();
-            let html = neon::escaped_mask::<true>(&v, &mut ticks).first_offset();
-            let script = neon::script_mask(&v, &mut ticks).first_offset();
-            assert_eq!(rt; [json, html, script], expected, "neon: byte {b}, lane {k}");
-        }
-    }
-}
-
-// Each byte in a lane of each half, of the wider kernels.
-#[test]
-fn every_byte_in_wide_lanes(rt: HostRuntime) {
-    let mut ticks = Ticks::new();
-    for b in 0..=255 {
-        for k in [3, 12, 21, 30] {
-            let mut src = [b'a'; 64];
-            src[k] = b;
-            let v = avx2::Simd256u::loadu(&src);
-            let json = avx2::escaped_mask::<false>(&v, &mut ticks).first_offset();
-            let html = avx2::escaped_mask::<true>(&v, &mut ticks).first_offset();
-            let script = avx2::script_mask(&v, &mut ticks).first_offset();
-            assert_eq!(rt;
-                json,
-                if needs_json(b) { k } else { 32 },
-                "byte {b}, lane {k}"
-            );
-            assert_eq!(rt;
-                html,
-                if needs_html(b) { k } else { 32 },
-                "byte {b}, lane {k}"
-            );
-            assert_eq!(rt;
-                script,
-                if needs_script(b) { k } else { 32 },
-                "byte {b}, lane {k}"
-            );
-            src[k] = b'a';
-            src[2 * k] = b;
-            let v = avx512::Simd512u::loadu(&src);
-            let json = avx512::escaped_mask::<false>(&v, &mut ticks).first_offset();
-            let html = avx512::escaped_mask::<true>(&v, &mut ticks).first_offset();
-            let script = avx512::script_mask(&v, &mut ticks).first_offset();
-            assert_eq!(rt;
-                json,
-                if needs_json(b) { 2 * k } else { 64 },
-                "byte {b}, lane {k}"
-            );
-            assert_eq!(rt;
-                html,
-                if needs_html(b) { 2 * k } else { 64 },
-                "byte {b}, lane {k}"
-            );
-            assert_eq!(rt;
-                script,
-                if needs_script(b) { 2 * k } else { 64 },
-                "byte {b}, lane {k}"
-            );
-        }
-    }
 }

@@ -20,7 +20,7 @@ first_set-before (false ∷ bs) zero h = refl
 first_set-before (false ∷ bs) (suc k) h = first_set-before bs k (omega arith)
 
 -- where some lane is set, the first one is
-first_set-here : (bs : List Bool) → none_set bs ≡ false → get_or bs (first_set bs) false ≡ true
+pub first_set-here : (bs : List Bool) → none_set bs ≡ false → get_or bs (first_set bs) false ≡ true
 unfolding first_set none_set
 first_set-here [] h = absurd (cc)
 first_set-here (true ∷ bs) h = refl

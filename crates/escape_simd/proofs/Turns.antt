@@ -1,5 +1,6 @@
 -- How far the turns of a vector have come.
-use Rattle.std.proofs.Common.{◌≡◌, ℕ, zero, suc, ◌+◌, ◌-◌, ◌<◌, ◌≤◌, Bool, true, false, true≢false, List, length, take, drop, get_or, refl, sym, ap, ◌∙◌, arith, length-take-le, length-drop}
+use Rattle.std.proofs.Common.{◌≡◌, ℕ, zero, suc, ◌+◌, ◌-◌, ◌<◌, ◌≤◌, Bool, true, false, true≢false, List, length, take, drop, get_or, refl, sym, ap, ◌∙◌, arith, length-take-le, length-drop, inl, inr}
+use Rattle.std.proofs.lemmas.Bool.Decides.{leb_tells}
 use Rattle.std.proofs.lemmas.List.{take-take, get_or-take, get_or-drop}
 use Rattle.escape_lanes.specs.Bits.{none_set}
 use Rattle.escape_lanes.specs.Mode.{Mode}
@@ -44,6 +45,15 @@ clean-each mode src from n inside clean p after before =
 pub ahead-flagged : {N : ℕ} (mode : Mode) (src : List ℕ) (target : Target N) (from border to : ℕ) → needs_escape mode (get_or src from 0) ≡ true → CleanAhead mode src target from border to
 ahead-flagged mode src target from border to needed zero within clean = refl
 ahead-flagged mode src target from border to needed (suc count) within clean = absurd (true≢false (sym needed ∙ clean from (omega arith) (omega arith)))
+
+-- where one does that is no further on than a row of bytes that stands in a target goes, the row has all clean bytes
+pub ahead-near : {N : ℕ} (mode : Mode) (src : List ℕ) (target : Target N) (from border to left next : ℕ) → from ≤ next → next ≤ from + left → needs_escape mode (get_or src next 0) ≡ true
+    → take left (drop to (bytes_of target)) ≡ take left (drop from src) → CleanAhead mode src target from border to
+ahead-near mode src target from border to left next after near needed same count within clean =
+    elim (leb_tells count left) [
+      | inl few ↦ ahead-front mode src target from (from + count) to count (omega arith) (sym (take-take count left (drop to (bytes_of target)) few.1) ∙ ap (take count) same ∙ take-take count left (drop from src) few.1) count (omega arith) clean
+      | inr over ↦ absurd (true≢false (sym needed ∙ clean next after (omega (arith, near, over.1))))
+    ]
 
 -- the rest of a separator is clean
 pub passed-clean : (mode : Mode) (src : List ℕ) (f next q : ℕ) → next ≡ f + passed mode (drop f src) → f < q → q < next → needs_escape mode (get_or src q 0) ≡ false

@@ -102,6 +102,11 @@ pub record IsVectorAt (mode : Mode) (N : ℕ) (src : List ℕ) (at taken from to
   pub before : from < at + taken
   pub room : to + room_from mode src from ≤ size
 
+-- And the mask has no lane of the bytes before `from`.
+pub record IsLeftAt (mode : Mode) (N : ℕ) (src : List ℕ) (at taken from to size : ℕ) (bits : List Bool) : Type 0 where
+  pub vector : IsVectorAt mode N src at taken from to size bits
+  pub cleared : (k : ℕ) → slice_index_or bits k false ≡ true → from ≤ at + k
+
 -- A vector holds `taken` bytes of a text from `at` on. Where it may not be the text's last one, a vector can be loaded from
 -- each of them on, and where stores are not exact, the rest of the text and a vector of 32 bytes have room for one.
 pub record IsHeld (N : ℕ) (exact last : Bool) (src : List ℕ) (at taken : ℕ) (lanes : List ℕ) : Type 0 where

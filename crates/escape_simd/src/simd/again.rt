@@ -1,13 +1,17 @@
 //! A vector that is stored again, from where a run of its escapes has ended.
 ghost use Rattle.std.specs.Prelude.{◌≡◌, ℕ, ◌+◌, ◌-◌, ◌<◌, ◌≤◌, ◌++◌, true, false, length, take, drop, replicate};
+ghost use Rattle.escape_lanes.specs.Bits.{first_set, none_set};
 ghost use Rattle.escape_lanes.specs.Written.{bytes_of, stored_of};
 ghost use Rattle.escape_simd.specs.Modes.{mode_numbered};
 ghost use Rattle.escape_simd.specs.Runs.{run_count, run_count_after};
-ghost use Rattle.escape_simd.specs.Stretch.{Stretch, IsHeld, IsVectorAt, CleanAhead};
+ghost use Rattle.escape_simd.specs.Stretch.{Stretch, IsHeld, IsLeftAt, IsStored, CanStore, CleanAhead};
 
 use crate::simd::classify::{Vector, store};
 use escape_lanes::simd::LaneMask;
 use escape_lanes::simd::target::{Target, Ticks};
+
+/// How many bytes half a vector of 64 lanes has.
+const HALF: usize = 32;
 
 /// Classifies a vector whose flags are known from the mask that is held, for the tick alone.
 ///
@@ -56,8 +60,31 @@ pub(crate) fn vector_from<V: Vector<N>, const N: usize, const LAST: bool>(
     V::load(src, from)
 }
 
+/// Whether the mask has a further lane, fewer than half a vector of 64 lanes past `lane`.
+#[inline(always)]
+fn is_next_near<M: LaneMask, const N: usize>(mask: &M, lane: usize) -> bool
+    requires inside { lane < N }
+    requires few { N ≤ 64 }
+    ensures near { result ≡ true → first_set (M.bits mask.now) < lane + HALF }
+    ensures some { result ≡ true → none_set (M.bits mask.now) ≡ false }
+    ensures wide { result ≡ true → HALF ≤ N }
+{
+    HALF < N && !mask.all_zero() && mask.first_offset() < lane + HALF
+}
+
+/// Stores the text's bytes from `from` on, as many as half a vector of 64 lanes has.
+#[inline(always)]
+fn store_half<const N: usize>(text: &[u8], from: usize, target: &mut Target<'_, N>, to: usize)
+    requires few { N ≤ 64 }
+    requires place { CanStore N true text.now from HALF to (length (bytes_of target.old)) }
+    ensures { IsStored true text.now target.old target.new from HALF to }
+{
+    target.put_front(to, &text[from..from + HALF]);
+}
+
 /// Stores the vector at `at` again from `from` on, where a run of escapes has ended, so that the clean
-/// bytes up to the next run stand in the target. Where the run goes on, nothing is stored.
+/// bytes up to the next run stand in the target. Where the run goes on, nothing is stored. Of a vector of 64 lanes half
+/// is stored where the next run begins within that.
 ///
 /// Nothing is classified to find the next run.
 #[inline(always)]
@@ -79,7 +106,7 @@ pub(crate) fn store_ahead<
     mask: &M,
     ticks: &mut Ticks,
 )
-    requires place { IsVectorAt (mode_numbered MODE) N src.now at taken from to (length (bytes_of target.old)) (M.bits mask.now) }
+    requires place { IsLeftAt (mode_numbered MODE) N src.now at taken from to (length (bytes_of target.old)) (M.bits mask.now) }
     requires held { IsHeld N EXACT LAST src.now at taken (V.lanes held.now) }
     ensures stretch { (slack : ℕ)
         → 8 ≤ slack
@@ -96,5 +123,9 @@ pub(crate) fn store_ahead<
     }
     let v = vector_from::<V, N, LAST>(src, at, taken, from, held);
     classify_again::<V, MODE, N>(&v, ticks);
+    if !LAST && is_next_near::<M, N>(mask, from - at) {
+        store_half::<N>(src, from, target, to);
+        return;
+    }
     store::<V, N>(&v, src, from, at + taken - from, EXACT, target, to);
 }

@@ -1,7 +1,8 @@
-use Rattle.std.proofs.Common.{drop, arith}
+use Rattle.std.proofs.Common.{true≢false, drop, sym, ◌∙◌, arith}
 use Rattle.escape_simd.specs.Modes.{mode_numbered}
 use Rattle.escape_simd.proofs.Texts.{runs_after-≤}
 use Rattle.escape_simd.proofs.Stretches.{onward}
+use Rattle.escape_simd.proofs.Lanes.{none_set-at}
 use Rattle.escape_simd.proofs.Turns.{border-stretch, border-runs}
 use Rattle.escape_simd.proofs.simd.turn.pass_to_border.Goals as goal
 
@@ -9,6 +10,19 @@ pub returns-then-at-taken-clause-stored : goal.returns-then-at-taken-clause-stor
 returns-then-at-taken-clause-stored g c =
     let most = runs_after-≤ (mode_numbered g.row.MODE) (drop c.args.from c.args.src.now) in
     omega (arith, most)
+
+pub store_ahead-requires : goal.store_ahead-requires
+store_ahead-requires g c =
+    let end = c.requires.place in (
+      omega arith,
+      (
+        record {
+          vector = end.clean c.if-at-taken.false;
+          cleared = λ k s. absurd (true≢false (sym s ∙ none_set-at (g.M.BitMask.bits c.args.mask.now) k end.none));
+        },
+        c.requires.held,
+      ),
+    )
 
 pub returns-clause-stretch : goal.returns-clause-stretch
 returns-clause-stretch g c slack eight narrow =

@@ -99,13 +99,16 @@ store_ahead-requires g c =
       omega arith,
       (
         record {
-          count = g.met.M.BitMask.count c.take_off-rest.result ∙ sym (g.met.M.BitMask.count c.turns.rest) ∙ inv.count;
-          flags = subst (λ bs. HoldsFlags mode src at taken after bs) (sym e) (held-rest mode src at taken after bits further (omega (arith, p.after, inv.forward, from_here)) p.inside);
-          few = p.few;
-          inside = p.inside;
-          after = later;
-          before = within;
-          room = omega (arith, s.limit, s.same_slice.len, t.limit, t.same_slice.len, p.room);
+          vector = record {
+            count = g.met.M.BitMask.count c.take_off-rest.result ∙ sym (g.met.M.BitMask.count c.turns.rest) ∙ inv.count;
+            flags = subst (λ bs. HoldsFlags mode src at taken after bs) (sym e) (held-rest mode src at taken after bits further (omega (arith, p.after, inv.forward, from_here)) p.inside);
+            few = p.few;
+            inside = p.inside;
+            after = later;
+            before = within;
+            room = omega (arith, s.limit, s.same_slice.len, t.limit, t.same_slice.len, p.room);
+          };
+          cleared = λ k s. rest-cleared mode src at taken after bits further later p.inside k (sym (ap (λ bs. get_or bs k false) e) ∙ s);
         },
         c.requires.held,
       ),

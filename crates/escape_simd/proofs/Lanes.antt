@@ -1,5 +1,6 @@
 -- What a mask tells of the text that its vector holds.
 use Rattle.std.proofs.Common.{◌≡◌, ℕ, zero, suc, ◌+◌, ◌-◌, ◌*◌, ◌<◌, ◌≤◌, Bool, true, false, true≢false, cond, ◌||◌, List, [], ◌∷◌, ◌++◌, length, take, drop, get_or, map, replicate, refl, sym, ap, subst, ◌∙◌, arith, length-take-le, length-drop, inl, inr}
+use Rattle.std.proofs.lemmas.Bool.{false_from_ne_true}
 use Rattle.std.proofs.lemmas.Bool.Decides.{leb_tells}
 use Rattle.std.proofs.lemmas.List.{length-take, length-map, get_or-take, get_or-drop, get_or-map, get_or_past, take_all, append-nil, get_or_append_left, get_or-append_right, get_or-replicate, length-replicate, take-take, take-append-le, drop-take, drop-drop}
 use Rattle.std.proofs.lemmas.List.Sums.{sum_by-append}
@@ -33,6 +34,15 @@ none_set-at [] k h = get_or_past [] k false (omega arith)
 none_set-at (true ∷ bs) k h = absurd (cc)
 none_set-at (false ∷ bs) zero h = refl
 none_set-at (false ∷ bs) (suc k) h = none_set-at bs k h
+
+-- a lane that is set, with none before it, is the first one
+pub first_set-is : (bs : List Bool) (k : ℕ) → ((i : ℕ) → get_or bs i false ≡ true → k ≤ i) → get_or bs k false ≡ true → first_set bs ≡ k
+first_set-is bs k cleared set =
+    let some = false_from_ne_true (none_set bs) (λ none. true≢false (sym set ∙ none_set-at bs k none)) in
+    elim (leb_tells (first_set bs) k) [
+      | inl to ↦ let least = cleared (first_set bs) (first_set-here bs some) in omega (arith, to.1, least)
+      | inr past ↦ absurd (true≢false (sym set ∙ first_set-before bs k past.1))
+    ]
 
 -- one lane more
 pub lane-step : (x : Bool) (xs : List Bool) → count_by (λ b. b) (x ∷ xs) ≡ cond x 1 0 + count_by (λ b. b) xs

@@ -1,5 +1,5 @@
 //! A vector that is stored again, from where a run of its escapes has ended.
-ghost use Rattle.std.specs.Prelude.{◌≡◌, ℕ, ◌+◌, ◌-◌, ◌<◌, ◌≤◌, ◌++◌, true, false, length, take, drop, replicate};
+ghost use Rattle.std.specs.Prelude.{◌≡◌, ℕ, ◌+◌, ◌-◌, ◌<◌, ◌≤◌, ◌++◌, true, false, length, take, drop, replicate, slice_index_or};
 ghost use Rattle.escape_lanes.specs.Bits.{first_set, none_set};
 ghost use Rattle.escape_lanes.specs.Written.{bytes_of, stored_of};
 ghost use Rattle.escape_simd.specs.Modes.{mode_numbered};
@@ -60,6 +60,24 @@ pub(crate) fn vector_from<V: Vector<N>, const N: usize, const LAST: bool>(
     V::load(src, from)
 }
 
+/// Whether a run goes on at `lane`, of a mask with none before it.
+#[inline(always)]
+fn goes_on<M: LaneMask, const N: usize>(mask: &M, lane: usize) -> bool
+    requires inside { lane < N }
+    requires count { length (M.bits mask.now) ≡ N }
+    requires cleared { (k : ℕ)
+        → slice_index_or (M.bits mask.now) k false ≡ true
+        → lane ≤ k }
+    ensures on { result ≡ true → slice_index_or (M.bits mask.now) lane false ≡ true }
+    ensures over { result ≡ false → slice_index_or (M.bits mask.now) lane false ≡ false }
+{
+    if N <= HALF {
+        return mask.is_set(lane);
+    }
+    // Where the next lane is has to be known in any case, and that is one question less.
+    !mask.all_zero() && mask.first_offset() == lane
+}
+
 /// Whether the mask has a further lane, fewer than half a vector of 64 lanes past `lane`.
 #[inline(always)]
 fn is_next_near<M: LaneMask, const N: usize>(mask: &M, lane: usize) -> bool
@@ -118,7 +136,7 @@ pub(crate) fn store_ahead<
         ≤ stored_of target.old + run_count_after (mode_numbered MODE) true (drop from src.now) + 1 }
     ensures classified { ticks.new + stored_of target.old ≡ ticks.old + stored_of target.new }
 {
-    if mask.is_set(from - at) {
+    if goes_on::<M, N>(mask, from - at) {
         return;
     }
     let v = vector_from::<V, N, LAST>(src, at, taken, from, held);

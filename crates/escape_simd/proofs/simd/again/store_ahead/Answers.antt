@@ -10,18 +10,18 @@ use Rattle.escape_simd.proofs.Lanes.{stored-low, first_set-here}
 use Rattle.escape_simd.proofs.Turns.{ahead-front, ahead-flagged, ahead-near}
 use Rattle.escape_simd.proofs.simd.again.store_ahead.Goals as goal
 
-pub returns-then-is_set-clause-ahead : goal.returns-then-is_set-clause-ahead
-returns-then-is_set-clause-ahead g c =
+pub returns-then-goes_on-clause-ahead : goal.returns-then-goes_on-clause-ahead
+returns-then-goes_on-clause-ahead g c =
     let mode = mode_numbered g.row.MODE in let src : List ℕ = c.args.src.now in let p = c.requires.place.vector in
     let at : ℕ = c.args.at in let from : ℕ = c.args.from in let e : at + (from - at) ≡ from = omega (arith, p.after) in
-    let needed = ap (λ k. needs_escape mode (get_or src k 0)) (sym e) ∙ (p.flags.set (from - at) (sym c.is_set.ensures ∙ c.if-is_set.true)).1 in
+    let needed = ap (λ k. needs_escape mode (get_or src k 0)) (sym e) ∙ (p.flags.set (from - at) (c.goes_on.ensures.on c.if-goes_on.true)).1 in
     ahead-flagged mode src c.args.target.now from (at + c.args.taken) c.args.to needed
 
-pub returns-then-is_set-clause-stored : goal.returns-then-is_set-clause-stored
-returns-then-is_set-clause-stored g c =
+pub returns-then-goes_on-clause-stored : goal.returns-then-goes_on-clause-stored
+returns-then-goes_on-clause-stored g c =
     let mode = mode_numbered g.row.MODE in let src : List ℕ = c.args.src.now in let p = c.requires.place.vector in
     let at : ℕ = c.args.at in let from : ℕ = c.args.from in let e : at + (from - at) ≡ from = omega (arith, p.after) in
-    let needed = ap (λ k. needs_escape mode (get_or src k 0)) (sym e) ∙ (p.flags.set (from - at) (sym c.is_set.ensures ∙ c.if-is_set.true)).1 in
+    let needed = ap (λ k. needs_escape mode (get_or src k 0)) (sym e) ∙ (p.flags.set (from - at) (c.goes_on.ensures.on c.if-goes_on.true)).1 in
     let f = first-here mode src from (omega (arith, p.before, p.inside)) needed in let n = next-here mode src from (omega (arith, p.before, p.inside)) needed in
     omega (arith, f, n)
 
@@ -44,7 +44,7 @@ pub returns-then-is_next_near-clause-stored : goal.returns-then-is_next_near-cla
 returns-then-is_next_near-clause-stored g c =
     let mode = mode_numbered g.row.MODE in let src : List ℕ = c.args.src.now in let p = c.requires.place.vector in
     let at : ℕ = c.args.at in let from : ℕ = c.args.from in let e : at + (from - at) ≡ from = omega (arith, p.after) in
-    let clear = ap (λ k. needs_escape mode (get_or src k 0)) (sym e) ∙ p.flags.unset (from - at) (sym c.is_set.ensures ∙ c.if-is_set.false) (omega (arith, p.after)) (omega (arith, p.after, p.before)) in
+    let clear = ap (λ k. needs_escape mode (get_or src k 0)) (sym e) ∙ p.flags.unset (from - at) (c.goes_on.ensures.over c.if-goes_on.false) (omega (arith, p.after)) (omega (arith, p.after, p.before)) in
     let over = runs_stop-here mode src from (omega (arith, p.before, p.inside)) clear in
     omega (arith, over, c.store_half.ensures.stored)
 
@@ -82,7 +82,7 @@ pub returns-clause-stored : goal.returns-clause-stored
 returns-clause-stored g c =
     let mode = mode_numbered g.row.MODE in let src : List ℕ = c.args.src.now in let p = c.requires.place.vector in
     let at : ℕ = c.args.at in let from : ℕ = c.args.from in let e : at + (from - at) ≡ from = omega (arith, p.after) in
-    let clear = ap (λ k. needs_escape mode (get_or src k 0)) (sym e) ∙ p.flags.unset (from - at) (sym c.is_set.ensures ∙ c.if-is_set.false) (omega (arith, p.after)) (omega (arith, p.after, p.before)) in
+    let clear = ap (λ k. needs_escape mode (get_or src k 0)) (sym e) ∙ p.flags.unset (from - at) (c.goes_on.ensures.over c.if-goes_on.false) (omega (arith, p.after)) (omega (arith, p.after, p.before)) in
     let over = runs_stop-here mode src from (omega (arith, p.before, p.inside)) clear in
     omega (arith, over, c.store.ensures.stored)
 

@@ -85,9 +85,8 @@ fn is_next_near<M: LaneMask, const N: usize>(mask: &M, lane: usize) -> bool
     requires few { N ≤ 64 }
     ensures near { result ≡ true → first_set (M.bits mask.now) < lane + HALF }
     ensures some { result ≡ true → none_set (M.bits mask.now) ≡ false }
-    ensures wide { result ≡ true → HALF ≤ N }
 {
-    HALF < N && !mask.all_zero() && mask.first_offset() < lane + HALF
+    !mask.all_zero() && mask.first_offset() < lane + HALF
 }
 
 /// Stores the text's bytes from `from` on, as many as half a vector of 64 lanes has.
@@ -141,7 +140,7 @@ pub(crate) fn store_ahead<
     }
     let v = vector_from::<V, N, LAST>(src, at, taken, from, held);
     classify_again::<V, MODE, N>(&v, ticks);
-    if !LAST && is_next_near::<M, N>(mask, from - at) {
+    if HALF < N && !LAST && is_next_near::<M, N>(mask, from - at) {
         store_half::<N>(src, from, target, to);
         return;
     }

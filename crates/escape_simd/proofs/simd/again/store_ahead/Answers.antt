@@ -28,7 +28,7 @@ returns-then-goes_on-clause-stored g c =
 pub returns-then-is_next_near-clause-stretch : goal.returns-then-is_next_near-clause-stretch
 returns-then-is_next_near-clause-stretch g c slack eight narrow =
     let mode = mode_numbered g.row.MODE in let src : List ℕ = c.args.src.now in let p = c.requires.place.vector in
-    let r = rest-bounds mode src c.args.from in let wide = c.is_next_near.ensures.wide c.if-is_next_near.true in let behind = c.requires.held.behind (ap (λ k. not (nat_eq k 0)) c.if-not-this.true) in
+    let r = rest-bounds mode src c.args.from in let wide = c.if-this-gt-HALF.true in let behind = c.requires.held.behind (ap (λ k. not (nat_eq k 0)) c.if-not-this.true) in
     stored_ahead mode slack true src c.args.target.now c.store_half.new.target c.args.from 32 c.args.to c.store_half.ensures (omega (arith, p.inside, p.before)) (omega (arith, r, wide, behind, p.before, p.few))
 
 pub returns-then-is_next_near-clause-ahead : goal.returns-then-is_next_near-clause-ahead

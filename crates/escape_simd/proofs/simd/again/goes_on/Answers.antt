@@ -1,6 +1,5 @@
-use Rattle.std.proofs.Common.{true≢false, false, get_or, sym, ap, ◌∙◌}
+use Rattle.std.proofs.Common.{false, get_or, sym, ap, ◌∙◌}
 use Rattle.std.proofs.lemmas.Bool.{eqb-true, eqb-false, false_from_ne_true}
-use Rattle.escape_lanes.specs.Bits.{first_set}
 use Rattle.escape_simd.proofs.Lanes.{none_set-at, first_set-here, first_set-is}
 use Rattle.escape_simd.proofs.simd.again.goes_on.Goals as goal
 

@@ -1,4 +1,4 @@
-use Rattle.std.proofs.Common.{◌≡◌, ℕ, ◌+◌, ◌-◌, true, List, length, take, drop, sym, ap, ◌∙◌, arith, length-take-le, length-drop, slice_range}
+use Rattle.std.proofs.Common.{◌≡◌, ℕ, ◌+◌, ◌-◌, true, List, length, take, drop, sym, ap, ◌∙◌, arith, length-take-le, length-drop}
 use Rattle.std.proofs.Math.Seq.{paste}
 use Rattle.std.proofs.lemmas.List.{take-take}
 use Rattle.escape_lanes.specs.Written.{bytes_of}

@@ -1,4 +1,4 @@
-use Rattle.std.proofs.Common.{◌≡◌, ℕ, List, drop, refl, ap, ◌∙◌, arith}
+use Rattle.std.proofs.Common.{ℕ, List, drop, refl, ap, ◌∙◌, arith}
 use Rattle.escape_simd.specs.Modes.{mode_numbered}
 use Rattle.escape_simd.specs.Runs.{run_count}
 use Rattle.escape_simd.proofs.Texts.{one≤passed, runs-step}

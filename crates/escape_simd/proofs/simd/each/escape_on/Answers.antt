@@ -1,6 +1,6 @@
-use Rattle.std.proofs.Common.{◌≡◌, ℕ, ◌+◌, List, refl, ◌∙◌, arith}
+use Rattle.std.proofs.Common.{refl, ◌∙◌, arith}
 use Rattle.escape_simd.specs.Modes.{mode_numbered}
-use Rattle.escape_simd.proofs.Stretches.{standing, onward, rest-bounds}
+use Rattle.escape_simd.proofs.Stretches.{standing, onward}
 use Rattle.escape_simd.proofs.simd.each.escape_on.Goals as goal
 
 pub widths-init : goal.widths-init

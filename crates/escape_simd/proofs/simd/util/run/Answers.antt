@@ -1,6 +1,5 @@
 use Rattle.std.proofs.Common.{◌≡◌, ℕ, ◌+◌, ◌<◌, ◌≤◌, false, true, cond, List, length, drop, get_or, refl, sym, ap, ap₂, ◌∙◌, arith, inl, inr}
 use Rattle.std.proofs.lemmas.Bool.{cases_Bool}
-use Rattle.std.proofs.lemmas.Bool.Decides.{nat_tests}
 use Rattle.escape_lanes.specs.Entry.{entry_word}
 use Rattle.escape_lanes.specs.Mode.{Mode, script}
 use Rattle.escape_lanes.specs.Replacement.{needs_escape, replacement}

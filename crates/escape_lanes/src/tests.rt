@@ -195,7 +195,8 @@ fn written_to<const N: usize>() -> [u8; 80]
     target.quote(0);
     target.escape(1, &[0x26, 0x6c, 0x74, 0x3b, 0, 0, 0, 0]);
     target.put_front(9, &[7, 7]);
-    target.put(12, &[9; N]);
+    target.put_first(12, &[8; N], 2);
+    target.put(15, &[9; N]);
     target.quote(79);
     bytes
 }
@@ -205,11 +206,12 @@ fn targets_of_each_width(rt: HostRuntime) {
     let mut expected = [0xee; 80];
     expected[..11].copy_from_slice(&[0x22, 0x26, 0x6c, 0x74, 0x3b, 0, 0, 0, 0, 7, 7]);
     expected[79] = 0x22;
-    expected[12..28].copy_from_slice(&[9; 16]);
+    expected[12..14].copy_from_slice(&[8, 8]);
+    expected[15..31].copy_from_slice(&[9; 16]);
     assert!(rt; written_to::<16>() == expected);
-    expected[12..44].copy_from_slice(&[9; 32]);
+    expected[15..47].copy_from_slice(&[9; 32]);
     assert!(rt; written_to::<32>() == expected);
-    expected[12..76].copy_from_slice(&[9; 64]);
+    expected[15..79].copy_from_slice(&[9; 64]);
     assert!(rt; written_to::<64>() == expected);
 }
 

@@ -241,12 +241,11 @@ module _ {N : ℕ} (is_html : Bool) {slack : ℕ} {src : List ℕ} {old new : Ta
       let p = ap length parts ∙ length-append (inner (mode_of is_html) (slice_range src at next)) (inner (mode_of is_html) (drop next src)) in
       omega (arith, l, r, q, p)
 
--- a vector that was pasted in is stored
-pub stored_from_paste : {N : ℕ} (exact : Bool) (src lanes : List ℕ) (old new : Target N) (from taken to : ℕ) → taken ≤ stored_lanes exact N taken (length src - from) → stored_lanes exact N taken (length src - from) ≤ length lanes → to + stored_lanes exact N taken (length src - from) ≤ length (bytes_of old)
-    → take taken lanes ≡ take taken (drop from src) → IsSameSlice old new → bytes_of new ≡ paste (bytes_of old) to lanes (stored_lanes exact N taken (length src - from))
+-- a vector of which `n` lanes were pasted in is stored
+pub stored_from_paste : {N : ℕ} (exact : Bool) (src lanes : List ℕ) (old new : Target N) (from taken to n : ℕ) → taken ≤ n → n ≤ stored_lanes exact N taken (length src - from) → n ≤ length lanes → to + n ≤ length (bytes_of old)
+    → take taken lanes ≡ take taken (drop from src) → IsSameSlice old new → bytes_of new ≡ paste (bytes_of old) to lanes n
     → stored_of new ≡ stored_of old + 1 → escaped_of new ≡ escaped_of old → quotes_of new ≡ quotes_of old → IsStored exact src old new from taken to
-stored_from_paste {N} exact src lanes old new from taken to some long room loaded same written stored escaped quotes =
-    let n : ℕ = stored_lanes exact N taken (length src - from) in
+stored_from_paste {N} exact src lanes old new from taken to n some few long room loaded same written stored escaped quotes =
     let front : List ℕ = take to (bytes_of old) in let piece : List ℕ = take n lanes in let back : List ℕ = drop (to + n) (bytes_of old) in
     let is = written ∙ append_assoc front piece back in
     let l : length front ≡ to = length-take-le to (bytes_of old) (omega arith) in
@@ -260,7 +259,9 @@ stored_from_paste {N} exact src lanes old new from taken to some long room loade
           ∙ take-append-le taken piece back (omega (arith, m))
           ∙ take-take taken n lanes some
           ∙ loaded;
-      kept = ap (drop (to + n)) written ∙ drop-paste (bytes_of old) to lanes n (omega arith) long;
+      kept =
+          drop_further (bytes_of new) (bytes_of old) (to + n) (to + stored_lanes exact N taken (length src - from)) (omega (arith, few))
+          (ap (drop (to + n)) written ∙ drop-paste (bytes_of old) to lanes n (omega arith) long);
       stored = stored;
       escaped = escaped;
       quotes = quotes;

@@ -123,11 +123,13 @@ pub record IsVectorEnd (mode : Mode) (N : ℕ) (src : List ℕ) (at taken from t
   pub over : at + taken ≤ from → Passed mode src (at + taken) from
   pub room : to + (at + taken - from) ≤ size
 
--- a vector, whose first lanes are `taken` bytes of the text from `from` on, can be stored at `to`
+-- A vector, whose first lanes are `taken` bytes of the text from `from` on, can be stored at `to`. Of at most 32 lanes all
+-- have room, also where fewer are stored.
 pub record CanStore (N : ℕ) (exact : Bool) (src : List ℕ) (from taken to size : ℕ) : Type 0 where
   pub few : taken ≤ N
   pub inside : from + taken ≤ length src
   pub room : to + stored_lanes exact N taken (length src - from) ≤ size
+  pub narrow : N ≤ 32 → to + N ≤ size
 
 -- a vector was stored at `to`, whose first lanes are `taken` bytes of the text from `from` on
 pub record IsStored {N : ℕ} (exact : Bool) (src : List ℕ) (old new : Target N) (from taken to : ℕ) : Type 0 where

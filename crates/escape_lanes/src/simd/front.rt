@@ -1,6 +1,9 @@
 //! The copy of a vector, and of its first lanes by pieces of a few fixed sizes: a copy of a number of
 //! bytes that is known only at run time is a call.
-ghost use Rattle.std.specs.Prelude.{◌≡◌, ◌*◌, ◌+◌, ◌<◌, ◌≤◌, length, take, drop};
+ghost use Rattle.std.specs.Prelude.{◌≡◌, ◌*◌, ◌+◌, ◌-◌, ◌<◌, ◌≤◌, ◌++◌, length, take, drop, replicate};
+
+use crate::simd::lanes;
+use std::simd::prelude::*;
 
 /// The `P` lanes from `at` on, apart: so they are moved to the target at once. As a part of a slice they might
 /// overlap it, which would be asked first.
@@ -94,6 +97,35 @@ pub(crate) fn copy_front<const N: usize>(dst: &mut [u8], lanes: &[u8])
     } else {
         copy_up_to_three(dst, lanes);
     }
+}
+
+// Lanes that are chosen, and after them as many that are not.
+const CHOSEN: [[u8; 64]; 2] = [[255; 64], [0; 64]];
+
+/// A vector whose first `count` lanes are 255, and the others 0.
+#[inline(always)]
+fn first_chosen<const N: usize>(count: usize) -> Simd<u8, N>
+    requires few { N ≤ 64 }
+    requires count { count ≤ N }
+    ensures { result ≡ replicate count 255 ++ replicate (N - count) 0 }
+{
+    lanes::load(&CHOSEN.as_flattened()[64 - count..])
+}
+
+/// Copies the first `count` lanes, and stores what `dst` has behind them again: one store, whatever the count, where
+/// pieces need a choice of their size, which is a jump that is often guessed wrong.
+///
+/// No part of its callers while the toolchain counts how large they are, as [`copy_front`] is none.
+#[inline]
+pub(crate) fn copy_first<const N: usize>(dst: &mut [u8], lanes: &[u8; N], count: usize)
+    requires whole { length dst.old ≡ N }
+    requires few { N ≤ 64 }
+    requires count { count ≤ N }
+    ensures { dst.new ≡ take count lanes.now ++ drop count dst.old }
+{
+    let kept = Simd::from_slice(dst);
+    let is_first = first_chosen::<N>(count).simd_ge(Simd::splat(128));
+    is_first.select(Simd::from_array(*lanes), kept).copy_to_slice(dst);
 }
 
 #[cfg(test)]

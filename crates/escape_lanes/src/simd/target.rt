@@ -3,7 +3,7 @@ ghost use Rattle.std.specs.Prelude.{◌≡◌, ℕ, ◌+◌, ◌<◌, ◌≤◌,
 ghost use Rattle.std.proofs.Math.Seq.{paste};
 ghost use Rattle.escape_lanes.specs.Written.{bytes_of, stored_of, escaped_of, quotes_of, IsOver, IsSameSlice};
 
-use crate::simd::front::{copy_front, copy_vector};
+use crate::simd::front::{copy_first, copy_front, copy_vector};
 use crate::simd::ticks::Tally;
 pub use crate::simd::ticks::Ticks;
 use crate::simd::traits::Simd;
@@ -120,6 +120,24 @@ impl<'a, const N: usize> Target<'a, N> {
         ensures quotes { quotes_of self.new ≡ quotes_of self.old }
     {
         copy_front::<N>(&mut self.slice[at..at + lanes.len()], lanes);
+        self.stored.raise();
+    }
+
+    /// Writes exactly the first `k` lanes of a vector at `at`, in one store: the bytes behind them are stored as they are.
+    ///
+    /// There are at most 64 lanes, `k` of which are written, and the target has `N` bytes from `at` on.
+    #[inline(always)]
+    pub fn put_first(&mut self, at: usize, lanes: &[u8; N], k: usize)
+        requires few { N ≤ 64 }
+        requires count { k ≤ N }
+        requires room { at + N ≤ length (bytes_of self.old) }
+        ensures same_slice { IsSameSlice self.old self.new }
+        ensures bytes { bytes_of self.new ≡ paste (bytes_of self.old) at lanes.now k }
+        ensures stored { stored_of self.new ≡ stored_of self.old + 1 }
+        ensures escaped { escaped_of self.new ≡ escaped_of self.old }
+        ensures quotes { quotes_of self.new ≡ quotes_of self.old }
+    {
+        copy_first::<N>(&mut self.slice[at..at + N], lanes, k);
         self.stored.raise();
     }
 

@@ -10,7 +10,6 @@ ghost use Rattle.escape_simd.specs.Laws.{IsOfOneText};
 ghost use Rattle.escape_simd.specs.Modes.{mode_numbered};
 
 use crate::simd::classify::{HTML_MODE, JSON_MODE, SCRIPT_MODE, Vector};
-use crate::simd::few::format_few;
 use crate::simd::short::format_short;
 use crate::simd::{body, inner, string};
 use escape_lanes::simd::avx2::Simd256u;
@@ -22,6 +21,9 @@ use escape_lanes::simd::{LoadEnds, LoadLast, MoveDown, Simd};
 
 /// How many bytes half a vector has.
 const HALF: usize = 32;
+
+/// A text of fewer bytes goes by vectors of half the width.
+const WIDE: usize = 2048;
 
 impl Vector<64> for Simd512u {
     type Flags = Flags512;
@@ -73,13 +75,21 @@ impl Vector<64> for Simd512u {
     }
 }
 
+/// Whether a text of so many bytes goes by vectors of half the width.
+///
+/// The last stores of both widths are exact, so that they leave the same bytes past the output. Not so where fewer than
+/// eight bytes are past the first half of the last vector, since what is written of that half may reach past them.
+#[inline(always)]
+fn is_narrow(len: usize) -> bool {
+    let past = len % (2 * HALF);
+    len < WIDE && (past <= HALF || HALF + 8 <= past)
+}
+
 /// Escapes the text to the front of `dst` in the mode numbered `MODE`, and answers how many bytes it
 /// became.
 ///
-/// A text that half a vector holds goes by a vector of half the width, in half the steps, and so does one that
-/// three halves hold. Its stores are exact in either, so that the bytes past the output are the same. Not so where
-/// fewer than eight bytes are past the first half, since what is written of that may reach past them, and in a script
-/// literal, where the second half may begin with the rest of a separator.
+/// Vectors of half the width are no slower where a text has few of them. In a script literal their second half may begin
+/// with the rest of a separator, so there it is the shortest texts alone that go by them.
 #[inline(always)]
 fn format_in_mode<const MODE: u8>(value: &str, dst: &mut [u8]) -> usize
     requires { bound (mode_numbered MODE) (length value.now) ≤ length dst.old }
@@ -90,8 +100,8 @@ fn format_in_mode<const MODE: u8>(value: &str, dst: &mut [u8]) -> usize
     if value.len() < HALF {
         return format_short::<Simd256u, MODE, 32, true>(value, dst);
     }
-    if MODE != SCRIPT_MODE && HALF + 8 <= value.len() && value.len() < 3 * HALF {
-        return format_few::<Simd256u, MODE, 32, 2, true>(value, dst);
+    if MODE != SCRIPT_MODE && is_narrow(value.len()) {
+        return string::format_in_mode::<Simd256u, MODE, 32, 4, true>(value, dst);
     }
     string::format_in_mode::<Simd512u, MODE, 64, 2, true>(value, dst)
 }

@@ -91,7 +91,8 @@ pub(crate) fn store_whole<V: Vector<N>, const N: usize>(
 }
 
 /// Stores the vector's lanes to the target, or where `exact` only the first `taken`: these are the text's bytes
-/// from `from` on. Where the text has more, up to 32 of its bytes are stored then, in one move or two.
+/// from `from` on. Of a vector of 64 lanes up to 32 of the text's bytes are stored then where it has more, in one move or
+/// two.
 #[inline(always)]
 pub(crate) fn store<V: Vector<N>, const N: usize>(
     v: &V,
@@ -106,14 +107,18 @@ pub(crate) fn store<V: Vector<N>, const N: usize>(
     requires loaded { take taken (V.lanes v.now) ≡ take taken (drop from text.now) }
     ensures { IsStored exact text.now target.old target.new from taken to }
 {
-    if exact {
+    if exact && 32 < N {
         // The text's bytes, which the vector holds too: what is put into memory and taken from there in
         // other pieces has to be waited for.
         let count = taken.max(N.min(32).min(text.len() - from));
         target.put_front(to, &text[from..from + count]);
+        return;
+    }
+    let mut lanes = [0u8; N];
+    v.put(&mut lanes);
+    if exact {
+        target.put_first(to, &lanes, taken);
     } else {
-        let mut lanes = [0u8; N];
-        v.put(&mut lanes);
         target.put(to, &lanes);
     }
 }

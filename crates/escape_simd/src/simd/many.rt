@@ -40,7 +40,7 @@ pub(crate) fn escape_many<
         at = next;
         end = reached;
     }
-    'pairs: while 1 < CHUNK && 2 * N <= src.len() - at {
+    'pairs: while 1 < CHUNK && at + 2 * N <= src.len() {
         let (next, reached) = pair::<V, MODE, N, EXACT>(src, at, target, end, ticks);
         at = next;
         end = reached;

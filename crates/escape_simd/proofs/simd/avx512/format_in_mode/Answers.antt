@@ -8,8 +8,5 @@ returns-then-value-lt-HALF-clause-written g c = written-wider (omega arith) c.fo
 pub format_short-requires-clause-few : goal.format_short-requires-clause-few
 format_short-requires-clause-few g c = omega (arith, c.if-value-lt-HALF.true)
 
-pub returns-then-value-2-clause-written : goal.returns-then-value-2-clause-written
-returns-then-value-2-clause-written g c = written-wider (omega arith) c.format_few.ensures.written
-
-pub format_few-requires-clause-few : goal.format_few-requires-clause-few
-format_few-requires-clause-few g c = omega (arith, c.if-value-2.true)
+pub returns-then-is_narrow-clause-written : goal.returns-then-is_narrow-clause-written
+returns-then-is_narrow-clause-written g c = written-wider (omega arith) c.format_in_mode.ensures.written

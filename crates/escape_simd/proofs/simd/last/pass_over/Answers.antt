@@ -11,7 +11,7 @@ store_whole-requires g c =
     let n : ℕ = g.row.N in let r = c.requires in (
       omega arith,
       (
-        record { few = omega arith; inside = omega (arith, r.some, r.inside); room = omega (arith, r.some, r.inside, r.room) },
+        record { few = omega arith; inside = omega (arith, r.some, r.inside); room = omega (arith, r.some, r.inside, r.room); narrow = λ few. omega (arith, r.some, r.inside, r.room) },
         loaded-front _ _ n n c.load-v.ensures (omega arith),
       ),
     )

@@ -20,6 +20,7 @@ store-requires g c =
           few = omega (arith, r.few);
           inside = omega (arith, r.inside);
           room = omega (arith, low, r.room);
+          narrow = λ few. omega (arith, few, r.room);
         },
         last-loaded src (g.V.Vector.lanes c.args.v.now) n at r.inside (omega (arith, r.few)) r.loaded,
       ),

@@ -19,6 +19,7 @@ store-requires g c =
           few = omega (arith, p.few, p.after);
           inside = omega (arith, p.inside, p.before);
           room = omega (arith, low, p.room);
+          narrow = λ few. omega (arith, few, p.room);
         },
         c.vector_from-v.ensures,
       ),

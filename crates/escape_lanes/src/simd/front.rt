@@ -125,7 +125,9 @@ pub(crate) fn copy_first<const N: usize>(dst: &mut [u8], lanes: &[u8; N], count:
 {
     let kept = Simd::from_slice(dst);
     let is_first = first_chosen::<N>(count).simd_ge(Simd::splat(128));
-    is_first.select(Simd::from_array(*lanes), kept).copy_to_slice(dst);
+    is_first
+        .select(Simd::from_array(*lanes), kept)
+        .copy_to_slice(dst);
 }
 
 #[cfg(test)]

@@ -1,4 +1,4 @@
-use Rattle.std.proofs.Common.{◌≡◌, ◌-◌, ◌∙◌, take, drop, ap}
+use Rattle.std.proofs.Common.{◌-◌, ◌∙◌, take, drop, ap}
 use Rattle.std.proofs.lemmas.List.{take_rest}
 use Rattle.escape_lanes.proofs.FrontLemmas.{first_of_chosen}
 use Rattle.escape_lanes.proofs.simd.front.first_chosen.Goals as goal

@@ -114,9 +114,7 @@ fn first_chosen<const N: usize>(count: usize) -> Simd<u8, N>
 
 /// Copies the first `count` lanes, and stores what `dst` has behind them again: one store, whatever the count, where
 /// pieces need a choice of their size, which is a jump that is often guessed wrong.
-///
-/// No part of its callers while the toolchain counts how large they are, as [`copy_front`] is none.
-#[inline]
+#[inline(always)]
 pub(crate) fn copy_first<const N: usize>(dst: &mut [u8], lanes: &[u8; N], count: usize)
     requires whole { length dst.old ≡ N }
     requires few { N ≤ 64 }

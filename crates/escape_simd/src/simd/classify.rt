@@ -1,5 +1,5 @@
 //! What the kernels' body asks of a vector.
-ghost use Rattle.std.specs.Prelude.{◌≡◌, ℕ, ◌+◌, ◌-◌, ◌/◌, ◌<◌, ◌≤◌, ◌++◌, false, List, length, take, drop, replicate, map};
+ghost use Rattle.std.specs.Prelude.{◌≡◌, ℕ, ◌+◌, ◌-◌, ◌/◌, ◌<◌, ◌≤◌, ◌++◌, true, false, List, length, take, drop, replicate, map};
 ghost use Rattle.escape_lanes.specs.Replacement.{needs_escape};
 ghost use Rattle.escape_lanes.specs.Written.{bytes_of};
 ghost use Rattle.escape_simd.specs.Modes.{mode_numbered};
@@ -90,9 +90,37 @@ pub(crate) fn store_whole<V: Vector<N>, const N: usize>(
     target.put(to, &lanes);
 }
 
+/// Stores exactly the first `taken` of the vector's lanes to the target: these are the text's bytes from `from` on. A
+/// vector of 32 lanes is stored in one move. Of others up to 32 of the text's bytes are stored where it has more, by pieces.
+///
+/// No part of its callers while the toolchain counts how large they are: most of them have no exact store.
+#[inline]
+fn store_exact<V: Vector<N>, const N: usize>(
+    v: &V,
+    text: &[u8],
+    from: usize,
+    taken: usize,
+    target: &mut Target<'_, N>,
+    to: usize,
+)
+    requires place { CanStore N true text.now from taken to (length (bytes_of target.old)) }
+    requires loaded { take taken (V.lanes v.now) ≡ take taken (drop from text.now) }
+    ensures { IsStored true text.now target.old target.new from taken to }
+{
+    if N == 32 {
+        let mut lanes = [0u8; N];
+        v.put(&mut lanes);
+        target.put_first(to, &lanes, taken);
+        return;
+    }
+    // The text's bytes, which the vector holds too: what is put into memory and taken from there in
+    // other pieces has to be waited for.
+    let count = taken.max(N.min(32).min(text.len() - from));
+    target.put_front(to, &text[from..from + count]);
+}
+
 /// Stores the vector's lanes to the target, or where `exact` only the first `taken`: these are the text's bytes
-/// from `from` on. Of a vector of 64 lanes up to 32 of the text's bytes are stored then where it has more, in one move or
-/// two.
+/// from `from` on.
 #[inline(always)]
 pub(crate) fn store<V: Vector<N>, const N: usize>(
     v: &V,
@@ -107,18 +135,11 @@ pub(crate) fn store<V: Vector<N>, const N: usize>(
     requires loaded { take taken (V.lanes v.now) ≡ take taken (drop from text.now) }
     ensures { IsStored exact text.now target.old target.new from taken to }
 {
-    if exact && 32 < N {
-        // The text's bytes, which the vector holds too: what is put into memory and taken from there in
-        // other pieces has to be waited for.
-        let count = taken.max(N.min(32).min(text.len() - from));
-        target.put_front(to, &text[from..from + count]);
-        return;
-    }
-    let mut lanes = [0u8; N];
-    v.put(&mut lanes);
     if exact {
-        target.put_first(to, &lanes, taken);
+        store_exact::<V, N>(v, text, from, taken, target, to);
     } else {
+        let mut lanes = [0u8; N];
+        v.put(&mut lanes);
         target.put(to, &lanes);
     }
 }

@@ -174,6 +174,22 @@ fn many_escapes_in_each_width(rt: HostRuntime) -> Result<(), Fail> {
     Ok(())
 }
 
+// A byte that is written for itself among many escapes has zeros after it, which reach past few letters that
+// end the text: all calls leave the same bytes there.
+#[test]
+fn letters_after_many_escapes(rt: HostRuntime) -> Result<(), Fail> {
+    for width in WIDTHS {
+        for before in [0, 64] {
+            for after in 1..8 {
+                let parts = [(before, "a"), (width - 8, "\""), (8 + after, "a")];
+                let text = repeated(rt.alloc(), &parts)?;
+                is_right(&rt, text.as_str())?;
+            }
+        }
+    }
+    Ok(())
+}
+
 // Many escapes are written sixteen at a time where a separator may begin with none of these: so one at each
 // place of such a text, and a character that begins as it does.
 #[test]

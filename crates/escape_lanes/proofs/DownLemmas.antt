@@ -1,15 +1,13 @@
 -- Lanes that move down: what is looked up for each, and what that makes of all.
-use Rattle.std.proofs.Common.{ltb, ◌||◌, ◌≡◌, ℕ, ◌+◌, ◌-◌, ◌<◌, ◌≤◌, List, ◌++◌, length, take, drop, replicate, get_or, bit_or, refl, sym, ap, ap₂, ◌∙◌, inl, inr, arith, length-append, length-drop}
+use Rattle.std.proofs.Common.{ltb, ◌||◌, ◌≡◌, ℕ, ◌+◌, ◌-◌, ◌<◌, ◌≤◌, List, ◌++◌, length, take, drop, replicate, get_or, refl, sym, ap, ◌∙◌, inl, inr, arith, length-append, length-drop}
 use Rattle.std.proofs.Math.Nat.{zero-add}
 use Rattle.std.proofs.Math.Facts.{yes_ltb}
-use Rattle.std.specs.Int.Bits.{or_zero_l, or_zero_r}
 use Rattle.std.specs.List.{range_with_len}
-use Rattle.std.specs.Simd.Lanes.{zip2}
 use Rattle.std.proofs.lemmas.List.{get_or-drop, get_or-take, get_or-append_right, get_or_append_left, get_or-replicate, get_or_past, length-replicate, length-take-le, ext_get_or}
 use Rattle.std.proofs.lemmas.List.FromFn.{get_or-range_with_len}
 use Rattle.std.proofs.lemmas.Bool.{lt-leb}
 use Rattle.std.proofs.lemmas.Bool.Decides.{leb_tells}
-use Rattle.std.proofs.lemmas.Simd.{swz_l, SwzOk, SwzOk-from_Each1, get_or-swz_l, get_or-swz_l_below, get_or-zip2, length-zip2, Each1-from_get_or}
+use Rattle.std.proofs.lemmas.Simd.{swz_l, SwzOk, SwzOk-from_Each1, get_or-swz_l, get_or-swz_l_below, Each1-from_get_or}
 use lib.Dec.{T}
 use mir.Syntax.{w8}
 use mir.Val.{zeroes}
@@ -117,39 +115,3 @@ down-sixteen lanes result count whole long few found =
     ext_get_or 0 _ _ (long ∙ sym (length-down lanes 16 count whole few)) (λ k h.
     let lt : k < 16 = omega (arith, long) in
     found k lt (omega arith) ∙ ap (λ i. get_or lanes i 0) (omega arith) ∙ sym (down-lane lanes 16 count whole few k lt))
-
--- thirty-two, of two halves
-pub down-both : (low high near far last : List ℕ) (count : ℕ) → length low ≡ 16 → length high ≡ 16 → length near ≡ 16 → length far ≡ 16 → length last ≡ 16 → count ≤ 32
-    → ((k : ℕ) → k < 16 → 16 ≤ 16 + count + k → get_or near k 0 ≡ get_or low (16 + count + k - 16) 0)
-    → ((k : ℕ) → k < 16 → 16 ≤ count + k → get_or far k 0 ≡ get_or high (count + k - 16) 0)
-    → ((k : ℕ) → k < 16 → count + k < 16 → get_or far k 0 ≡ 0)
-    → ((k : ℕ) → k < 16 → 16 ≤ 16 + count + k → get_or last k 0 ≡ get_or high (16 + count + k - 16) 0)
-    → zip2 bit_or near far ++ last ≡ drop count (low ++ high) ++ replicate count 0
-down-both low high near far last count wl wh wn wf wz few is_near is_far no_far is_last =
-    let whole : length (low ++ high) ≡ 32 = omega (arith, length-append low high) in
-    let first : length (zip2 bit_or near far) ≡ 16 = length-zip2 bit_or near far (wn ∙ sym wf) ∙ wn in
-    let long : length (zip2 bit_or near far ++ last) ≡ 32 = omega (arith, length-append (zip2 bit_or near far) last) in
-    ext_get_or 0 _ _ (long ∙ sym (length-down (low ++ high) 32 count whole few)) (λ k h.
-    let lt : k < 32 = omega (arith, long) in
-    elim (leb_tells 16 k) as (λ _. get_or (zip2 bit_or near far ++ last) k 0 ≡ get_or (low ++ high) (count + k) 0) [
-      | inl past ↦
-          get_or-append_right (zip2 bit_or near far) last 16 k 0 first past.1
-          ∙ is_last (k - 16) (omega (arith, past.1)) (omega arith)
-          ∙ ap (λ i. get_or high i 0) (omega (arith, past.1))
-          ∙ sym (get_or-append_right low high 16 (count + k) 0 wl (omega (arith, past.1)))
-      | inr below ↦
-          get_or_append_left (zip2 bit_or near far) last 0 k (omega (arith, first, below.1))
-          ∙ get_or-zip2 bit_or near far k 0 0 0 (omega (arith, below.1)) (omega (arith, below.1))
-          ∙ elim (leb_tells 16 (count + k)) as (λ _. bit_or (get_or near k 0) (get_or far k 0) ≡ get_or (low ++ high) (count + k) 0) [
-            | inl there ↦
-                ap₂ bit_or (is_near k below.1 (omega arith) ∙ get_or_past low (16 + count + k - 16) 0 (omega (arith, there.1))) (is_far k below.1 there.1)
-                ∙ or_zero_l (get_or high (count + k - 16) 0)
-                ∙ sym (get_or-append_right low high 16 (count + k) 0 wl there.1)
-            | inr here ↦
-                ap₂ bit_or (is_near k below.1 (omega arith)) (no_far k below.1 here.1)
-                ∙ or_zero_r (get_or low (16 + count + k - 16) 0)
-                ∙ ap (λ i. get_or low i 0) (omega arith)
-                ∙ sym (get_or_append_left low high 0 (count + k) (omega (arith, here.1)))
-          ]
-    ]
-    ∙ sym (down-lane (low ++ high) 32 count whole few k lt))

@@ -1,9 +1,7 @@
-pub mod Chunks
 pub mod DownLemmas
 pub mod FlagLemmas
-pub mod FrontLemmas
-pub mod HeldLemmas
-pub mod TopLemmas
+pub mod BitLemmas
+pub mod GatherLemmas
 pub mod LaneLemmas
 pub mod LastLemmas
 pub mod MaskLemmas

@@ -60,7 +60,7 @@ none_set-cons true bs = refl
 none_set-cons false bs = refl
 
 -- the lowest lane, and those above it
-pub lanes-suc : (w k n : ℕ) → lanes_of w (suc k) n ≡ not (nat_eq (n % 2 ^ w) 0) ∷ lanes_of w k (n / 2 ^ w)
+lanes-suc : (w k n : ℕ) → lanes_of w (suc k) n ≡ not (nat_eq (n % 2 ^ w) 0) ∷ lanes_of w k (n / 2 ^ w)
 unfolding lanes_of
 lanes-suc w k n = refl
 
@@ -101,7 +101,7 @@ zero-lanes w (suc k) n h =
     rw (lanes-suc w k n, none_set-cons, ← zero-lanes w k (n / 2 ^ w) above) (zero_parts (2 ^ w) n)
 
 -- no lane of 0 is set
-lanes-zero : (w k : ℕ) → lanes_of w k 0 ≡ replicate k false
+pub lanes-zero : (w k : ℕ) → lanes_of w k 0 ≡ replicate k false
 unfolding lanes_of
 lanes-zero w zero = refl
 lanes-zero w (suc k) = rw (zero-mod (2 ^ w), zero-div (2 ^ w), lanes-zero w k) refl

@@ -57,7 +57,7 @@ below : (n : ℕ) → n < 2 ^ 64 → n % 2 ^ 64 ≡ n
 below n h = omega arith
 
 -- eight narrowed pairs, cut to 64 bits
-pub narrowed-fits : (n : ℕ) → number_l 256 (middles 8 n) % 2 ^ 64 ≡ number_l 256 (middles 8 n)
+narrowed-fits : (n : ℕ) → number_l 256 (middles 8 n) % 2 ^ 64 ≡ number_l 256 (middles 8 n)
 narrowed-fits n = below (number_l 256 (middles 8 n)) (number-lt 8 n)
 
 -- four bits for each of sixteen lanes

@@ -1,5 +1,5 @@
 -- Masks as lists of truth values, one for each lane, the first lane first.
-use Rattle.std.specs.Prelude.{◌≡◌, ℕ, ◌-◌, ◌/◌, ◌%◌, ◌^◌, Bool, true, false, List, [], ◌∷◌, ◌++◌, length, take, drop, replicate, nat_eq, refl}
+use Rattle.std.specs.Prelude.{◌≡◌, ℕ, ◌+◌, ◌-◌, ◌&&◌, if◌then◌else◌, ◌/◌, ◌%◌, ◌^◌, Bool, true, false, List, [], ◌∷◌, ◌++◌, length, take, drop, replicate, nat_eq, refl}
 use Rattle.std.proofs.Common.{zero, suc, ap, not}
 
 -- the place of the first set lane, and the number of lanes where none is set
@@ -21,6 +21,11 @@ clear_last n bs = take (length bs - n) bs ++ replicate n false
 -- the first n lanes cleared
 abbrev pub clear_first : ℕ → List Bool → List Bool
 clear_first n bs = replicate n false ++ drop n bs
+
+-- how many lanes are clear and follow one that is set, where the lane before the first is set or isn't
+unfoldable pub gaps : Bool → List Bool → ℕ
+gaps before [] = 0
+gaps before (b ∷ bs) = (if before && not b then 1 else 0) + gaps b bs
 
 -- the lowest k bits of n, lowest first
 unfoldable pub bits_of : ℕ → ℕ → List Bool

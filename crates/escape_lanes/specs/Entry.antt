@@ -1,5 +1,5 @@
 -- The entries of the replacement tables.
-use Rattle.std.specs.Prelude.{ℕ, ◌-◌, List, [], ◌∷◌, ◌++◌, length, replicate, if◌then◌else◌}
+use Rattle.std.specs.Prelude.{ℕ, ◌-◌, List, ◌++◌, length, replicate, if◌then◌else◌}
 use Rattle.escape_lanes.specs.Mode.{Mode}
 use Rattle.escape_lanes.specs.Replacement.{needs_escape, replacement}
 
@@ -14,7 +14,3 @@ entry_count mode b = if needs_escape mode b then length (replacement mode b) els
 -- those bytes, then zeros, eight in all
 abbrev pub entry_bytes : Mode → ℕ → List ℕ
 entry_bytes mode b = if needs_escape mode b then padded (replacement mode b) else replicate 8 0
-
--- what stands for the byte, be it the byte itself, then zeros, seven in all, and how many bytes stand for it
-abbrev pub entry_word : Mode → ℕ → List ℕ
-entry_word mode b = replacement mode b ++ replicate (7 - length (replacement mode b)) 0 ++ length (replacement mode b) ∷ []

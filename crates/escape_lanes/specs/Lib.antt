@@ -6,3 +6,4 @@ pub mod Lanes
 pub mod Nibble
 pub mod Words
 pub mod Written
+pub mod Spread

@@ -1,5 +1,6 @@
 -- What a target holds, and what has been written to it.
-use Rattle.std.specs.Prelude.{◌≡◌, ℕ, List, length}
+use Rattle.std.specs.Prelude.{◌≡◌, ℕ, ◌+◌, List, length}
+use Rattle.std.proofs.Math.Seq.{paste}
 use Rattle.std.specs.Borrow.{MutBor}
 use Rattle.escape_lanes.specs.declared.simd.target.Target.{Target}
 
@@ -19,6 +20,10 @@ escaped_of t = t.escaped.count
 abbrev pub quotes_of : {N : ℕ} → Target N → ℕ
 quotes_of t = t.quotes.count
 
+-- how often bytes were written
+abbrev pub writes_of : {N : ℕ} → Target N → ℕ
+writes_of t = t.writes.count
+
 -- the target stands over this slice: what it holds when it ends is what the slice holds then
 abbrev pub IsOver : {N : ℕ} → Target N → MutBor (List ℕ) → Type 0
 IsOver t dst = t.slice.ghost_name ≡ dst.ghost_name
@@ -27,3 +32,12 @@ IsOver t dst = t.slice.ghost_name ≡ dst.ghost_name
 pub record IsSameSlice {N : ℕ} (old new : Target N) : Type 0 where
   pub reference : new.slice.ghost_name ≡ old.slice.ghost_name
   pub len : length new.slice.now ≡ length old.slice.now
+
+-- One write put the bytes at `at`: so many vectors were stored with it, and so many escapes and quotation marks written.
+pub record Writes {N : ℕ} (vectors escapes marks : ℕ) (old new : Target N) (at : ℕ) (written : List ℕ) : Type 0 where
+  pub same_slice : IsSameSlice old new
+  pub bytes : bytes_of new ≡ paste (bytes_of old) at written (length written)
+  pub stored : stored_of new ≡ stored_of old + vectors
+  pub escaped : escaped_of new ≡ escaped_of old + escapes
+  pub quotes : quotes_of new ≡ quotes_of old + marks
+  pub writes : writes_of new ≡ writes_of old + 1

@@ -3,11 +3,11 @@
 pub mod avx2;
 pub mod avx512;
 pub mod bits;
-pub mod down;
-pub mod ends;
+mod down;
 pub mod flags;
 mod front;
 mod halves;
+pub mod lane_bits;
 mod lanes;
 pub mod last;
 pub mod neon;
@@ -19,8 +19,6 @@ mod ticks;
 pub mod traits;
 pub mod v128;
 
-pub use down::MoveDown;
-pub use ends::LoadEnds;
-pub use flags::{Flags, LaneMask};
+pub use flags::Flags;
 pub use last::LoadLast;
 pub use traits::{BitMask, Mask, Simd};

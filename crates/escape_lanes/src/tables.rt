@@ -2,20 +2,22 @@
 ghost use Rattle.std.specs.Prelude.{◌≡◌, [], slice_index, slice_index_or, if◌then◌else◌};
 ghost use Rattle.escape_lanes.specs.Mode.{json, html, script};
 ghost use Rattle.escape_lanes.specs.Replacement.{needs_escape};
-ghost use Rattle.escape_lanes.specs.Entry.{entry_count, entry_bytes, entry_word};
+ghost use Rattle.escape_lanes.specs.Bits.{bits_of};
+ghost use Rattle.escape_lanes.specs.Entry.{entry_count, entry_bytes};
+ghost use Rattle.escape_lanes.specs.Spread.{spread};
 
 mod html;
 mod json;
 mod nibble;
 mod script;
-mod words;
+mod spread;
 
 pub use html::{HTML_ESCAPE_TAB, HTML_NEED_ESCAPED};
 pub use json::{NEED_ESCAPED, QUOTE_TAB};
 pub(crate) use nibble::{HTML_CANDIDATE_TAB, SCRIPT_HI_NIBBLE_TAB, SCRIPT_LO_NIBBLE_TAB};
 pub use nibble::{HTML_HI_NIBBLE_TAB, HTML_LO_NIBBLE_TAB};
 pub use script::{LINE_SEPARATOR, PARAGRAPH_SEPARATOR, SCRIPT_FLAGGED, SCRIPT_TAB};
-use words::{HTML_WORDS, JSON_WORDS, SCRIPT_WORDS};
+use spread::SPREAD_TAB;
 
 /// The byte's entry in [`QUOTE_TAB`], by reference: the count of bytes that stand for it in a JSON
 /// string literal, and 0 where it stands for itself; then those bytes, padded with zeros to eight.
@@ -48,38 +50,15 @@ pub fn script_entry(b: u8) -> &'static (u8, [u8; 8])
     &SCRIPT_TAB[b as usize]
 }
 
-/// The byte's word in a JSON string literal: the bytes that stand for it, which are the byte itself where
-/// it needs no escape, zeros up to seven bytes, and then how many they are.
+/// The places that the bytes of a block of eight are taken from, where so many of them are flagged: place 8
+/// stands before each flagged byte, and fills the row.
 ///
-/// `json_word(b'\n')` is `b"\\n\0\0\0\0\0\x02"`, and `json_word(b'a')` is `b"a\0\0\0\0\0\0\x01"`.
+/// `spread_row(0b10)` is `[0, 8, 1, 2, 3, 4, 5, 6, 7, 8, 8, 8, 8, 8, 8, 8]`.
 #[inline(always)]
-pub fn json_word(b: u8) -> &'static [u8; 8]
-    ensures { result.now ≡ entry_word json b }
+pub fn spread_row(flags: u8) -> &'static [u8; 16]
+    ensures { result.now ≡ spread (bits_of 8 flags) }
 {
-    &JSON_WORDS.words[b as usize]
-}
-
-/// The byte's word in HTML: the bytes that stand for it, which are the byte itself where it needs no
-/// escape, zeros up to seven bytes, and then how many they are.
-///
-/// `html_word(b'<')` is `b"&lt;\0\0\0\x04"`, and `html_word(b'a')` is `b"a\0\0\0\0\0\0\x01"`.
-#[inline(always)]
-pub fn html_word(b: u8) -> &'static [u8; 8]
-    ensures { result.now ≡ entry_word html b }
-{
-    &HTML_WORDS.words[b as usize]
-}
-
-/// The byte's word in a script literal, where no separator begins with it: the bytes that stand for it,
-/// which are the byte itself where it needs no escape, zeros up to seven bytes, and then how many they
-/// are.
-///
-/// `script_word(b'<')` is `b"\\u003c\0\x06"`, and `script_word(b'/')` is `b"/\0\0\0\0\0\0\x01"`.
-#[inline(always)]
-pub fn script_word(b: u8) -> &'static [u8; 8]
-    ensures { result.now ≡ entry_word script b }
-{
-    &SCRIPT_WORDS.words[b as usize]
+    &SPREAD_TAB[flags as usize]
 }
 
 /// The byte's row of the JSON tables: its mark in [`NEED_ESCAPED`] and its entry in [`QUOTE_TAB`].

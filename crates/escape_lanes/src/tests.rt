@@ -1,15 +1,16 @@
 ghost use Rattle.std.specs.Prelude.{◌≡◌, ℕ, ◌+◌, ◌<◌, ◌≤◌, length, slice_set};
-ghost use Rattle.escape_lanes.specs.Written.{bytes_of, quotes_of, IsSameSlice};
+ghost use Rattle.escape_lanes.specs.Written.{bytes_of, quotes_of, writes_of, IsSameSlice};
 
 mod script;
 
 use crate::simd::bits::NeonBits;
+use crate::simd::lane_bits::{clear_first_lane, count_gaps, eight_lanes, shift_lanes};
 use crate::simd::sse2::Simd128u;
 use crate::simd::target::{Target, Ticks};
 use crate::simd::{BitMask, Simd};
 use crate::tables::{
-    HTML_ESCAPE_TAB, HTML_NEED_ESCAPED, NEED_ESCAPED, QUOTE_TAB, html_entry, html_row, html_word,
-    json_entry, json_row, json_word,
+    HTML_ESCAPE_TAB, HTML_NEED_ESCAPED, NEED_ESCAPED, QUOTE_TAB, html_entry, html_row, json_entry,
+    json_row, spread_row,
 };
 
 // Whether the byte needs an escape in JSON.
@@ -107,27 +108,43 @@ fn all_rows(rt: HostRuntime) {
     assert_eq!(rt; html_needs, 6);
 }
 
-// The word of a byte with that entry: a byte without one stands for itself.
-pub(crate) fn expected_word(b: u8, entry: (u8, [u8; 8])) -> [u8; 8] {
-    if entry.0 == 0 {
-        return [b, 0, 0, 0, 0, 0, 0, 1];
+#[test]
+fn rows_of_places(rt: HostRuntime) {
+    assert!(rt; spread_row(0x00) == &[0, 1, 2, 3, 4, 5, 6, 7, 8, 8, 8, 8, 8, 8, 8, 8]);
+    assert!(rt; spread_row(0x02) == &[0, 8, 1, 2, 3, 4, 5, 6, 7, 8, 8, 8, 8, 8, 8, 8]);
+    assert!(rt; spread_row(0x80) == &[0, 1, 2, 3, 4, 5, 6, 8, 7, 8, 8, 8, 8, 8, 8, 8]);
+    assert!(rt; spread_row(0x81) == &[8, 0, 1, 2, 3, 4, 5, 6, 8, 7, 8, 8, 8, 8, 8, 8]);
+    assert!(rt; spread_row(0x5a) == &[0, 8, 1, 2, 8, 3, 8, 4, 5, 8, 6, 7, 8, 8, 8, 8]);
+    assert!(rt; spread_row(0xff) == &[8, 0, 8, 1, 8, 2, 8, 3, 8, 4, 8, 5, 8, 6, 8, 7]);
+}
+
+// The flags behind the first one, and none where none is flagged.
+fn behind_first(flags: u64) -> u64 {
+    if flags.all_zero() {
+        return 0;
     }
-    let mut word = entry.1;
-    word[7] = entry.0;
-    word
+    clear_first_lane(flags)
 }
 
 #[test]
-fn words_of_all_bytes(rt: HostRuntime) {
-    assert_eq!(rt; *json_word(0x0a), [0x5c, 0x6e, 0, 0, 0, 0, 0, 2]);
-    assert_eq!(rt; *html_word(0x3c), [0x26, 0x6c, 0x74, 0x3b, 0, 0, 0, 4]);
-    assert_eq!(rt; *json_word(0x61), [0x61, 0, 0, 0, 0, 0, 0, 1]);
-    for b in 0..=u8::MAX {
-        let json = expected_word(b, expected_json_entry(b));
-        let html = expected_word(b, expected_html_entry(b));
-        assert!(rt; json_word(b) == &json, "JSON, byte {b}");
-        assert!(rt; html_word(b) == &html, "HTML, byte {b}");
-    }
+fn flags_as_numbers(rt: HostRuntime) {
+    assert_eq!(rt; behind_first(0x06), 0x04);
+    assert_eq!(rt; behind_first(0x8000_0000_0000_0000), 0);
+    assert_eq!(rt; behind_first(u64::MAX), 0xffff_ffff_ffff_fffe);
+    assert_eq!(rt; shift_lanes(0x06, 0), 0x06);
+    assert_eq!(rt; shift_lanes(0x06, 1), 0x03);
+    assert_eq!(rt; shift_lanes(0xc000_0000_0000_0000, 63), 1);
+    assert_eq!(rt; eight_lanes(0x8877_6655_4433_2211, 0), 0x11);
+    assert_eq!(rt; eight_lanes(0x8877_6655_4433_2211, 3), 0x44);
+    assert_eq!(rt; eight_lanes(0x8877_6655_4433_2211, 7), 0x88);
+    assert_eq!(rt; count_gaps(0x06, 4), 1);
+    assert_eq!(rt; count_gaps(0x06, 3), 0);
+    assert_eq!(rt; count_gaps(0x05, 4), 2);
+    assert_eq!(rt; count_gaps(0x05, 0), 0);
+    assert_eq!(rt; count_gaps(0x5555_5555_5555_5555, 64), 32);
+    assert_eq!(rt; count_gaps(0x5555_5555_5555_5555, 63), 31);
+    assert_eq!(rt; count_gaps(u64::MAX, 64), 0);
+    assert_eq!(rt; count_gaps(0x8000_0000_0000_0000, 64), 0);
 }
 
 #[test]
@@ -185,6 +202,30 @@ fn target_writes(rt: HostRuntime) {
     );
 }
 
+#[test]
+fn blocks_written(rt: HostRuntime) {
+    let mut bytes = [0xee; 36];
+    let mut target = Target::<32>::new(&mut bytes);
+    target.put_block(
+        1,
+        &[
+            0x61, 0x5c, 0x22, 0x62, 0x5c, 0x5c, 0x63, 0x5c, 0x5c, 0x5c, 0x5c, 0x5c, 0x5c, 0x5c,
+            0x5c, 0x5c,
+        ],
+        2,
+    );
+    target.put_block(18, &[7; 16], 0);
+    target.put_block(8, &[0x2f; 16], 16);
+    assert_eq!(rt;
+        bytes,
+        [
+            0xee, 0x61, 0x5c, 0x22, 0x62, 0x5c, 0x5c, 0x63, 0x2f, 0x2f, 0x2f, 0x2f, 0x2f, 0x2f,
+            0x2f, 0x2f, 0x2f, 0x2f, 0x2f, 0x2f, 0x2f, 0x2f, 0x2f, 0x2f, 7, 7, 7, 7, 7, 7, 7, 7, 7,
+            7, 0xee, 0xee,
+        ]
+    );
+}
+
 // What each call that takes bytes writes to a target of one width.
 fn written_to<const N: usize>() -> [u8; 80]
     requires several { 2 ≤ N }
@@ -195,7 +236,6 @@ fn written_to<const N: usize>() -> [u8; 80]
     target.quote(0);
     target.escape(1, &[0x26, 0x6c, 0x74, 0x3b, 0, 0, 0, 0]);
     target.put_front(9, &[7, 7]);
-    target.put_first(12, &[8; N], 2);
     target.put(15, &[9; N]);
     target.quote(79);
     bytes
@@ -206,7 +246,6 @@ fn targets_of_each_width(rt: HostRuntime) {
     let mut expected = [0xee; 80];
     expected[..11].copy_from_slice(&[0x22, 0x26, 0x6c, 0x74, 0x3b, 0, 0, 0, 0, 7, 7]);
     expected[79] = 0x22;
-    expected[12..14].copy_from_slice(&[8, 8]);
     expected[15..31].copy_from_slice(&[9; 16]);
     assert!(rt; written_to::<16>() == expected);
     expected[15..47].copy_from_slice(&[9; 32]);
@@ -220,6 +259,7 @@ fn quote_two<const N: usize>(target: &mut Target<'_, N>)
     ensures same_slice { IsSameSlice target.old target.new }
     ensures bytes { bytes_of target.new ≡ slice_set (slice_set (bytes_of target.old) 0 34) 1 34 }
     ensures quotes { quotes_of target.new ≡ quotes_of target.old + 2 }
+    ensures writes { writes_of target.new ≡ writes_of target.old + 2 }
 {
     target.quote(0);
     target.quote(1);

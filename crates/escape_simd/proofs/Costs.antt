@@ -1,33 +1,99 @@
--- What stretches of a text cost together.
-use Rattle.std.proofs.Common.{◌≡◌, ℕ, ◌+◌, ◌-◌, ◌*◌, ◌/◌, ◌<◌, ◌≤◌, List, ap, arith}
+-- How far the body has come in a text, and at what cost.
+use Rattle.std.proofs.Common.{◌≡◌, ℕ, ◌+◌, ◌-◌, ◌*◌, ◌/◌, ◌<◌, ◌≤◌, true, List, length, length-drop, take, drop, refl, ap, subst, arith}
 use Rattle.std.proofs.Math.Nat.{div-mul-le_self}
+use Rattle.std.proofs.lemmas.List.{take_all}
 use Rattle.std.proofs.lemmas.Nat.{le-div}
 use Rattle.escape_lanes.specs.Mode.{Mode}
-use Rattle.escape_simd.specs.Stretch.{Paid}
+use Rattle.escape_lanes.specs.Written.{bytes_of}
+use Rattle.escape_lanes.specs.declared.simd.target.Target.{Target}
+use Rattle.escape_simd.specs.Stretch.{Cost, Escapes, HasRest, HasVectors, Stretch, reach, rest_length}
+use Rattle.escape_simd.proofs.RestSteps.{rest-bounds}
+use Rattle.escape_simd.proofs.Stretches.{onward_to, reach-bounds, standing, stretch-on}
+use Rattle.escape_simd.proofs.Vectors.{escapes-ended, escapes-later, passed-to}
 
-module _ (N : ℕ) (some : 0 < N) where
-  -- whole vectors of two parts
-  pub whole-vectors : (a b : ℕ) → a / N + b / N ≤ (a + b) / N
-  whole-vectors a b =
-      let p = div-mul-le_self a N in let q = div-mul-le_self b N in
-      le-div (a / N + b / N) (a + b) N some (omega (arith, p, q))
+-- The bytes before `at` were passed, at a cost of a vector for each run and each whole vector. No write reached further past what the
+-- whole ends at than those of its last bytes may.
+pub record BodySoFar {N : ℕ} (mode : Mode) (src : List ℕ) (old new : Target N) (at to end ticks_old ticks_new : ℕ) : Type 0 where
+  pub stretch : Stretch mode (rest_length mode src at + reach true N) src old new 0 at to end
+  pub cost : Cost mode src 0 at (at / N) 0 old new ticks_old ticks_new
 
-  -- k of them at least
-  pub vectors-least : (k m : ℕ) → k * N ≤ m → k ≤ m / N
-  vectors-least k m h = le-div k m N some h
+-- nothing was passed
+pub body-begin : {N : ℕ} (mode : Mode) (src : List ℕ) (t : Target N) (to ticks : ℕ) → BodySoFar mode src t t 0 to to ticks ticks
+body-begin {N} mode src t to ticks = record {
+  stretch = standing mode (rest_length mode src 0 + reach true N) src t 0 to (omega arith);
+  cost = record {
+    stored = omega arith;
+    covered = omega arith;
+    classified = omega arith;
+  };
+}
 
--- one part, and then the next
-pub paid-onward : {N : ℕ} {mode : Mode} {src : List ℕ} {at i next s0 s1 s2 t0 t1 t2 : ℕ} → 0 < N → at ≤ i → i ≤ next
-    → Paid N mode src at i s0 s1 t0 t1 → Paid N mode src i next s1 s2 t1 t2 → Paid N mode src at next s0 s2 t0 t2
-paid-onward {N} {mode} {src} {at} {i} {next} some h k a b =
-    let w = whole-vectors N some (i - at) (next - i) in
-    let e : i - at + (next - i) ≡ next - at = omega arith in
-    let f = ap (λ m. m / N) e in
-    record {
-      stored = omega (arith, a.stored, b.stored, w, f);
-      classified = omega (arith, a.classified, b.classified);
-    }
+-- one cost and the next
+cost-onward : {N : ℕ} {mode : Mode} {src : List ℕ} {at i next v1 v2 : ℕ} {old mid new : Target N} {t0 t1 t2 : ℕ} (vectors : ℕ) → v1 + v2 ≤ vectors
+    → Cost mode src at i v1 0 old mid t0 t1 → Cost mode src i next v2 0 mid new t1 t2 → Cost mode src at next vectors 0 old new t0 t2
+cost-onward vectors few a b = record {
+  stored = omega (arith, a.stored, b.stored, few);
+  covered = omega (arith, a.covered, b.covered);
+  classified = omega (arith, a.classified, b.classified, few);
+}
 
--- no part
-pub paid-nothing : (N : ℕ) (mode : Mode) (src : List ℕ) (at s t : ℕ) → Paid N mode src at at s s t t
-paid-nothing N mode src at s t = record { stored = omega arith; classified = omega arith }
+module _ {N : ℕ} (mode : Mode) (src : List ℕ) (old mid new : Target N) (at to end t0 t1 : ℕ) (several : 16 ≤ N) (so_far : BodySoFar mode src old mid at to end t0 t1) where
+  -- there is room for vectors that follow
+  pub body-vectors : (vectors size : ℕ) → to + 6 * length src + 32 ≤ size → size ≡ length (bytes_of mid) → at + (vectors + 1) * N ≤ length src → at + 6 * (vectors * N) + N ≤ at + 6 * ((vectors + 1) * N) → HasVectors N vectors src at at end (length (bytes_of mid))
+  body-vectors vectors size room sized inside more =
+      let on = stretch-on so_far.stretch in let e : at + vectors * N - at ≡ vectors * N = omega arith in
+      record { inside = inside; room = omega (arith, room, sized, inside, on, e, more) }
+
+  -- and for the last bytes
+  pub body-rest : (size : ℕ) → to + 6 * length src + 32 ≤ size → size ≡ length (bytes_of mid) → length src < at + 2 * N → HasRest N src at end (length (bytes_of mid))
+  body-rest size room sized few =
+      let on = stretch-on so_far.stretch in let i = so_far.stretch.inside in
+      record { inside = i; few = few; room = omega (arith, room, sized, on, i) }
+
+  -- so many vectors were passed
+  pub body-on : (vectors next close t2 : ℕ) → at + (vectors + 1) * N ≤ length src → at + (vectors + 1) * N ≡ at + vectors * N + N → (at / N + vectors) * N ≡ at / N * N + vectors * N → Escapes mode N (at + vectors * N) vectors 0 src mid new at next end close t1 t2 → BodySoFar mode src old new next to close t0 t2
+  body-on vectors next close t2 inside more whole e =
+      let r = rest-bounds mode src next in let far = (reach-bounds true N several).0 in let l = e.stretch.limit in let p = e.passed in
+      let w = div-mul-le_self at N in
+      record {
+        stretch = onward_to (rest_length mode src next + reach true N) so_far.stretch e.stretch (omega (arith, l)) (omega (arith, r, far, p.near, inside, more));
+        cost = cost-onward (next / N) (le-div (at / N + vectors) next N (omega (arith, several)) (omega (arith, w, whole, p.whole))) so_far.cost e.cost;
+      }
+
+  -- all of it
+  pub body-all : (close t2 : ℕ) → Escapes mode (reach true N) (length src) ((length src - at) / N + 1) 0 src mid new at (length src) end close t1 t2
+      → Escapes mode (reach true N) (length src) (length src / N + 1) 0 src old new 0 (length src) to close t0 t2
+  body-all close t2 e =
+      let i = so_far.stretch.inside in let l = e.stretch.limit in let none = (rest-bounds mode src (length src)).1 in
+      let p = div-mul-le_self at N in let q = div-mul-le_self (length src - at) N in
+      let w = le-div (at / N + (length src - at) / N) (length src) N (omega (arith, several)) (omega (arith, p, q, i)) in
+      record {
+        stretch = onward_to (reach true N) so_far.stretch e.stretch (omega (arith, l, none)) (omega arith);
+        passed = passed-to mode src (length src);
+        cost = cost-onward (length src / N + 1) (omega (arith, w)) so_far.cost e.cost;
+      }
+
+  -- the rest of the text, as a text of its own
+  abbrev left : List ℕ
+  left = take (length src - at) (drop at src)
+
+  left-is : left ≡ drop at src
+  left-is = let count = length-drop at src in take_all (length src - at) (drop at src) (omega (arith, count))
+
+  left-length : length left ≡ length src - at
+  left-length = let count = length-drop at src in let e = ap length left-is in omega (arith, count, e)
+
+  -- there is room for it
+  pub body-left : (size : ℕ) → to + 6 * length src + 32 ≤ size → size ≡ length (bytes_of mid) → end + 6 * length (take (length src - at) (drop at src)) + 32 ≤ length (bytes_of mid)
+  body-left size room sized =
+      let on = stretch-on so_far.stretch in let i = so_far.stretch.inside in
+      omega (arith, left-length, room, sized, on, i)
+
+  -- all of it, where that was escaped
+  pub body-later : (close t2 : ℕ) → (let text = take (length src - at) (drop at src) in Escapes mode (reach true N) (length text) (length text / N + 1) 0 text mid new 0 (length text) end close t1 t2)
+      → Escapes mode (reach true N) (length src) (length src / N + 1) 0 src old new 0 (length src) to close t0 t2
+  body-later close t2 e =
+      let i = so_far.stretch.inside in
+      let f = subst (λ v. Escapes mode (reach true N) (length left) v 0 left mid new 0 (length left) end close t1 t2) (ap (λ k. k / N + 1) left-length) e in
+      let whole : at + length left ≡ length src = omega (arith, left-length, i) in
+      body-all close t2 (escapes-ended whole whole refl (escapes-later src left at left-is i f))

@@ -1,32 +1,17 @@
 -- What one escape writes, and how far a run of escapes goes.
-use Rattle.std.proofs.Common.{◌≡◌, ℕ, zero, suc, ◌+◌, ◌<◌, ◌≤◌, true, false, ◌&&◌, ◌||◌, ◌==◌, List, length, drop, get_or, refl, sym, ap, ◌∙◌, inl, inr, arith}
-use Rattle.std.proofs.lemmas.Bool.Decides.{nat_tests, leb_tells}
-use Rattle.std.proofs.lemmas.List.{get_or-drop, get_or_past}
-use Rattle.escape_lanes.specs.Mode.{Mode, json, html, script}
-use Rattle.escape_lanes.specs.Replacement.{needs_escape, replacement}
-use Rattle.escape_simd.specs.Modes.{mode_numbered}
-use Rattle.escape_simd.specs.Output.{begins_separator, passed, first_replacement}
-use Rattle.escape_simd.specs.Stretch.{IsByteWise, run_reach}
+use Rattle.std.proofs.Common.{◌≡◌, ℕ, zero, suc, ◌+◌, ◌-◌, ◌<◌, ◌≤◌, true, false, ◌&&◌, ◌||◌, ◌==◌, List, length, length-append, take, drop, replicate, get_or, refl, sym, ap, ◌∙◌, arith}
+use Rattle.escape_simd.proofs.Words.{nat_tests, take-append_seam, get_or-drop, get_or_past, length-replicate, entry_count, entry_bytes, Mode, json, html, script, needs_escape, replacement, mode_numbered, begins_separator, passed, first_replacement, IsByteWise, run_reach}
+use Rattle.escape_simd.proofs.ReplacementLemmas.{length-replacement}
+use Rattle.escape_simd.proofs.Texts.{passed-between}
 
 -- a separator, told of the text
 pub begins-at : (src : List ℕ) (at : ℕ) → begins_separator (drop at src) ≡ ((get_or src at 0 == 0xe2) && (get_or src (at + 1) 0 == 0x80) && ((get_or src (at + 2) 0 == 0xa8) || (get_or src (at + 2) 0 == 0xa9)))
 unfolding begins_separator
-begins-at src at =
-    let e : at + 0 ≡ at = omega arith in
-    rw (get_or-drop at src 0 0, get_or-drop at src 1 0, get_or-drop at src 2 0, e) refl
-
--- it begins with a byte that is flagged
-pub separator-needed : (src : List ℕ) (at : ℕ) → begins_separator (drop at src) ≡ true → needs_escape script (get_or src at 0) ≡ true
-separator-needed src at begins = let e = sym (begins-at src at) ∙ begins in grind (arith, nat_tests, e)
+begins-at src at = grind (arith, nat_tests, get_or-drop)
 
 -- it has three bytes
 pub third-inside : (src : List ℕ) (at : ℕ) → begins_separator (drop at src) ≡ true → at + 2 < length src
-third-inside src at begins =
-    let e = sym (begins-at src at) ∙ begins in
-    elim (leb_tells (length src) (at + 2)) [
-      | inl past ↦ let none = get_or_past src (at + 2) 0 past.1 in absurd (grind (arith, nat_tests, e, none))
-      | inr within ↦ within.1
-    ]
+third-inside src at begins = grind (arith, nat_tests, begins-at, get_or_past)
 
 -- none begins with another byte than e2
 pub other-byte : (src : List ℕ) (at : ℕ) → (get_or src at 0 ≡ 226 → ⊥) → begins_separator (drop at src) ≡ false
@@ -40,31 +25,35 @@ third-at src at = get_or-drop at src 2 0
 pub byte-at : (src : List ℕ) (at : ℕ) → get_or (drop at src) 0 0 ≡ get_or src at 0
 byte-at src at = let e : at + 0 ≡ at = omega arith in get_or-drop at src 0 0 ∙ ap (λ k. get_or src k 0) e
 
--- where no separator begins, one byte's entry is written
-module _ (mode : Mode) (src : List ℕ) (at : ℕ) where
-  -- it is passed alone
-  pub passed-alone : (mode ≡ script → begins_separator (drop at src) ≡ false) → passed mode (drop at src) ≡ 1
-  passed-alone = by_mode mode
-    where
-      by_mode : (m : Mode) → (m ≡ script → begins_separator (drop at src) ≡ false) → passed m (drop at src) ≡ 1
-      by_mode json none = refl
-      by_mode html none = refl
-      by_mode script none = rw (none refl) refl
+-- where no separator begins, one byte's entry is written: it is passed alone
+pub passed-alone : (mode : Mode) (src : List ℕ) (at : ℕ) → (mode ≡ script → begins_separator (drop at src) ≡ false) → passed mode (drop at src) ≡ 1
+passed-alone script src at none = rw (none refl) refl
+passed-alone mode src at none = refl
 
-  -- its replacement is the first
-  pub first-alone : (mode ≡ script → begins_separator (drop at src) ≡ false) → first_replacement mode (drop at src) ≡ replacement mode (get_or src at 0)
-  first-alone = by_mode mode
-    where
-      by_mode : (m : Mode) → (m ≡ script → begins_separator (drop at src) ≡ false) → first_replacement m (drop at src) ≡ replacement m (get_or src at 0)
-      by_mode json none = ap (replacement json) (byte-at src at)
-      by_mode html none = ap (replacement html) (byte-at src at)
-      by_mode script none = rw (none refl) (ap (replacement script) (byte-at src at))
+-- and its replacement is the first
+pub first-alone : (mode : Mode) (src : List ℕ) (at : ℕ) → (mode ≡ script → begins_separator (drop at src) ≡ false) → first_replacement mode (drop at src) ≡ replacement mode (get_or src at 0)
+first-alone script src at none = rw (none refl) (ap (replacement script) (byte-at src at))
+first-alone mode src at none = ap (replacement mode) (byte-at src at)
 
--- eight bytes reach no further past two
-pub reach-six : (mode : Mode) → 6 ≤ run_reach mode
-reach-six json = omega arith
-reach-six html = omega arith
-reach-six script = omega arith
+-- an escape has two bytes or more, in a mode that looks no further
+pub two≤escape : (mode : Mode) (b : ℕ) → run_reach mode ≡ 6 → needs_escape mode b ≡ true → 2 ≤ length (replacement mode b)
+unfolding replacement
+two≤escape script b none needed = absurd (omega (arith, none))
+two≤escape mode b none needed = grind (arith, nat_tests)
+
+-- the entry of a byte that needs an escape
+module _ (mode : Mode) (b : ℕ) (needed : needs_escape mode b ≡ true) where
+  -- counts what stands for it
+  pub entry-counts : entry_count mode b ≡ length (replacement mode b)
+  entry-counts = rw needed refl
+
+  -- begins with that
+  pub entry-front : take (entry_count mode b) (entry_bytes mode b) ≡ replacement mode b
+  entry-front = rw needed (take-append_seam (replacement mode b) (replicate (8 - length (replacement mode b)) 0))
+
+  -- and has eight bytes
+  pub entry-long : length (entry_bytes mode b) ≡ 8
+  entry-long = grind (arith, nat_tests, length-replacement, length-append {A = ℕ}, length-replicate)
 
 -- a number that names the third mode
 pub is_script : (n : ℕ) → 2 ≤ n → mode_numbered n ≡ script
@@ -74,14 +63,8 @@ is_script (suc (suc n)) h = refl
 
 -- and one that does not
 pub not_script : (n : ℕ) → n < 2 → (mode_numbered n ≡ script → ⊥)
-not_script zero h e = elim_json e
-  where
-    elim_json : json ≡ script → ⊥
-    elim_json p = absurd (cc)
-not_script (suc zero) h e = elim_html e
-  where
-    elim_html : html ≡ script → ⊥
-    elim_html p = absurd (cc)
+not_script zero h e = let other : json ≡ script = e in absurd (cc)
+not_script (suc zero) h e = let other : html ≡ script = e in absurd (cc)
 not_script (suc (suc n)) h e = absurd (omega arith)
 
 -- the modes below it go byte by byte
@@ -89,3 +72,14 @@ pub bytewise-below : (n : ℕ) → n < 2 → IsByteWise (mode_numbered n)
 bytewise-below zero h bytes = refl
 bytewise-below (suc zero) h bytes = refl
 bytewise-below (suc (suc n)) h bytes = absurd (omega arith)
+
+-- an entry reaches few bytes further
+pub reach-few : (mode : Mode) → run_reach mode ≤ 7
+reach-few script = omega arith
+reach-few mode = omega arith
+
+-- the bytes that are passed with a flagged one are clean
+pub passed-after : (mode : Mode) (src : List ℕ) (f next q : ℕ) → next ≡ f + passed mode (drop f src) → f < q → q < next → needs_escape mode (get_or src q 0) ≡ false
+passed-after mode src f next q place after before =
+    let e : f + (q - f) ≡ q = omega (arith, after) in
+    ap (needs_escape mode) (ap (λ k. get_or src k 0) (sym e) ∙ sym (get_or-drop f src (q - f) 0)) ∙ passed-between mode (drop f src) (q - f) (omega (arith, after)) (omega (arith, after, before, place))

@@ -1,17 +1,7 @@
 -- The laws of every output, in one record.
-use Rattle.std.proofs.Common.{◌≡◌, ℕ, zero, suc, ◌-◌, ◌≤◌, List, [], ◌∷◌, ◌++◌, IsUtf8, codes, ◌==◌, slice_index_or, sym, subst, arith, inl, inr}
-use Rattle.std.specs.List.{AllByRecursion}
-use Rattle.std.proofs.lemmas.Bool.{cases_Bool, cond_both}
-use Rattle.std.proofs.lemmas.Bool.Decides.{nat_tests}
-use Rattle.std.proofs.lemmas.List.Elements.{All-from_recursion}
-use Rattle.escape_lanes.specs.Replacement.{replacement, needs_escape}
-use Rattle.escape_lanes.specs.Mode.{Mode, json, html, script}
-use Rattle.escape_simd.specs.Escaping.{IsOneLine, IsHarmless, IsEscaping}
-use Rattle.escape_simd.specs.Html.{AmpersandsBeginEntities}
-use Rattle.escape_simd.specs.Laws.{appended}
-use Rattle.escape_simd.specs.Output.{begins_separator, passed, first_replacement, script_inner_after, inner, plain, quoted}
-use Rattle.escape_simd.specs.Script.{is_script_marked}
-use Rattle.escape_simd.proofs.HtmlLemmas.{plain_ampersands, IsOnlyHtml-output}
+use Rattle.std.proofs.Common.{◌≡◌, ℕ, zero, suc, ◌-◌, ◌≤◌, List, [], ◌∷◌, ◌++◌, IsUtf8, codes, slice_index_or, sym, subst, arith}
+use Rattle.escape_simd.proofs.Words.{IsMarkupFree, AllByRecursion, cond_both, nat_tests, All-from_recursion, replacement, Mode, json, html, script, IsOneLine, IsHarmless, IsEscaping, AmpersandsBeginEntities, appended, passed, first_replacement, script_inner_after, inner, plain, quoted}
+use Rattle.escape_simd.proofs.HtmlLemmas.{plain_ampersands, plain_markup_free}
 use Rattle.escape_simd.proofs.OutputLemmas.{IsTextOf-chars, IsUtf8-output, IsOnlyOutput-output, IsOfOneText-output, HasOutputLength-output, JoinsTexts-output, appended-append}
 use Rattle.escape_simd.proofs.JsonLemmas.{needed_cases}
 use Rattle.escape_simd.proofs.ReplacementLemmas.{replacement-clean, marked_cases, replacement-unmarked}
@@ -27,29 +17,16 @@ IsPrinted bytes = AllByRecursion (λ b. 0x20 ≤ b) bytes
 -- such is what stands for a byte in JSON
 json_printed : (b : ℕ) → IsPrinted (replacement json b)
 unfolding replacement
-json_printed b =
-    elim (cases_Bool (needs_escape json b)) [
-      | inl need ↦
-          needed_cases b need (λ x. IsPrinted (replacement json x)) (omega arith) (omega arith) (omega arith) (omega arith) (omega arith) (omega arith) (omega arith)
-          (λ h. let low = h.low in subst IsPrinted (sym h.written) (grind (arith, nat_tests)))
-      | inr clean ↦ subst IsPrinted (sym (replacement-clean json b clean)) (grind (arith, nat_tests), tt)
-    ]
+json_printed b = grind (arith, nat_tests, needed_cases, replacement-clean)
 
 -- and in a script literal
 script_printed : (b : ℕ) → IsPrinted (replacement script b)
 unfolding replacement
-script_printed b =
-    elim (cases_Bool (is_script_marked b)) [
-      | inl marked ↦ marked_cases b marked (λ x. IsPrinted (replacement script x)) (omega arith) (omega arith) (omega arith) (omega arith) (omega arith)
-      | inr other ↦ subst IsPrinted (sym (replacement-unmarked b other)) (json_printed b)
-    ]
+script_printed b = grind (arith, nat_tests, marked_cases, replacement-unmarked, json_printed)
 
 -- also where it stands for a separator
 first_printed : (bytes : List ℕ) → IsPrinted (first_replacement script bytes)
-first_printed bytes =
-    cond_both (begins_separator bytes) _ _ IsPrinted
-    (λ _. cond_both (slice_index_or bytes 2 0 == 0xa8) (codes "\\u2028") (codes "\\u2029") IsPrinted (λ _. omega arith) (λ _. omega arith))
-    (λ _. script_printed (slice_index_or bytes 0 0))
+first_printed bytes = grind (arith, nat_tests, cond_both, slice_index_or, codes, script_printed)
 
 -- such is what stands for bytes in JSON
 json_inner_printed : (bytes : List ℕ) → IsPrinted (inner json bytes)
@@ -79,13 +56,13 @@ pub script_one_line : (bytes output : List ℕ) → output ≡ plain script byte
 script_one_line bytes output same = IsOneLine-quoted (inner script bytes) output same (script_inner_printed 0 bytes)
 
 -- the output for a text can stand in its place
-IsHarmless-output : (mode : Mode) (bytes output : List ℕ) → output ≡ plain mode bytes → IsUtf8 bytes → IsHarmless mode output
-IsHarmless-output json bytes output same utf8 = json_one_line bytes output same
-IsHarmless-output html bytes output same utf8 = record {
-  markup_free = (IsOnlyHtml-output bytes output utf8 same).markup_free;
+IsHarmless-output : (mode : Mode) (bytes output : List ℕ) → output ≡ plain mode bytes → IsHarmless mode output
+IsHarmless-output json bytes output same = json_one_line bytes output same
+IsHarmless-output html bytes output same = record {
+  markup_free = subst IsMarkupFree (sym same) (plain_markup_free bytes);
   ampersands = subst AmpersandsBeginEntities (sym same) (plain_ampersands bytes);
 }
-IsHarmless-output script bytes output same utf8 = record {
+IsHarmless-output script bytes output same = record {
   one_line = script_one_line bytes output same;
   safe = IsSafeInScript-output bytes output same;
 }
@@ -97,7 +74,7 @@ IsEscaping-output mode bytes output same utf8 = record {
   exact = same;
   headline = IsOnlyOutput-output mode bytes output same utf8;
   utf8 = IsUtf8-output mode bytes output utf8 same;
-  harmless = IsHarmless-output mode bytes output same utf8;
+  harmless = IsHarmless-output mode bytes output same;
   joined = JoinsTexts-output mode bytes output same;
   equal_texts = IsOfOneText-output mode bytes output same utf8;
   len = HasOutputLength-output mode bytes output same;

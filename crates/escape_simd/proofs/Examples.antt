@@ -1,18 +1,10 @@
 -- Outputs and readings that show what the definitions say.
 use Rattle.std.proofs.Common.{◌≡◌, ◌≢◌, ℕ, List, [], ◌∷◌, ◌++◌, codes, length, length-append, refl, ap, ◌∙◌, arith}
-use Rattle.std.specs.Char.{encode_utf8}
-use Rattle.std.specs.List.{concat, AllZip}
-use Rattle.escape_lanes.specs.Mode.{json, html, script}
-use Rattle.escape_lanes.specs.Replacement.{replacement}
-use Rattle.escape_simd.specs.Output.{begins_separator, script_inner_after, inner, plain}
-use Rattle.escape_simd.specs.Html.{HtmlReads, IsHtmlItem, entity_of, entity, raw as html_raw}
-use Rattle.escape_simd.specs.Json.{JsonDenotes, IsJsonItem, raw, short, hex, pair, digits, short_escape, IsHexForm}
-use Rattle.escape_simd.specs.Script.{IsScriptItem, IsScriptFree, IsSafeInScript}
+use Rattle.escape_simd.proofs.Words.{encode_utf8, concat, AllZip, json, html, script, replacement, begins_separator, script_inner_after, inner, plain, HtmlReads, IsHtmlItem, entity_of, entity, JsonDenotes, IsJsonItem, raw, short, hex, pair, digits, short_escape, IsHexForm, IsScriptItem, IsScriptFree, IsSafeInScript, append_cancel_right, char_from_byte}
+use Rattle.escape_simd.specs.Html.{raw as html_raw}
 use Rattle.escape_simd.proofs.JsonLemmas.{not_u, length-pair, literal-least}
 use Rattle.escape_simd.proofs.ReplacementLemmas.{script_replacement}
 use Rattle.escape_simd.proofs.ScriptLemmas.{least}
-use Rattle.std.proofs.lemmas.List.{append_cancel_right}
-use Rattle.std.proofs.lemmas.Str.{char_from_byte}
 use Rattle.escape_simd.proofs.HtmlLemmas.{six_cases, entity_is}
 
 -- all six entities, and a byte that stands for itself

@@ -1,17 +1,7 @@
 -- Laws of HTML texts: the output reads as the text, holds no markup, and is the only one that does.
-use Rattle.std.proofs.Common.{Some, ◌≡◌, ◌≢◌, ℕ, ◌<◌, true, false, ◌⊎◌, ◌==◌, cond, List, [], ◌∷◌, ◌++◌, length, get_or, flat_map, encode_utf8, encode_utf8_all, refl, sym, ap, subst, ◌∙◌, arith, inl, inr, IsUtf8, chars}
-use Rattle.std.specs.Char.{IsScalar}
-use Rattle.std.specs.Str.{all_scalars}
-use Rattle.std.specs.List.{AllZip, concat, AllByRecursion}
-use Rattle.std.proofs.lemmas.Bool.{cases_Bool}
-use Rattle.std.proofs.lemmas.Bool.Decides.{nat_tests}
-use Rattle.std.proofs.lemmas.List.{append_cancel_left}
-use Rattle.std.proofs.lemmas.List.Elements.{All-from_recursion, recursion_from_All}
-use Rattle.std.proofs.lemmas.Str.{encode_ascii, encode_same, char_from_byte, length-encode, len_utf8_bounds, encodes-chars, scalars-chars}
-use Rattle.escape_lanes.specs.Mode.{html}
-use Rattle.escape_lanes.specs.Replacement.{replacement, needs_escape}
-use Rattle.escape_simd.specs.Output.{inner, plain}
-use Rattle.escape_simd.specs.Html.{IsHtmlItem, entity_of, entity, raw, HtmlReads, is_markup, IsMarkupFree, IsOnlyHtml, AmpersandsBeginEntities}
+use Rattle.std.proofs.Common.{Some, ◌≡◌, ◌≢◌, ℕ, ◌<◌, true, false, ◌==◌, cond, List, [], ◌∷◌, ◌++◌, length, get_or, flat_map, encode_utf8, encode_utf8_all, refl, sym, ap, subst, ◌∙◌, arith, inl, inr}
+use Rattle.escape_simd.proofs.Words.{IsScalar, all_scalars, AllZip, concat, AllByRecursion, cases_Bool, nat_tests, append_cancel_left, All-from_recursion, recursion_from_All, encode_ascii, encode_same, char_from_byte, length-encode, len_utf8_bounds, html, replacement, needs_escape, inner, plain, IsHtmlItem, entity_of, entity, HtmlReads, is_markup, IsMarkupFree, IsOnlyHtml, AmpersandsBeginEntities}
+use Rattle.escape_simd.specs.Html.{raw}
 use Rattle.escape_simd.proofs.SpellingLemmas.{Spells-flat_map, concat_of_pieces, Spells-one_text, AllByRecursion-append, AllByRecursion-parts}
 use Rattle.escape_simd.proofs.ReplacementLemmas.{inner_clean, inner_needed, inner-pieces, needs_escape_low, replacement-clean}
 
@@ -25,17 +15,7 @@ plain_pieces text = inner-pieces html text
 
 -- one of the six characters that have an entity
 pub six_cases : (c : ℕ) → needs_escape html c ≡ true → (P : ℕ → Type 0) → P 0x22 → P 0x26 → P 0x27 → P 0x2f → P 0x3c → P 0x3e → P c
-six_cases c need P p1 p2 p3 p4 p5 p6 =
-    let which : (c ≡ 0x22) ⊎ ((c ≡ 0x26) ⊎ ((c ≡ 0x27) ⊎ ((c ≡ 0x2f) ⊎ ((c ≡ 0x3c) ⊎ (c ≡ 0x3e))))) = grind (arith, nat_tests) in
-    let along = λ (x : ℕ) (e : c ≡ x) (p : P x). subst P (sym e) p in
-    elim which [
-      | inl e ↦ along 0x22 e p1
-      | inr (inl e) ↦ along 0x26 e p2
-      | inr (inr (inl e)) ↦ along 0x27 e p3
-      | inr (inr (inr (inl e))) ↦ along 0x2f e p4
-      | inr (inr (inr (inr (inl e)))) ↦ along 0x3c e p5
-      | inr (inr (inr (inr (inr e)))) ↦ along 0x3e e p6
-    ]
+six_cases c need P p1 p2 p3 p4 p5 p6 = grind (arith, nat_tests)
 
 -- a character that has an entity needs an escape, and the entity is what is written for it
 pub entity_is : (c : ℕ) (i : List ℕ) → entity_of c ≡ Some i → (needs_escape html c ≡ true) × (i ≡ replacement html c)
@@ -100,22 +80,17 @@ markup_free_item : (i : List ℕ) (c : ℕ) → IsHtmlItem i c → AllByRecursio
 markup_free_item i c (entity e) free = let h = entity_is c i e in h.1 ∙ sym (inner_needed html tt c h.0)
 markup_free_item i c (raw scalar other) free =
     elim (cases_Bool (needs_escape html c)) [
-      | inl need ↦
-          let byte = encode_ascii c (needs_escape_low html tt c need) in
-          let at : AllByRecursion (λ x. is_markup x ≡ false) (c ∷ []) = subst (λ bytes. AllByRecursion (λ x. is_markup x ≡ false) bytes) byte free in
-          let unmarked : is_markup c ≡ false = at.0 in
-          grind (arith, nat_tests)
+      | inl need ↦ grind (arith, nat_tests, encode_ascii, needs_escape_low, free)
       | inr clean ↦ sym (inner_clean html tt c clean)
     ]
 
 -- items without markup are what stands for the characters
 markup_free_items : (items : List (List ℕ)) (text : List ℕ) → AllZip IsHtmlItem items text → AllByRecursion (λ x. is_markup x ≡ false) (concat items) → AllZip (λ i c. i ≡ piece c) items text
 markup_free_items [] [] h free = tt
-markup_free_items [] (c ∷ cs) h free = absurd h
-markup_free_items (i ∷ is) [] h free = absurd h
 markup_free_items (i ∷ is) (c ∷ cs) h free =
     let parts = AllByRecursion-parts (λ x. is_markup x ≡ false) i (concat is) free in
     (markup_free_item i c h.0 parts.0, markup_free_items is cs h.1 parts.1)
+markup_free_items xs ys h free = absurd h
 
 -- what reads as the text and holds no markup is the output
 pub only_plain : (bytes text : List ℕ) → HtmlReads bytes text → IsMarkupFree bytes → bytes ≡ plain html (encode_utf8_all text)
@@ -138,18 +113,13 @@ apart i j x y c d (entity e) (entity f) same =
     let begins : replacement html c ++ x ≡ replacement html d ++ y = ap (λ bytes. bytes ++ x) (sym first.1) ∙ same ∙ ap (λ bytes. bytes ++ y) second.1 in
     let one : c ≡ d = sym (named-replacement c x first.0) ∙ ap named begins ∙ named-replacement d y second.0 in
     (one, append_cancel_left (replacement html c) x y (begins ∙ ap (λ z. replacement html z ++ y) (sym one)))
-apart i j x y c d (entity e) (raw scalar other) same =
-    let h = entity_is c i e in absurd (not_ampersand y x d c other h.0 (sym same ∙ ap (λ bytes. bytes ++ x) h.1))
-apart i j x y c d (raw scalar other) (entity f) same =
-    let h = entity_is d j f in absurd (not_ampersand x y c d other h.0 (same ∙ ap (λ bytes. bytes ++ y) h.1))
+apart i j x y c d (entity e) (raw scalar other) same = grind (arith, nat_tests, entity_is, not_ampersand)
+apart i j x y c d (raw scalar other) (entity f) same = grind (arith, nat_tests, entity_is, not_ampersand)
 apart i j x y c d (raw scalar other) (raw also distinct) same = encode_same c d x y same
 
 -- an item has a byte
 not_empty : (i : List ℕ) (c : ℕ) → IsHtmlItem i c → 0 < length i
-not_empty i c (entity e) =
-    let h = entity_is c i e in
-    let start = replacement_ampersand c h.0 in
-    omega (arith, ap length (h.1 ∙ start.1))
+not_empty i c (entity e) = grind (arith, nat_tests, entity_is, replacement_ampersand)
 not_empty i c (raw scalar other) = let long = (len_utf8_bounds c).0 in omega (arith, length-encode c)
 
 -- bytes read as one text at most
@@ -157,19 +127,13 @@ pub one_text : (bytes t u : List ℕ) → HtmlReads bytes t → HtmlReads bytes 
 one_text bytes t u p q = Spells-one_text IsHtmlItem apart not_empty bytes t u p q
 
 -- the output for the bytes of a text
-IsOnlyHtml-plain : (text : List ℕ) → all_scalars text ≡ true → IsOnlyHtml (plain html (encode_utf8_all text)) text
+pub IsOnlyHtml-plain : (text : List ℕ) → all_scalars text ≡ true → IsOnlyHtml (plain html (encode_utf8_all text)) text
 IsOnlyHtml-plain text scalars = record {
   reads = plain_reads text scalars;
   markup_free = plain_markup_free (encode_utf8_all text);
   only = λ other reads free. only_plain other text reads free;
   one_text = λ other reads. one_text (plain html (encode_utf8_all text)) other text reads (plain_reads text scalars);
 }
-
--- as the clause of a call has it: of its `&str` and its output
-pub IsOnlyHtml-output : (bytes output : List ℕ) → IsUtf8 bytes → output ≡ plain html bytes → IsOnlyHtml output (chars bytes)
-IsOnlyHtml-output bytes output utf8 same =
-    let whole = ap (plain html) (encodes-chars bytes utf8) in
-    subst (λ o. IsOnlyHtml o (chars bytes)) (whole ∙ sym same) (IsOnlyHtml-plain (chars bytes) (scalars-chars bytes utf8))
 
 -- Ampersands
 
@@ -195,9 +159,7 @@ past_entity c letters tail need is h begins (f ∷ fs) rest e = past_letters let
 ampersand_step : (b : ℕ) (tail : List ℕ) → AmpersandsBeginEntities tail → AmpersandsBeginEntities (replacement html b ++ tail)
 ampersand_step b tail begins =
     elim (cases_Bool (needs_escape html b)) [
-      | inl need ↦
-          let entity = letters_of b need in
-          subst (λ bytes. AmpersandsBeginEntities (bytes ++ tail)) (sym entity.1) (past_entity b entity.0 tail need entity.1 entity.2 begins)
+      | inl need ↦ grind (arith, nat_tests, letters_of, past_entity)
       | inr clean ↦
           let other : b ≢ 0x26 = grind (arith, nat_tests) in
           subst (λ bytes. AmpersandsBeginEntities (bytes ++ tail)) (sym (replacement-clean html b clean)) (past_letters (b ∷ []) tail (other, tt) begins)

@@ -1,10 +1,6 @@
 -- The first texts of a list, joined.
 use Rattle.std.proofs.Common.{◌≡◌, ℕ, zero, suc, ◌+◌, ◌<◌, ◌≤◌, List, [], ◌∷◌, ◌++◌, length, map, take, get_or, sym, ap, ◌∙◌, append_assoc, append-nil, add-one, arith}
-use Rattle.std.specs.List.{concat}
-use Rattle.std.proofs.lemmas.List.{get_or_default}
-use borrow.Author.Count.{below_more}
-use Rattle.escape_lanes.specs.Mode.{Mode}
-use Rattle.escape_simd.specs.Output.{inner}
+use Rattle.escape_simd.proofs.Words.{concat, get_or_default, Mode, inner}
 use Rattle.escape_simd.proofs.OutputLemmas.{CanBeCutAfter, inner-append}
 
 -- one more list, joined
@@ -20,14 +16,10 @@ pub written_more : {X : Type 0} (mode : Mode) (f : X → List ℕ) (xs : List X)
     → before ≡ start ++ inner mode (concat (take n (map f xs))) → after ≡ before ++ inner mode (f (get_or xs n d))
     → after ≡ start ++ inner mode (concat (take (n + 1) (map f xs)))
 written_more mode f xs n d start before after inside cut so_far more =
-    let front = concat (take n (map f xs)) in
-    let next = f (get_or xs n d) in
-    let joined : concat (take (n + 1) (map f xs)) ≡ front ++ next = rw add-one (concat_suc f xs n d inside) in
-    more ∙ ap (λ bytes. bytes ++ inner mode next) so_far ∙ append_assoc start (inner mode front) (inner mode next) ∙ ap (λ bytes. start ++ bytes) (sym (inner-append mode (concat (take (n + 1) (map f xs))) front next joined cut))
+    grind (arith, add-one, concat_suc, append_assoc, inner-append)
 
 -- what holds of each of the first values, once it holds of one more
 pub each_more : {X : Type 0} (f : X → ℕ) (most : ℕ) (xs : List X) (n : ℕ) (e : X) → n < length xs
     → ((k : ℕ) (d : X) → k < n → f (get_or xs k d) ≤ most) → f (get_or xs n e) ≤ most
     → (k : ℕ) (d : X) → k < n + 1 → f (get_or xs k d) ≤ most
-each_more f most xs n e inside below here k d under =
-    below_more (λ j. f (get_or xs j d) ≤ most) n (λ j h. below j d h) (rw (get_or_default xs n d e inside) here) k under
+each_more f most xs n e inside below here k d under = grind (arith, get_or_default)

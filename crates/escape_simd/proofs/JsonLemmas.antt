@@ -1,17 +1,6 @@
 -- Laws of JSON literals.
-use Rattle.std.proofs.Common.{◌≡◌, ◌≢◌, ℕ, ◌+◌, ◌-◌, ◌*◌, ◌/◌, ◌%◌, ◌<◌, ◌≤◌, true, false, ◌⊎◌, List, [], ◌∷◌, ◌++◌, length, length-append, flat_map, encode_utf8, encode_utf8_all, Some, refl, sym, ap, ap₂, subst, subst₂, ◌∙◌, append_assoc, arith, inl, inr, IsUtf8, chars, le_antisymm}
-use Rattle.std.specs.Char.{IsScalar, digit_value, digit_char}
-use Rattle.std.specs.Str.{all_scalars}
-use Rattle.std.specs.List.{concat}
-use Rattle.std.proofs.lemmas.Bool.{cases_lt, cases_Bool}
-use Rattle.std.proofs.lemmas.Bool.Decides.{nat_tests}
-use Rattle.std.proofs.lemmas.List.{append_cancel_right}
-use Rattle.std.proofs.lemmas.Str.{encode_same, char_from_byte, length-encode, len_utf8_bounds, len_utf8_ascii, digit_value-digit_char, encodes-chars, scalars-chars}
-use Rattle.escape_lanes.specs.Mode.{json}
-use Rattle.escape_lanes.specs.Replacement.{replacement, needs_escape, control_escape}
-use Rattle.escape_simd.specs.Output.{inner, plain, quoted}
-use Rattle.escape_simd.specs.Json.{IsJsonItem, raw, short, hex, pair, IsHexForm, digits, IsHexDigit, short_escape, IsLiteral, JsonDenotes, IsNotUpper, HasLowerDigits, IsLowerItem, IsLower, IsShortestJson, IsOnlyJson}
-use Rattle.escape_simd.specs.Spelling.{Spells}
+use Rattle.std.proofs.Common.{◌≡◌, ◌≢◌, ℕ, ◌+◌, ◌-◌, ◌*◌, ◌/◌, ◌%◌, ◌<◌, ◌≤◌, true, false, List, [], ◌∷◌, ◌++◌, length, length-append, flat_map, encode_utf8, encode_utf8_all, Some, refl, sym, ap, ap₂, subst, ◌∙◌, append_assoc, arith, inl, inr, le_antisymm}
+use Rattle.escape_simd.proofs.Words.{IsScalar, digit_value, digit_char, all_scalars, cases_lt, cases_Bool, nat_tests, append_cancel_right, encode_same, char_from_byte, length-encode, len_utf8_bounds, len_utf8_ascii, digit_value-digit_char, json, replacement, needs_escape, control_escape, inner, plain, quoted, IsJsonItem, raw, short, hex, pair, IsHexForm, digits, IsHexDigit, short_escape, IsLiteral, JsonDenotes, IsNotUpper, HasLowerDigits, IsLowerItem, IsLower, IsShortestJson, IsOnlyJson, Spells}
 use Rattle.escape_simd.proofs.SpellingLemmas.{Spells-flat_map, Spells-one_text, pieces_le, only_pieces, AllZip-weaker}
 use Rattle.escape_simd.proofs.ReplacementLemmas.{inner_clean, inner_needed, inner-pieces, hex_escape, length-replacement}
 
@@ -32,35 +21,13 @@ pub record IsWrittenByHex (c : ℕ) : Type 0 where
 pub needed_cases : (c : ℕ) → needs_escape json c ≡ true → (P : ℕ → Type 0) → P 0x08 → P 0x09 → P 0x0a → P 0x0c → P 0x0d → P 0x22 → P 0x5c → (IsWrittenByHex c → P c) → P c
 unfolding replacement
 needed_cases c need P p1 p2 p3 p4 p5 p6 p7 other =
-    let which : (c ≡ 0x08) ⊎ ((c ≡ 0x09) ⊎ ((c ≡ 0x0a) ⊎ ((c ≡ 0x0c) ⊎ ((c ≡ 0x0d) ⊎ ((c ≡ 0x22) ⊎ ((c ≡ 0x5c) ⊎ ((c < 32) × (replacement json c ≡ control_escape c)))))))) = grind (arith, nat_tests) in
-    let along = λ (x : ℕ) (e : c ≡ x) (p : P x). subst P (sym e) p in
-    elim which [
-      | inl e ↦ along 0x08 e p1
-      | inr (inl e) ↦ along 0x09 e p2
-      | inr (inr (inl e)) ↦ along 0x0a e p3
-      | inr (inr (inr (inl e))) ↦ along 0x0c e p4
-      | inr (inr (inr (inr (inl e)))) ↦ along 0x0d e p5
-      | inr (inr (inr (inr (inr (inl e))))) ↦ along 0x22 e p6
-      | inr (inr (inr (inr (inr (inr (inl e)))))) ↦ along 0x5c e p7
-      | inr (inr (inr (inr (inr (inr (inr h)))))) ↦ other (record { low = h.0; written = h.1 })
-    ]
+    let hex : c < 32 → replacement json c ≡ control_escape c → P c = λ low written. other (record { low = low; written = written }) in
+    grind (arith, nat_tests, hex)
 
 -- the eight short forms
 pub short_cases : (b c : ℕ) → short_escape b ≡ Some c → (P : ℕ → ℕ → Type 0) → P 0x22 0x22 → P 0x5c 0x5c → P 0x2f 0x2f → P 0x62 0x08 → P 0x66 0x0c → P 0x6e 0x0a → P 0x72 0x0d → P 0x74 0x09 → P b c
 unfolding short_escape
-short_cases b c e P p1 p2 p3 p4 p5 p6 p7 p8 =
-    let which : ((b ≡ 0x22) × (c ≡ 0x22)) ⊎ (((b ≡ 0x5c) × (c ≡ 0x5c)) ⊎ (((b ≡ 0x2f) × (c ≡ 0x2f)) ⊎ (((b ≡ 0x62) × (c ≡ 0x08)) ⊎ (((b ≡ 0x66) × (c ≡ 0x0c)) ⊎ (((b ≡ 0x6e) × (c ≡ 0x0a)) ⊎ (((b ≡ 0x72) × (c ≡ 0x0d)) ⊎ ((b ≡ 0x74) × (c ≡ 0x09)))))))) = grind (arith, nat_tests) in
-    let along = λ (x y : ℕ) (h : (b ≡ x) × (c ≡ y)) (p : P x y). subst₂ P (sym h.0) (sym h.1) p in
-    elim which [
-      | inl h ↦ along 0x22 0x22 h p1
-      | inr (inl h) ↦ along 0x5c 0x5c h p2
-      | inr (inr (inl h)) ↦ along 0x2f 0x2f h p3
-      | inr (inr (inr (inl h))) ↦ along 0x62 0x08 h p4
-      | inr (inr (inr (inr (inl h)))) ↦ along 0x66 0x0c h p5
-      | inr (inr (inr (inr (inr (inl h))))) ↦ along 0x6e 0x0a h p6
-      | inr (inr (inr (inr (inr (inr (inl h)))))) ↦ along 0x72 0x0d h p7
-      | inr (inr (inr (inr (inr (inr (inr h)))))) ↦ along 0x74 0x09 h p8
-    ]
+short_cases b c e P p1 p2 p3 p4 p5 p6 p7 p8 = grind (arith, nat_tests)
 
 -- a hex digit that isn't upper-case is the one that writes its value
 lower_digit : (d : ℕ) → IsHexDigit d → IsNotUpper d → d ≡ digit_char (digit_value d)
@@ -95,11 +62,7 @@ hex_only i c (digits {d3 = d3} {d2 = d2} {d1 = d1} {d0 = d0} h3 h2 h1 h0) lower 
 
 -- a control character is written so
 control_hex : (c : ℕ) → c < 32 → control_escape c ≡ hex_escape c
-control_hex c low =
-    let d3 : c / 0x1000 ≡ 0 = omega arith in
-    let d2 : c / 0x100 % 16 ≡ 0 = omega arith in
-    let d1 : c / 0x10 % 16 ≡ c / 16 = omega arith in
-    rw (d3, d2, d1) refl
+control_hex c low = grind (arith, nat_tests)
 
 -- forms that begin one byte list have one value
 hex_same : (i j x y : List ℕ) (u v : ℕ) → IsHexForm i u → IsHexForm j v → i ++ x ≡ j ++ y → (u ≡ v) × (x ≡ y)
@@ -175,10 +138,7 @@ least i c (pair {first = f} {second = s} {high = h} {low = l} first second _ _) 
 -- six bytes stand for no character with a short form
 hex_written : (c : ℕ) → needs_escape json c ≡ true → 6 ≤ length (replacement json c) → IsWrittenByHex c
 unfolding replacement
-hex_written c need =
-    needed_cases c need (λ x. 6 ≤ length (replacement json x) → IsWrittenByHex x)
-    (λ h. absurd (omega arith)) (λ h. absurd (omega arith)) (λ h. absurd (omega arith)) (λ h. absurd (omega arith)) (λ h. absurd (omega arith)) (λ h. absurd (omega arith)) (λ h. absurd (omega arith))
-    (λ h _. h)
+hex_written c need = grind (arith, nat_tests, needed_cases)
 
 -- an item with no upper-case digit that is as short as what stands for the character is that
 pub only : (i : List ℕ) (c : ℕ) → IsLowerItem i c → length i ≤ length (piece c) → i ≡ piece c
@@ -230,8 +190,7 @@ short_alone : (j x y : List ℕ) (b c d : ℕ) → short_escape b ≡ Some c →
 short_alone j x y b c d s (raw _ _ _ l) same = absurd (not_backslash y (b ∷ x) d l (sym same))
 short_alone j x y b c d s (short {b = z} t) same = let letter : b ≡ z = cc in (cc, cc)
 short_alone j x y b c d s (hex form _) same =
-    let start = form_start j y d form in
-    let begins = same ∙ start.1 in
+    let begins = same ∙ (form_start j y d form).1 in
     absurd (not_u b c s (cc))
 short_alone j x y b c d s (pair {first = f} {second = t} {high = h} form _ _ _) same =
     let start = pair_start f t y h form in
@@ -295,23 +254,11 @@ module _ (Item : List ℕ → ℕ → Type 0) (f : ℕ → List ℕ) where
   module _ (least : (i : List ℕ) (c : ℕ) → Item i c → length (f c) ≤ length i) (bytes text : List ℕ) (literal : IsLiteral Item bytes text) where
     -- where no item is shorter than the piece, no literal is shorter than the pieces
     pub literal-least : length (quoted (flat_map f text)) ≤ length bytes
-    literal-least =
-        omega (
-          arith,
-          length-quoted (flat_map f text),
-          ap length literal.between,
-          length-quoted literal.inside,
-          pieces_le Item f least literal.spelled.items text literal.spelled.each,
-          ap length literal.spelled.joined,
-        )
+    literal-least = grind (arith, nat_tests, length-quoted, flat_map, pieces_le, least)
 
     -- where moreover an item as short as the piece is the piece, a literal as short as the pieces is the pieces
     pub literal-only : ((i : List ℕ) (c : ℕ) → Item i c → length i ≤ length (f c) → i ≡ f c) → length bytes ≤ length (quoted (flat_map f text)) → bytes ≡ quoted (flat_map f text)
-    literal-only same_piece not_longer =
-        let small : length (concat literal.spelled.items) ≤ length (flat_map f text) =
-        omega (arith, length-quoted (flat_map f text), ap length literal.between, length-quoted literal.inside, ap length literal.spelled.joined) in
-        let inside = literal.spelled.joined ∙ only_pieces Item f least same_piece literal.spelled.items text literal.spelled.each small in
-        literal.between ∙ ap quoted inside
+    literal-only same_piece not_longer = grind (arith, nat_tests, flat_map, length-quoted, only_pieces, least)
 
 -- The laws
 
@@ -352,7 +299,7 @@ one_text bytes t u p q =
     Spells-one_text IsJsonItem apart not_empty p.inside t u p.spelled (subst (λ bytes. Spells IsJsonItem bytes u) (sym same) q.spelled)
 
 -- the output for the bytes of a text
-IsOnlyJson-plain : (text : List ℕ) → all_scalars text ≡ true → IsOnlyJson (plain json (encode_utf8_all text)) text
+pub IsOnlyJson-plain : (text : List ℕ) → all_scalars text ≡ true → IsOnlyJson (plain json (encode_utf8_all text)) text
 IsOnlyJson-plain text scalars = record {
   shortest = plain_shortest text scalars;
   lower = plain_lower text scalars;
@@ -367,9 +314,3 @@ IsOnlyJson-plain text scalars = record {
   where
     output : List ℕ
     output = plain json (encode_utf8_all text)
-
--- as the clause of a call has it: of its `&str` and its output
-pub IsOnlyJson-output : (bytes output : List ℕ) → IsUtf8 bytes → output ≡ plain json bytes → IsOnlyJson output (chars bytes)
-IsOnlyJson-output bytes output utf8 same =
-    let whole = ap (plain json) (encodes-chars bytes utf8) in
-    subst (λ o. IsOnlyJson o (chars bytes)) (whole ∙ sym same) (IsOnlyJson-plain (chars bytes) (scalars-chars bytes utf8))

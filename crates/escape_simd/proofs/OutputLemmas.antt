@@ -1,34 +1,25 @@
 -- The laws as calls' clauses have them.
 use Rattle.std.proofs.Common.{◌≡◌, ℕ, ◌<◌, true, List, [], ◌∷◌, ◌++◌, length, drop, IsUtf8, chars, encode_utf8, encode_utf8_all, flat_map, append_assoc, refl, sym, ap, subst, ◌∙◌, arith, inl, inr}
-use Rattle.std.specs.Str.{all_scalars}
-use Rattle.std.specs.Char.{IsScalar}
+use Rattle.escape_simd.proofs.Words.{all_scalars, IsScalar, AllByRecursion, and_parts, cases_Bool, nat_tests, IsUtf8-append, IsUtf8-nil, IsUtf8-encode, encode_ascii, encodes-chars, scalars-chars, Mode, json, html, script, replacement, needs_escape, inner, plain, quoted, quote_of, HtmlReads, JsonDenotes, is_script_marked, IsTextOf, appended, JoinsTexts, IsOfOneText, HasOutputLength, flat_map-append, drop_at}
 use Rattle.std.proofs.Math.Utf8.{scalar}
-use Rattle.std.specs.List.{AllByRecursion}
-use Rattle.std.proofs.lemmas.Bool.{and_parts, cases_Bool}
-use Rattle.std.proofs.lemmas.Bool.Decides.{nat_tests}
-use Rattle.std.proofs.lemmas.Str.{IsUtf8-append, IsUtf8-nil, IsUtf8-encode, encode_ascii, encodes-chars, scalars-chars}
-use Rattle.escape_lanes.specs.Mode.{Mode, json, html, script}
-use Rattle.escape_lanes.specs.Replacement.{replacement, needs_escape}
-use Rattle.escape_simd.specs.Output.{inner, plain, quoted, quote_of}
-use Rattle.escape_simd.specs.Html.{HtmlReads}
-use Rattle.escape_simd.specs.Json.{JsonDenotes}
-use Rattle.escape_simd.specs.Script.{is_script_marked}
-use Rattle.escape_simd.specs.Spelling.{IsTextOf}
 use Rattle.escape_simd.specs.Headline.{IsOnlyOutput}
-use Rattle.escape_simd.specs.Laws.{appended, JoinsTexts, IsOfOneText, HasOutputLength}
-use Rattle.std.proofs.lemmas.Grind.{flat_map-append}
-use Rattle.std.proofs.lemmas.List.{drop_at}
 use Rattle.escape_simd.proofs.ReplacementLemmas.{IsBytewise, inner_clean, inner_needed, inner-nil, inner-past, inner-pieces, inner-script, hex_escape, script_replacement, script_replacement-marked, script_replacement-other}
 use Rattle.escape_simd.proofs.Texts.{length-inner}
-use Rattle.escape_simd.proofs.HtmlLemmas.{IsOnlyHtml-output, six_cases}
-use Rattle.escape_simd.proofs.JsonLemmas.{IsOnlyJson-output, needed_cases, length-quoted}
-use Rattle.escape_simd.proofs.ScriptLemmas.{IsOnlyScript-output, denotes_from_free}
+use Rattle.escape_simd.proofs.HtmlLemmas.{IsOnlyHtml-plain, six_cases}
+use Rattle.escape_simd.proofs.JsonLemmas.{IsOnlyJson-plain, needed_cases, length-quoted}
+use Rattle.escape_simd.proofs.ScriptLemmas.{IsOnlyScript-plain, denotes_from_free}
 
--- the output for the bytes of a `&str`, in each mode
-IsOnlyOutput-plain : (mode : Mode) (bytes output : List ℕ) → IsUtf8 bytes → output ≡ plain mode bytes → IsOnlyOutput mode output (chars bytes)
-IsOnlyOutput-plain json bytes output utf8 same = IsOnlyJson-output bytes output utf8 same
-IsOnlyOutput-plain html bytes output utf8 same = IsOnlyHtml-output bytes output utf8 same
-IsOnlyOutput-plain script bytes output utf8 same = IsOnlyScript-output bytes output utf8 same
+-- the output for the bytes of a text, in each mode
+IsOnlyOutput-plain : (mode : Mode) (text : List ℕ) → all_scalars text ≡ true → IsOnlyOutput mode (plain mode (encode_utf8_all text)) text
+IsOnlyOutput-plain json text scalars = IsOnlyJson-plain text scalars
+IsOnlyOutput-plain html text scalars = IsOnlyHtml-plain text scalars
+IsOnlyOutput-plain script text scalars = IsOnlyScript-plain text scalars
+
+-- as the clause of a call has it: of its `&str` and its output
+pub IsOnlyOutput-output : (mode : Mode) (bytes output : List ℕ) → output ≡ plain mode bytes → IsUtf8 bytes → IsOnlyOutput mode output (chars bytes)
+IsOnlyOutput-output mode bytes output same utf8 =
+    let whole = ap (plain mode) (encodes-chars bytes utf8) ∙ sym same in
+    subst (λ o. IsOnlyOutput mode o (chars bytes)) whole (IsOnlyOutput-plain mode (chars bytes) (scalars-chars bytes utf8))
 
 -- the text of a `&str`, as its clauses name it
 pub IsTextOf-chars : (bytes : List ℕ) → IsUtf8 bytes → IsTextOf bytes (chars bytes)
@@ -46,11 +37,8 @@ ascii_text (b ∷ bs) h =
 -- an escape of the modes that take bytes one by one is ASCII
 replacement_ascii : (mode : Mode) → IsBytewise mode → (b : ℕ) → needs_escape mode b ≡ true → AllByRecursion (λ x. x < 128) (replacement mode b)
 unfolding replacement
-replacement_ascii json h b need =
-    needed_cases b need (λ x. AllByRecursion (λ y. y < 128) (replacement json x)) (omega arith) (omega arith) (omega arith) (omega arith) (omega arith) (omega arith) (omega arith)
-    (λ h. let low = h.low in subst (λ bytes. AllByRecursion (λ y. y < 128) bytes) (sym h.written) (grind (arith, nat_tests)))
-replacement_ascii html h b need =
-    six_cases b need (λ x. AllByRecursion (λ y. y < 128) (replacement html x)) (omega arith) (omega arith) (omega arith) (omega arith) (omega arith) (omega arith)
+replacement_ascii json h b need = grind (arith, nat_tests, needed_cases)
+replacement_ascii html h b need = grind (arith, nat_tests, six_cases)
 replacement_ascii script h b need = absurd h
 
 -- what stands for a character in them is a text
@@ -71,9 +59,8 @@ IsUtf8-script c character =
 
 -- what stands for a character is a text
 IsUtf8-replacement : (mode : Mode) (c : ℕ) → IsScalar c → IsUtf8 (inner mode (encode_utf8 c))
-IsUtf8-replacement json c character = IsUtf8-bytewise json tt c character
-IsUtf8-replacement html c character = IsUtf8-bytewise html tt c character
 IsUtf8-replacement script c character = subst IsUtf8 (sym (inner-script c)) (IsUtf8-script c character)
+IsUtf8-replacement mode c character = IsUtf8-bytewise mode tt c character
 
 -- what stands for characters is a text
 IsUtf8-pieces : (mode : Mode) (text : List ℕ) → all_scalars text ≡ true → IsUtf8 (flat_map (λ c. inner mode (encode_utf8 c)) text)
@@ -115,11 +102,11 @@ plain-injective : (mode : Mode) (xs ys : List ℕ) → IsUtf8 xs → IsUtf8 ys �
 plain-injective mode xs ys p q same = sym (encodes-chars xs p) ∙ ap encode_utf8_all (chars_same mode same) ∙ encodes-chars ys q
   where
     chars_same : (m : Mode) → plain m xs ≡ plain m ys → chars xs ≡ chars ys
-    chars_same json e = (IsOnlyJson-output ys (plain json ys) q refl).one_text (chars xs) (subst (λ o. JsonDenotes o (chars xs)) e (IsOnlyJson-output xs (plain json xs) p refl).shortest.denotes)
-    chars_same html e = (IsOnlyHtml-output ys (plain html ys) q refl).one_text (chars xs) (subst (λ o. HtmlReads o (chars xs)) e (IsOnlyHtml-output xs (plain html xs) p refl).reads)
+    chars_same json e = (IsOnlyOutput-output json ys _ refl q).one_text (chars xs) (subst (λ o. JsonDenotes o (chars xs)) e (IsOnlyOutput-output json xs _ refl p).shortest.denotes)
+    chars_same html e = (IsOnlyOutput-output html ys _ refl q).one_text (chars xs) (subst (λ o. HtmlReads o (chars xs)) e (IsOnlyOutput-output html xs _ refl p).reads)
     chars_same script e =
-        let free = (IsOnlyScript-output xs (plain script xs) p refl).shortest.free in
-        (IsOnlyScript-output ys (plain script ys) q refl).one_text (chars xs) (subst (λ o. JsonDenotes o (chars xs)) e (denotes_from_free (plain script xs) (chars xs) free))
+        let denotes = denotes_from_free (plain script xs) (chars xs) (IsOnlyOutput-output script xs _ refl p).shortest.free in
+        (IsOnlyOutput-output script ys _ refl q).one_text (chars xs) (subst (λ o. JsonDenotes o (chars xs)) e denotes)
 
 -- How long the output is
 
@@ -133,9 +120,8 @@ HasOutputLength-plain script bytes = let long = length-inner script bytes in let
 
 -- A text can be cut after these bytes: wherever bytes are taken one by one, and otherwise between two characters.
 abbrev pub CanBeCutAfter : Mode → List ℕ → Type 0
-CanBeCutAfter json first = Unit {0}
-CanBeCutAfter html first = Unit {0}
 CanBeCutAfter script first = IsUtf8 first
+CanBeCutAfter mode first = Unit {0}
 
 -- what stands for the bytes of a text, and for bytes after them
 inner-text : (mode : Mode) (text rest : List ℕ) → inner mode (encode_utf8_all text ++ rest) ≡ inner mode (encode_utf8_all text) ++ inner mode rest
@@ -151,10 +137,9 @@ inner-text mode (c ∷ cs) rest =
 
 -- what stands for two byte lists joined
 pub inner-append : (mode : Mode) (bytes first second : List ℕ) → bytes ≡ first ++ second → CanBeCutAfter mode first → inner mode bytes ≡ inner mode first ++ inner mode second
-inner-append json bytes first second cut _ = ap (inner json) cut ∙ flat_map-append (replacement json) first second
-inner-append html bytes first second cut _ = ap (inner html) cut ∙ flat_map-append (replacement html) first second
 inner-append script bytes first second cut text =
     ap (inner script) cut ∙ subst (λ xs. inner script (xs ++ second) ≡ inner script xs ++ inner script second) (encodes-chars first text) (inner-text script (chars first) second)
+inner-append mode bytes first second cut _ = ap (inner mode) cut ∙ flat_map-append (replacement mode) first second
 
 -- the output for a text that is cut in two
 pub JoinsTexts-output : (mode : Mode) (bytes output : List ℕ) → output ≡ plain mode bytes → JoinsTexts mode bytes output
@@ -171,17 +156,5 @@ module _ (mode : Mode) (bytes output : List ℕ) (same : output ≡ plain mode b
   pub HasOutputLength-output : HasOutputLength mode (length bytes) output
   HasOutputLength-output = subst (HasOutputLength mode (length bytes)) (sym same) (HasOutputLength-plain mode bytes)
 
-  module _ (utf8 : IsUtf8 bytes) where
-    pub IsOnlyOutput-output : IsOnlyOutput mode output (chars bytes)
-    IsOnlyOutput-output = IsOnlyOutput-plain mode bytes output utf8 same
-
-    pub IsOfOneText-output : IsOfOneText mode bytes output
-    IsOfOneText-output other text e = plain-injective mode other bytes text utf8 (e ∙ same)
-
--- as the clauses of a call that appends have it
-module _ (mode : Mode) (bytes old new : List ℕ) (utf8 : IsUtf8 bytes) (same : new ≡ old ++ plain mode bytes) where
-  pub IsOnlyOutput-appended : IsOnlyOutput mode (appended old new) (chars bytes)
-  IsOnlyOutput-appended = IsOnlyOutput-output mode bytes (appended old new) (appended-append old new (plain mode bytes) same) utf8
-
-  pub IsOfOneText-appended : IsOfOneText mode bytes (appended old new)
-  IsOfOneText-appended = IsOfOneText-output mode bytes (appended old new) (appended-append old new (plain mode bytes) same) utf8
+  pub IsOfOneText-output : IsUtf8 bytes → IsOfOneText mode bytes output
+  IsOfOneText-output utf8 other text e = plain-injective mode other bytes text utf8 (e ∙ same)

@@ -1,12 +1,7 @@
 -- The laws that callers rest on, each of the plain escaping itself: of `plain mode bytes`, whatever the bytes, or of a text.
 use Rattle.std.proofs.Common.{ℕ, List, IsUtf8, chars, length, refl}
-use Rattle.escape_lanes.specs.Mode.{Mode, json, html, script}
-use Rattle.escape_simd.specs.Escaping.{IsOneLine, IsEscaping}
+use Rattle.escape_simd.proofs.Words.{Mode, json, html, script, IsOneLine, IsEscaping, IsMarkupFree, AmpersandsBeginEntities, JoinsTexts, IsOfOneText, HasOutputLength, plain, IsSafeInScript}
 use Rattle.escape_simd.specs.Headline.{IsOnlyOutput}
-use Rattle.escape_simd.specs.Html.{IsMarkupFree, AmpersandsBeginEntities}
-use Rattle.escape_simd.specs.Laws.{JoinsTexts, IsOfOneText, HasOutputLength}
-use Rattle.escape_simd.specs.Output.{plain}
-use Rattle.escape_simd.specs.Script.{IsSafeInScript}
 use Rattle.escape_simd.proofs.EscapingLemmas.{IsEscaping-output, json_one_line, script_one_line}
 use Rattle.escape_simd.proofs.HtmlLemmas.{plain_markup_free, plain_ampersands}
 use Rattle.escape_simd.proofs.OutputLemmas.{IsUtf8-output, IsOnlyOutput-output, IsOfOneText-output, HasOutputLength-output, JoinsTexts-output}

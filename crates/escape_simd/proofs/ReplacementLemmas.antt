@@ -1,37 +1,25 @@
 -- What stands for a byte, and for a character: its bytes' replacements, or the escape of a separator.
 use Rattle.std.proofs.Common.{◌≡◌, ◌≢◌, ℕ, zero, suc, ◌/◌, ◌%◌, ◌<◌, ◌≤◌, ◌⊎◌, true, false, List, [], ◌∷◌, ◌++◌, codes, length, drop, flat_map, encode_utf8_all, refl, sym, ap, ap₂, ◌∙◌, append-nil, arith, inl, inr, ltb-true, ltb, subst, if◌then◌else◌}
-use Rattle.std.specs.Char.{encode_utf8, digit_char}
+use Rattle.escape_simd.proofs.Words.{encode_utf8, digit_char, AllByRecursion, encode_ascii, encode_same, cases_lt, cases_Bool, cond_both, nat_tests, flat_map-append, Mode, json, script, replacement, needs_escape, begins_separator, passed, script_inner_after, inner, is_script_marked}
 use Rattle.std.specs.Int.{IsInRange}
-use Rattle.std.specs.List.{AllByRecursion}
-use Rattle.std.proofs.lemmas.Str.{encode_ascii, encode_same}
-use Rattle.std.proofs.lemmas.Bool.{cases_lt, cases_Bool, cond_both}
-use Rattle.std.proofs.lemmas.Bool.Decides.{nat_tests}
-use Rattle.std.proofs.lemmas.Grind.{flat_map-append}
-use Rattle.escape_lanes.specs.Mode.{Mode, json, html, script}
-use Rattle.escape_lanes.specs.Replacement.{replacement, needs_escape}
-use Rattle.escape_simd.specs.Output.{begins_separator, passed, script_inner_after, inner}
-use Rattle.escape_simd.specs.Script.{is_script_marked}
 
 -- a byte that needs no escape stands for itself
 pub replacement-clean : (mode : Mode) (b : ℕ) → needs_escape mode b ≡ false → replacement mode b ≡ b ∷ []
 unfolding replacement
-replacement-clean json b h = grind (arith, nat_tests)
-replacement-clean html b h = grind (arith, nat_tests)
 replacement-clean script b h = grind (arith, nat_tests)
+replacement-clean mode b h = grind (arith, nat_tests)
 
 -- and so does a byte from 128 on
 pub replacement-high : (mode : Mode) (b : ℕ) → 128 ≤ b → replacement mode b ≡ b ∷ []
 unfolding replacement
-replacement-high json b h = grind (arith, nat_tests)
-replacement-high html b h = grind (arith, nat_tests)
 replacement-high script b h = grind (arith, nat_tests)
+replacement-high mode b h = grind (arith, nat_tests)
 
 -- a byte is written by one to six bytes
 pub length-replacement : (mode : Mode) (b : ℕ) → (1 ≤ length (replacement mode b)) × (length (replacement mode b) ≤ 6)
 unfolding replacement
-length-replacement json b = (grind (arith, nat_tests), grind (arith, nat_tests))
-length-replacement html b = (grind (arith, nat_tests), grind (arith, nat_tests))
 length-replacement script b = (grind (arith, nat_tests), grind (arith, nat_tests))
+length-replacement mode b = (grind (arith, nat_tests), grind (arith, nat_tests))
 
 -- Step by step
 
@@ -45,34 +33,26 @@ script_inner_after-drop (suc n) (b ∷ bs) = script_inner_after-drop n bs
 -- nothing stands for no bytes
 pub inner-nil : (mode : Mode) → inner mode [] ≡ []
 unfolding script_inner_after
-inner-nil json = refl
-inner-nil html = refl
 inner-nil script = refl
+inner-nil mode = refl
 
 -- what stands for a byte that begins no separator, and for those after it
 pub inner-one : (mode : Mode) (b : ℕ) (bs : List ℕ) → passed mode (b ∷ bs) ≡ 1 → inner mode (b ∷ bs) ≡ replacement mode b ++ inner mode bs
 unfolding script_inner_after
-inner-one json b bs h = refl
-inner-one html b bs h = refl
-inner-one script b bs h =
-    elim (cases_Bool (begins_separator (b ∷ bs))) [
-      | inl separator ↦ absurd (omega (arith, rw separator at h))
-      | inr other ↦ rw other refl
-    ]
+inner-one script b bs h = grind (arith, nat_tests)
+inner-one mode b bs h = refl
 
 -- a separator begins with e2
 pub passed-one : (mode : Mode) (b : ℕ) (bs : List ℕ) → b ≢ 0xe2 → passed mode (b ∷ bs) ≡ 1
 unfolding begins_separator
-passed-one json b bs other = refl
-passed-one html b bs other = refl
 passed-one script b bs other = grind (arith, nat_tests)
+passed-one mode b bs other = refl
 
 -- a byte that needs no escape, before others
 pub inner-clean_byte : (mode : Mode) (b : ℕ) (bs : List ℕ) → needs_escape mode b ≡ false → inner mode (b ∷ bs) ≡ b ∷ inner mode bs
-inner-clean_byte json b bs clean = ap (λ xs. xs ++ inner json bs) (replacement-clean json b clean)
-inner-clean_byte html b bs clean = ap (λ xs. xs ++ inner html bs) (replacement-clean html b clean)
 inner-clean_byte script b bs clean =
     inner-one script b bs (passed-one script b bs (grind (arith, nat_tests))) ∙ ap (λ xs. xs ++ inner script bs) (replacement-clean script b clean)
+inner-clean_byte mode b bs clean = ap (λ xs. xs ++ inner mode bs) (replacement-clean mode b clean)
 
 -- Characters
 
@@ -107,8 +87,7 @@ inner-continued mode (b ∷ bs) rest h =
 module _ (mode : Mode) (c : ℕ) where
   -- a character below U+0080 is a byte
   pub written-low : c < 128 → IsWrittenAs mode c (replacement mode c)
-  written-low low rest =
-      ap (λ bytes. inner mode (bytes ++ rest)) (encode_ascii c low) ∙ inner-one mode c rest (passed-one mode c rest (omega arith))
+  written-low low rest = grind (arith, encode_ascii c low, inner-one mode c rest (passed-one mode c rest (omega arith)))
 
   -- one from there on stands for itself, unless it is a separator
   pub written-high : 128 ≤ c → ((rest : List ℕ) → passed mode (encode_utf8 c ++ rest) ≡ 1) → IsWrittenAs mode c (encode_utf8 c)
@@ -122,28 +101,24 @@ module _ (mode : Mode) (c : ℕ) where
 
   -- what stands for the character alone
   pub inner-character : (bytes : List ℕ) → IsWrittenAs mode c bytes → inner mode (encode_utf8 c) ≡ bytes
-  inner-character bytes written =
-      ap (inner mode) (sym (append-nil (encode_utf8 c))) ∙ written [] ∙ ap (λ rest. bytes ++ rest) (inner-nil mode) ∙ append-nil bytes
+  inner-character bytes written = grind (arith, append-nil (encode_utf8 c), written [], inner-nil mode, append-nil bytes)
 
 -- Modes that take bytes one by one
 
 -- what stands for a byte is told by the byte alone
 abbrev pub IsBytewise : Mode → Type 0
-IsBytewise json = Unit {0}
-IsBytewise html = Unit {0}
 IsBytewise script = ⊥
+IsBytewise mode = Unit {0}
 
 -- each byte is passed alone
 passed-bytewise : (mode : Mode) → IsBytewise mode → (bytes : List ℕ) → passed mode bytes ≡ 1
-passed-bytewise json h bytes = refl
-passed-bytewise html h bytes = refl
 passed-bytewise script h bytes = absurd h
+passed-bytewise mode h bytes = refl
 
 -- only ASCII needs an escape
 pub needs_escape_low : (mode : Mode) → IsBytewise mode → (c : ℕ) → needs_escape mode c ≡ true → c < 128
-needs_escape_low json h c need = grind (arith, nat_tests)
-needs_escape_low html h c need = grind (arith, nat_tests)
 needs_escape_low script h c need = absurd h
+needs_escape_low mode h c need = grind (arith, nat_tests)
 
 module _ (mode : Mode) (bytewise : IsBytewise mode) (c : ℕ) where
   -- a character that needs no escape stands for itself
@@ -180,24 +155,13 @@ script_replacement-other c other = rw other refl
 
 -- the five marked characters
 pub marked_cases : (c : ℕ) → is_script_marked c ≡ true → (P : ℕ → Type 0) → P 0x26 → P 0x3c → P 0x3e → P 0x2028 → P 0x2029 → P c
-marked_cases c marked P p1 p2 p3 p4 p5 =
-    let which : (c ≡ 0x26) ⊎ ((c ≡ 0x3c) ⊎ ((c ≡ 0x3e) ⊎ ((c ≡ 0x2028) ⊎ (c ≡ 0x2029)))) = grind (arith, nat_tests) in
-    let along = λ (x : ℕ) (e : c ≡ x) (p : P x). subst P (sym e) p in
-    elim which [
-      | inl e ↦ along 0x26 e p1
-      | inr (inl e) ↦ along 0x3c e p2
-      | inr (inr (inl e)) ↦ along 0x3e e p3
-      | inr (inr (inr (inl e))) ↦ along 0x2028 e p4
-      | inr (inr (inr (inr e))) ↦ along 0x2029 e p5
-    ]
+marked_cases c marked P p1 p2 p3 p4 p5 = grind (arith, nat_tests)
 
 -- bytes that begin with a separator are the form of its character, and others
 pub begins_separator-form : (bytes : List ℕ) → begins_separator bytes ≡ true
     → (rest : List ℕ) × ((bytes ≡ encode_utf8 0x2028 ++ rest) ⊎ (bytes ≡ encode_utf8 0x2029 ++ rest))
 unfolding begins_separator encode_utf8
 begins_separator-form [] h = absurd (cc)
-begins_separator-form (a ∷ []) h = absurd (grind (arith, nat_tests))
-begins_separator-form (a ∷ b ∷ []) h = absurd (grind (arith, nat_tests))
 begins_separator-form (a ∷ b ∷ c ∷ bs) h =
     let front : (a ≡ 0xe2) × (b ≡ 0x80) = grind (arith, nat_tests) in
     let last : (c ≡ 0xa8) ⊎ (c ≡ 0xa9) = grind (arith, nat_tests) in
@@ -205,25 +169,16 @@ begins_separator-form (a ∷ b ∷ c ∷ bs) h =
       | inl e ↦ (bs, inl (cc))
       | inr e ↦ (bs, inr (cc))
     ]
+begins_separator-form xs h = absurd (grind (arith, nat_tests))
 
 -- the character of an unmarked form is no separator
 passed-unmarked : (c : ℕ) → is_script_marked c ≡ false → (rest : List ℕ) → passed script (encode_utf8 c ++ rest) ≡ 1
-passed-unmarked c other rest =
-    elim (cases_Bool (begins_separator (encode_utf8 c ++ rest))) [
-      | inl separator ↦
-          let form = begins_separator-form (encode_utf8 c ++ rest) separator in
-          elim form.1 [
-            | inl line ↦ let same = (encode_same c 0x2028 rest form.0 line).0 in grind (arith, nat_tests)
-            | inr paragraph ↦ let same = (encode_same c 0x2029 rest form.0 paragraph).0 in grind (arith, nat_tests)
-          ]
-      | inr none ↦ rw none refl
-    ]
+passed-unmarked c other rest = grind (arith, nat_tests, begins_separator-form, encode_same)
 
 -- what stands for a marked character
 written-marked : (c : ℕ) → is_script_marked c ≡ true → IsWrittenAs script c (hex_escape c)
 unfolding script_inner_after begins_separator replacement encode_utf8
-written-marked c marked =
-    marked_cases c marked (λ x. IsWrittenAs script x (hex_escape x)) (λ rest. refl) (λ rest. refl) (λ rest. refl) (λ rest. refl) (λ rest. refl)
+written-marked c marked = grind (arith, nat_tests, marked_cases)
 
 -- a byte that isn't marked stands for what it does in JSON
 pub replacement-unmarked : (b : ℕ) → is_script_marked b ≡ false → replacement script b ≡ replacement json b
@@ -254,9 +209,8 @@ inner-script c = inner-character script c (script_replacement c) (written-script
 
 -- what stands for a character before others
 pub inner-past : (mode : Mode) (c : ℕ) (rest : List ℕ) → inner mode (encode_utf8 c ++ rest) ≡ inner mode (encode_utf8 c) ++ inner mode rest
-inner-past json c rest = flat_map-append (replacement json) (encode_utf8 c) rest
-inner-past html c rest = flat_map-append (replacement html) (encode_utf8 c) rest
 inner-past script c rest = written-script c rest ∙ ap (λ bytes. bytes ++ inner script rest) (sym (inner-script c))
+inner-past mode c rest = flat_map-append (replacement mode) (encode_utf8 c) rest
 
 -- what stands for the bytes of a text, where f is what stands for each character
 module _ (mode : Mode) (f : ℕ → List ℕ) (written : (c : ℕ) → IsWrittenAs mode c (f c)) where

@@ -1,17 +1,6 @@
 -- Laws of JSON literals for script elements.
-use Rattle.std.proofs.Common.{◌≡◌, ◌≢◌, ℕ, zero, suc, ◌<◌, ◌≤◌, true, false, List, [], ◌∷◌, ◌++◌, length, codes, slice_index_or, if◌then◌else◌, ◌==◌, ◌⊎◌, encode_utf8_all, flat_map, Some, refl, sym, ap, subst, ◌∙◌, append_assoc, arith, inl, inr, IsUtf8, chars}
-use Rattle.std.specs.Char.{IsScalar, encode_utf8}
-use Rattle.std.specs.Str.{all_scalars}
-use Rattle.std.specs.List.{AllByRecursion}
-use Rattle.std.proofs.lemmas.Bool.{cases_Bool, cases_lt, cond_both, false_from_ne_true, true≢false}
-use Rattle.std.proofs.lemmas.Bool.Decides.{nat_tests}
-use Rattle.std.proofs.lemmas.List.Elements.{All-from_recursion}
-use Rattle.std.proofs.lemmas.Str.{length-encode, len_utf8_bounds, encodes-chars, scalars-chars}
-use Rattle.escape_lanes.specs.Mode.{json, script}
-use Rattle.escape_lanes.specs.Replacement.{replacement, needs_escape}
-use Rattle.escape_simd.specs.Output.{begins_separator, script_inner_after, inner, plain, quoted}
-use Rattle.escape_simd.specs.Json.{IsJsonItem, raw, short, hex, pair, IsLowerItem, IsLower, IsLiteral, JsonDenotes, short_escape}
-use Rattle.escape_simd.specs.Script.{is_script_marked, HasNoRawMark, IsScriptItem, IsScriptFree, IsShortestScript, IsOnlyScript, IsSafeInScript}
+use Rattle.std.proofs.Common.{◌≡◌, ◌≢◌, ℕ, zero, suc, ◌<◌, ◌≤◌, true, false, List, [], ◌∷◌, ◌++◌, length, codes, slice_index_or, ◌⊎◌, encode_utf8_all, flat_map, Some, refl, sym, ap, subst, ◌∙◌, append_assoc, arith, inl, inr}
+use Rattle.escape_simd.proofs.Words.{IsScalar, encode_utf8, all_scalars, AllByRecursion, cases_Bool, cond_both, false_from_ne_true, true≢false, nat_tests, All-from_recursion, length-encode, len_utf8_bounds, json, script, replacement, begins_separator, script_inner_after, inner, plain, quoted, IsJsonItem, raw, short, hex, pair, IsLowerItem, IsLower, IsLiteral, JsonDenotes, short_escape, is_script_marked, HasNoRawMark, IsScriptItem, IsScriptFree, IsShortestScript, IsOnlyScript, IsSafeInScript}
 use Rattle.escape_simd.proofs.SpellingLemmas.{both_items}
 use Rattle.escape_simd.proofs.ReplacementLemmas.{hex_escape, script_replacement, script_replacement-marked, script_replacement-other, script_pieces, marked_cases, begins_separator-form, replacement-clean, replacement-high, replacement-unmarked, length-replacement, inner-nil}
 use Rattle.escape_simd.proofs.JsonLemmas as Json
@@ -75,9 +64,7 @@ marked_only i c marked long small (pair {first = f} {second = t} {high = h} {low
 only : (i : List ℕ) (c : ℕ) → IsBoth i c → length i ≤ length (script_replacement c) → i ≡ script_replacement c
 only i c item small =
     elim (cases_Bool (is_script_marked c)) [
-      | inl marked ↦
-          let written = script_replacement-marked c marked in
-          marked_only i c marked (marked_long i c item.0 marked) (omega (arith, ap length written)) item.1 ∙ sym written
+      | inl marked ↦ grind (arith, nat_tests, script_replacement-marked, marked_only, marked_long)
       | inr other ↦ let written = script_replacement-other c other in Json.only i c item.1 (omega (arith, ap length written)) ∙ sym written
     ]
 
@@ -128,7 +115,7 @@ only_plain bytes text scalars shortest lower =
     Json.literal-only IsBoth script_replacement (λ i c item. least i c item.0) bytes text (both_literal bytes text shortest.free lower) only (omega (arith, ap length same)) ∙ sym same
 
 -- the output for the bytes of a text
-IsOnlyScript-plain : (text : List ℕ) → all_scalars text ≡ true → IsOnlyScript (plain script (encode_utf8_all text)) text
+pub IsOnlyScript-plain : (text : List ℕ) → all_scalars text ≡ true → IsOnlyScript (plain script (encode_utf8_all text)) text
 IsOnlyScript-plain text scalars =
     let output = plain script (encode_utf8_all text) in
     record {
@@ -137,12 +124,6 @@ IsOnlyScript-plain text scalars =
       only = λ other shortest lower. only_plain other text scalars shortest lower;
       one_text = λ other denotes. Json.one_text output other text denotes (denotes_from_free output text (plain_shortest text scalars).free);
     }
-
--- as the clause of a call has it: of its `&str` and its output
-pub IsOnlyScript-output : (bytes output : List ℕ) → IsUtf8 bytes → output ≡ plain script bytes → IsOnlyScript output (chars bytes)
-IsOnlyScript-output bytes output utf8 same =
-    let whole = ap (plain script) (encodes-chars bytes utf8) in
-    subst (λ o. IsOnlyScript o (chars bytes)) (whole ∙ sym same) (IsOnlyScript-plain (chars bytes) (scalars-chars bytes utf8))
 
 -- Script elements
 
@@ -153,23 +134,12 @@ IsSafeByte b = (b < 128) × (b ≢ 0x3c) × (b ≢ 0x3e) × (b ≢ 0x26)
 -- such is what stands for an unmarked byte below 128 in JSON
 json_safe : (b : ℕ) → b < 128 → is_script_marked b ≡ false → AllByRecursion IsSafeByte (replacement json b)
 unfolding replacement
-json_safe b low other =
-    elim (cases_Bool (needs_escape json b)) [
-      | inl need ↦
-          Json.needed_cases b need (λ x. AllByRecursion IsSafeByte (replacement json x)) (omega arith) (omega arith) (omega arith) (omega arith) (omega arith) (omega arith) (omega arith)
-          (λ h. let low = h.low in subst (λ bytes. AllByRecursion IsSafeByte bytes) (sym h.written) (grind (arith, nat_tests)))
-      | inr clean ↦ subst (λ bytes. AllByRecursion IsSafeByte bytes) (sym (replacement-clean json b clean)) ((low, grind (arith, nat_tests), grind (arith, nat_tests), grind (arith, nat_tests)), tt)
-    ]
+json_safe b low other = grind (arith, nat_tests, replacement-clean)
 
 -- and for each byte below 128 in a script literal
 replacement_safe : (b : ℕ) → b < 128 → AllByRecursion IsSafeByte (replacement script b)
 unfolding replacement
-replacement_safe b low =
-    elim (cases_Bool (is_script_marked b)) [
-      | inl marked ↦
-          marked_cases b marked (λ x. x < 128 → AllByRecursion IsSafeByte (replacement script x)) (λ _. omega arith) (λ _. omega arith) (λ _. omega arith) (λ h. absurd (omega arith)) (λ h. absurd (omega arith)) low
-      | inr other ↦ subst (λ bytes. AllByRecursion IsSafeByte bytes) (sym (replacement-unmarked b other)) (json_safe b low other)
-    ]
+replacement_safe b low = grind (arith, nat_tests, marked_cases, replacement-unmarked, json_safe)
 
 -- no `<`, `>` or `&` is among the bytes, and no separator
 abbrev IsSafe : List ℕ → Type 0
@@ -195,18 +165,7 @@ IsRawStep b bs = (128 ≤ b) × (begins_separator (b ∷ bs) ≡ false) × (inne
 first_step : (b : ℕ) (bs : List ℕ) → IsSafeStep b bs ⊎ IsRawStep b bs
 unfolding script_inner_after
 first_step b bs =
-    elim (cases_Bool (begins_separator (b ∷ bs))) [
-      | inl separator ↦
-          let escape = if slice_index_or (b ∷ bs) 2 0 == 0xa8 then codes "\\u2028" else codes "\\u2029" in
-          let both = λ (P : List ℕ → Type 0) (p : P (codes "\\u2028")) (q : P (codes "\\u2029")). cond_both (slice_index_or (b ∷ bs) 2 0 == 0xa8) (codes "\\u2028") (codes "\\u2029") P (λ _. p) (λ _. q) in
-          inl (escape, 2, both (λ xs. AllByRecursion IsSafeByte xs) (omega arith) (omega arith), both (λ xs. 0 < length xs) (omega arith) (omega arith), rw separator refl)
-      | inr other ↦
-          let written : inner script (b ∷ bs) ≡ replacement script b ++ inner script bs = rw other refl in
-          elim (cases_lt b 128) [
-            | inl low ↦ inl (replacement script b, 0, replacement_safe b low, omega (arith, length-replacement script b), written)
-            | inr high ↦ inr (high, other, written ∙ ap (λ xs. xs ++ inner script bs) (replacement-high script b high))
-          ]
-    ]
+    grind (arith, nat_tests, slice_index_or, codes, cond_both, replacement_safe, length-replacement, replacement-high)
 
 -- safe bytes don't begin with a byte from 128 on
 not_high : (xs rest ys : List ℕ) (y : ℕ) → AllByRecursion IsSafeByte xs → 0 < length xs → 128 ≤ y → xs ++ rest ≢ y ∷ ys
@@ -220,12 +179,8 @@ first_high [] ys y high same =
     absurd (not_high (0x22 ∷ []) [] ys y (omega arith) (omega arith) high (ap (λ bytes. bytes ++ 0x22 ∷ []) (sym (inner-nil script)) ∙ same))
 first_high (b ∷ bs) ys y high same =
     elim (first_step b bs) [
-      | inl step ↦
-          let begins = sym (append_assoc step.0 (script_inner_after step.1 bs) (0x22 ∷ [])) ∙ ap (λ bytes. bytes ++ 0x22 ∷ []) (sym step.4) ∙ same in
-          absurd (not_high step.0 (script_inner_after step.1 bs ++ 0x22 ∷ []) ys y step.2 step.3 high begins)
-      | inr step ↦
-          let begins : b ∷ (inner script bs ++ 0x22 ∷ []) ≡ y ∷ ys = ap (λ bytes. bytes ++ 0x22 ∷ []) (sym step.2) ∙ same in
-          (bs, cc, cc)
+      | inl step ↦ grind (arith, nat_tests, append_assoc, not_high)
+      | inr step ↦ grind (arith, nat_tests)
     ]
 
 -- so what begins a separator there began it in the text

@@ -1,12 +1,7 @@
 -- Laws of texts that are spelled item by item.
 use Rattle.std.proofs.Common.{◌≡◌, ℕ, ◌<◌, ◌≤◌, true, List, [], ◌∷◌, ◌++◌, map, flat_map, length, refl, sym, ap, ap₂, subst, ◌∙◌, length-append, arith}
-use Rattle.std.specs.Str.{all_scalars}
-use Rattle.std.specs.Char.{IsScalar}
+use Rattle.escape_simd.proofs.Words.{all_scalars, IsScalar, and_parts, AllZip, concat, AllByRecursion, append_cancel_right, Spells}
 use Rattle.std.proofs.Math.Utf8.{scalar}
-use Rattle.std.proofs.lemmas.Bool.{and_parts}
-use Rattle.std.specs.List.{AllZip, concat, AllByRecursion}
-use Rattle.std.proofs.lemmas.List.{append_cancel_right}
-use Rattle.escape_simd.specs.Spelling.{Spells}
 
 -- pieces joined, as a list of pieces
 concat-map : (f : ℕ → List ℕ) (text : List ℕ) → flat_map f text ≡ concat (map f text)
@@ -26,9 +21,8 @@ AllByRecursion-parts P (x ∷ xs) ys h = let rest = AllByRecursion-parts P xs ys
 -- items of one kind, where each is one of another
 pub AllZip-weaker : (P Q : List ℕ → ℕ → Type 0) → ((i : List ℕ) (c : ℕ) → P i c → Q i c) → (items : List (List ℕ)) (text : List ℕ) → AllZip P items text → AllZip Q items text
 AllZip-weaker P Q weaker [] [] h = tt
-AllZip-weaker P Q weaker [] (c ∷ cs) h = absurd h
-AllZip-weaker P Q weaker (i ∷ is) [] h = absurd h
 AllZip-weaker P Q weaker (i ∷ is) (c ∷ cs) h = (weaker i c h.0, AllZip-weaker P Q weaker is cs h.1)
+AllZip-weaker P Q weaker xs ys h = absurd h
 
 module _ (Item : List ℕ → ℕ → Type 0) where
   module _ (f : ℕ → List ℕ) where
@@ -44,30 +38,27 @@ module _ (Item : List ℕ → ℕ → Type 0) where
     -- items that are the pieces of f
     pub concat_of_pieces : (items : List (List ℕ)) (text : List ℕ) → AllZip (λ i c. i ≡ f c) items text → concat items ≡ flat_map f text
     concat_of_pieces [] [] h = refl
-    concat_of_pieces [] (c ∷ cs) h = absurd h
-    concat_of_pieces (i ∷ is) [] h = absurd h
     concat_of_pieces (i ∷ is) (c ∷ cs) h = ap₂ (λ a b. a ++ b) h.0 (concat_of_pieces is cs h.1)
+    concat_of_pieces xs ys h = absurd h
 
     -- where no item is shorter than the piece, the pieces are shortest
     pub pieces_le : ((i : List ℕ) (c : ℕ) → Item i c → length (f c) ≤ length i) → (items : List (List ℕ)) (text : List ℕ) → AllZip Item items text → length (flat_map f text) ≤ length (concat items)
     pieces_le least [] [] h = omega arith
-    pieces_le least [] (c ∷ cs) h = absurd h
-    pieces_le least (i ∷ is) [] h = absurd h
     pieces_le least (i ∷ is) (c ∷ cs) h =
         omega (arith, length-append (f c) (flat_map f cs), length-append i (concat is), least i c h.0, pieces_le least is cs h.1)
+    pieces_le least xs ys h = absurd h
 
     -- where moreover an item as short as the piece is the piece, items as short as the pieces are the pieces
     pub only_pieces : ((i : List ℕ) (c : ℕ) → Item i c → length (f c) ≤ length i) → ((i : List ℕ) (c : ℕ) → Item i c → length i ≤ length (f c) → i ≡ f c)
         → (items : List (List ℕ)) (text : List ℕ) → AllZip Item items text → length (concat items) ≤ length (flat_map f text) → concat items ≡ flat_map f text
     only_pieces least only [] [] h short = refl
-    only_pieces least only [] (c ∷ cs) h short = absurd h
-    only_pieces least only (i ∷ is) [] h short = absurd h
     only_pieces least only (i ∷ is) (c ∷ cs) h short =
         let first = length-append (f c) (flat_map f cs) in
         let second = length-append i (concat is) in
         let head = least i c h.0 in
         let tail = pieces_le least is cs h.1 in
         ap₂ (λ a b. a ++ b) (only i c h.0 (omega arith)) (only_pieces least only is cs h.1 (omega arith))
+    only_pieces least only xs ys h short = absurd h
 
   -- where no item is empty or begins another, one byte list spells one text
   module _ (apart : (i j x y : List ℕ) (c d : ℕ) → Item i c → Item j d → i ++ x ≡ j ++ y → (c ≡ d) × (x ≡ y))

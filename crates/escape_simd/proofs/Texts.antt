@@ -1,15 +1,6 @@
 -- What a text still needs from a place on: its escaping, its escapes and its runs.
-use Rattle.std.proofs.Common.{◌≡◌, ℕ, zero, suc, ◌+◌, ◌-◌, ◌<◌, ◌≤◌, Bool, true, false, cond, ◌==◌, List, [], ◌∷◌, ◌++◌, length, length-append, drop, get_or, length-drop, ◌*◌, refl, sym, ap, ◌∙◌, arith, inl, inr, add-one}
-use Rattle.std.proofs.lemmas.Bool.{cases_Bool}
-use Rattle.std.proofs.lemmas.Bool.Decides.{nat_tests}
-use Rattle.std.proofs.lemmas.List.{drop-drop, drop_all}
-use Rattle.std.proofs.lemmas.List.Sums.{sum_by-append, prefix_len-drop_yes, prefix_len-drop_no}
-use Rattle.std.proofs.Math.Seq.{drop-cons}
-use Rattle.escape_lanes.specs.Mode.{Mode, json, html, script}
-use Rattle.escape_lanes.specs.Replacement.{needs_escape, replacement}
-use Rattle.escape_simd.specs.Output.{inner, begins_separator, passed, first_replacement, script_inner_after}
-use Rattle.escape_simd.specs.Runs.{escaped_count, runs_after, run_count_after, run_count, script_escapes_after, script_runs_after}
-use Rattle.escape_simd.specs.Stretch.{run_end}
+use Rattle.std.proofs.Common.{◌≡◌, ℕ, zero, suc, ◌+◌, ◌-◌, ◌<◌, ◌≤◌, Bool, true, false, cond, List, [], ◌∷◌, ◌++◌, length, length-append, drop, get_or, length-drop, ◌*◌, refl, sym, ap, ◌∙◌, arith, inl, inr, add-one}
+use Rattle.escape_simd.proofs.Words.{cases_Bool, nat_tests, drop-drop, drop_all, sum_by-append, prefix_len-drop_yes, prefix_len-drop_no, drop-cons, Mode, script, needs_escape, inner, begins_separator, passed, first_replacement, script_inner_after, escaped_count, runs_after, run_count_after, run_count, script_escapes_after, script_runs_after, run_end}
 use Rattle.escape_simd.proofs.ReplacementLemmas.{script_inner_after-drop, inner-clean_byte, inner-nil, length-replacement}
 
 -- Separators
@@ -21,10 +12,7 @@ separator-flagged b bs h = grind (arith, nat_tests)
 
 -- where a byte is not flagged no separator begins
 pub no_separator : (b : ℕ) (bs : List ℕ) → needs_escape script b ≡ false → begins_separator (b ∷ bs) ≡ false
-no_separator b bs clean = elim (cases_Bool (begins_separator (b ∷ bs))) [
-  | inl begins ↦ absurd (let e = sym (separator-flagged b bs begins) ∙ clean in cc)
-  | inr none ↦ none
-]
+no_separator b bs clean = grind (arith, nat_tests, separator-flagged)
 
 -- the second byte of a separator is 80
 second_byte : (bytes : List ℕ) → begins_separator bytes ≡ true → get_or bytes 1 0 ≡ 0x80
@@ -47,32 +35,21 @@ separator-long (a ∷ b ∷ c ∷ rest) h = omega arith
 
 -- one byte or three
 pub one≤passed : (mode : Mode) (bytes : List ℕ) → (1 ≤ passed mode bytes) × (passed mode bytes ≤ 3)
-one≤passed json bytes = (omega arith, omega arith)
-one≤passed html bytes = (omega arith, omega arith)
-one≤passed script bytes = elim (cases_Bool (begins_separator bytes)) [
-  | inl begins ↦ rw begins (omega arith, omega arith)
-  | inr none ↦ rw none (omega arith, omega arith)
-]
+one≤passed script bytes = grind (arith, nat_tests)
+one≤passed mode bytes = (omega arith, omega arith)
 
 -- bytes of the list
 pub passed≤length : (mode : Mode) (bytes : List ℕ) → 0 < length bytes → passed mode bytes ≤ length bytes
-passed≤length json bytes some = omega arith
-passed≤length html bytes some = omega arith
-passed≤length script bytes some = elim (cases_Bool (begins_separator bytes)) [
-  | inl begins ↦ rw begins (separator-long bytes begins)
-  | inr none ↦ rw none (omega arith)
-]
+passed≤length script bytes some = grind (arith, nat_tests, separator-long)
+passed≤length mode bytes some = omega arith
 
 -- where no escape is needed, one
 passed-clean : (mode : Mode) (b : ℕ) (bs : List ℕ) → needs_escape mode b ≡ false → passed mode (b ∷ bs) ≡ 1
-passed-clean json b bs clean = refl
-passed-clean html b bs clean = refl
 passed-clean script b bs clean = rw (no_separator b bs clean) refl
+passed-clean mode b bs clean = refl
 
 -- a byte that is passed with the one before it needs no escape
 pub passed-between : (mode : Mode) (bytes : List ℕ) (k : ℕ) → 0 < k → k < passed mode bytes → needs_escape mode (get_or bytes k 0) ≡ false
-passed-between json bytes k some h = absurd (omega arith)
-passed-between html bytes k some h = absurd (omega arith)
 passed-between script bytes k some h = elim (cases_Bool (begins_separator bytes)) [
   | inl begins ↦ between begins k some (rw begins at h)
   | inr none ↦ absurd (let e = rw none at h in omega (arith, e))
@@ -83,6 +60,7 @@ passed-between script bytes k some h = elim (cases_Bool (begins_separator bytes)
     between begins (suc zero) some h = let e = second_byte bytes begins in rw e refl
     between begins (suc (suc zero)) some h = let e = third_byte bytes begins in grind (arith, nat_tests)
     between begins (suc (suc (suc k))) some h = absurd (omega arith)
+passed-between mode bytes k some h = absurd (omega arith)
 
 -- What stands for bytes, and its counts, one step on
 
@@ -109,61 +87,50 @@ module _ (b : ℕ) (bs : List ℕ) where
   -- the first of what stands for bytes, and the rest
   inner-step : (mode : Mode) → inner mode (b ∷ bs) ≡ first_replacement mode (b ∷ bs) ++ inner mode (drop (passed mode (b ∷ bs) - 1) bs)
   unfolding script_inner_after
-  inner-step json = refl
-  inner-step html = refl
   inner-step script = ap (λ xs. first_replacement script (b ∷ bs) ++ xs) (script_inner_after-drop (passed script (b ∷ bs) - 1) bs)
+  inner-step mode = refl
 
   -- one byte more, by whether it needs an escape
   escaped-step : (mode : Mode) → escaped_count mode (b ∷ bs) ≡ escaped_count mode (drop (passed mode (b ∷ bs) - 1) bs) + cond (needs_escape mode b) 1 0
   unfolding script_escapes_after
-  escaped-step json = let a = sum_by-append (λ x. cond (needs_escape json x) 1 0) (b ∷ []) bs in omega (arith, a)
-  escaped-step html = let a = sum_by-append (λ x. cond (needs_escape html x) 1 0) (b ∷ []) bs in omega (arith, a)
   escaped-step script = let a = escapes_after (passed script (b ∷ bs) - 1) bs in omega (arith, a)
+  escaped-step mode = let a = sum_by-append (λ x. cond (needs_escape mode x) 1 0) (b ∷ []) bs in omega (arith, a)
 
   -- a clean byte begins no run, and ends one
   pub runs-clean : (mode : Mode) (before : Bool) → needs_escape mode b ≡ false → run_count_after mode before (b ∷ bs) ≡ run_count mode bs
   unfolding runs_after script_runs_after
-  runs-clean json before h = rw h (omega arith)
-  runs-clean html before h = rw h (omega arith)
   runs-clean script before h = rw (h, passed-clean script b bs h) (omega arith)
+  runs-clean mode before h = rw h (omega arith)
 
   -- a byte that needs an escape begins a run after a clean one
   pub runs-first : (mode : Mode) → needs_escape mode b ≡ true → run_count mode (b ∷ bs) ≡ run_count_after mode true (drop (passed mode (b ∷ bs) - 1) bs) + 1
   unfolding runs_after script_runs_after
-  runs-first json h = rw h (omega arith)
-  runs-first html h = rw h (omega arith)
   runs-first script h = rw h (let a = marked_after (passed script (b ∷ bs) - 1) bs in omega (arith, a))
+  runs-first mode h = rw h (omega arith)
 
   -- and none within a run
   pub runs-next : (mode : Mode) → needs_escape mode b ≡ true → run_count_after mode true (b ∷ bs) ≡ run_count_after mode true (drop (passed mode (b ∷ bs) - 1) bs)
   unfolding runs_after script_runs_after
-  runs-next json h = rw h (omega arith)
-  runs-next html h = rw h (omega arith)
   runs-next script h = rw h (let a = marked_after (passed script (b ∷ bs) - 1) bs in omega (arith, a))
+  runs-next mode h = rw h (omega arith)
 
 -- no byte, no run
-runs-empty : (mode : Mode) (before : Bool) → run_count_after mode before [] ≡ 0
+pub runs-empty : (mode : Mode) (before : Bool) → run_count_after mode before [] ≡ 0
 unfolding runs_after script_runs_after
-runs-empty json before = refl
-runs-empty html before = refl
 runs-empty script before = refl
+runs-empty mode before = refl
 
 -- no byte, no escape
 pub escaped-empty : (mode : Mode) → escaped_count mode [] ≡ 0
 unfolding script_escapes_after
-escaped-empty json = refl
-escaped-empty html = refl
 escaped-empty script = refl
+escaped-empty mode = refl
 
 module _ (mode : Mode) where
   -- within a run at most one run fewer begins
   pub runs_after-≤ : (bs : List ℕ) → run_count mode bs ≤ run_count_after mode true bs + 1
   runs_after-≤ [] = rw (runs-empty mode true, runs-empty mode false) (omega arith)
-  runs_after-≤ (b ∷ bs) =
-      elim (cases_Bool (needs_escape mode b)) [
-        | inl needed ↦ let f = runs-first b bs mode needed in let n = runs-next b bs mode needed in omega (arith, f, n)
-        | inr clean ↦ let f = runs-clean b bs mode false clean in let n = runs-clean b bs mode true clean in omega (arith, f, n)
-      ]
+  runs_after-≤ (b ∷ bs) = grind (arith, nat_tests, runs-first, runs-next, runs-clean)
 
   -- clean bytes at the front
   module _ (ys : List ℕ) where
@@ -174,11 +141,7 @@ module _ (mode : Mode) where
 
     -- one is not escaped
     escaped_one : (x : ℕ) (xs : List ℕ) → needs_escape mode x ≡ false → escaped_count mode (x ∷ xs) ≡ escaped_count mode xs
-    escaped_one x xs clean =
-        let s = escaped-step x xs mode in
-        let o : ◌≡◌ {A = ℕ} (cond (needs_escape mode x) 1 0) 0 = rw clean refl in
-        let p = ap (λ n. escaped_count mode (drop (n - 1) xs)) (passed-clean mode x xs clean) in
-        omega (arith, s, o, p)
+    escaped_one x xs clean = grind (arith, nat_tests, escaped-step, passed-clean)
 
     -- none of them is escaped
     pub escaped_count-clean : (xs : List ℕ) → IsClean mode xs → escaped_count mode (xs ++ ys) ≡ escaped_count mode ys
@@ -198,10 +161,7 @@ module _ (mode : Mode) where
 
     -- past what the first replacement stands for
     after : drop (passed mode (drop i src) - 1) (drop (i + 1) src) ≡ drop (i + passed mode (drop i src)) src
-    after =
-        let one = (one≤passed mode (drop i src)).0 in
-        let n : i + 1 + (passed mode (drop i src) - 1) ≡ i + passed mode (drop i src) = omega (arith, one) in
-        drop-drop (passed mode (drop i src) - 1) (i + 1) src ∙ ap (λ k. drop k src) n
+    after = grind (arith, nat_tests, one≤passed, drop-drop)
 
     -- the same, told of the byte and the rest
     after_here : drop (passed mode (get_or src i 0 ∷ drop (i + 1) src) - 1) (drop (i + 1) src) ≡ drop (i + passed mode (drop i src)) src
@@ -209,34 +169,20 @@ module _ (mode : Mode) where
 
     -- what stands there, and for the rest
     pub inner-here : inner mode (drop i src) ≡ first_replacement mode (drop i src) ++ inner mode (drop (i + passed mode (drop i src)) src)
-    inner-here =
-        ap (inner mode) here
-        ∙ inner-step (get_or src i 0) (drop (i + 1) src) mode
-        ∙ ap (λ xs. first_replacement mode xs ++ inner mode (drop (passed mode (get_or src i 0 ∷ drop (i + 1) src) - 1) (drop (i + 1) src))) (sym here)
-        ∙ ap (λ xs. first_replacement mode (drop i src) ++ inner mode xs) after_here
+    inner-here = grind (arith, nat_tests, here, inner-step, after_here)
 
     module _ (needed : needs_escape mode (get_or src i 0) ≡ true) where
       -- one more that is escaped
       pub escaped-here : escaped_count mode (drop i src) ≡ escaped_count mode (drop (i + passed mode (drop i src)) src) + 1
-      escaped-here =
-          let s = escaped-step (get_or src i 0) (drop (i + 1) src) mode in
-          let o : ◌≡◌ {A = ℕ} (cond (needs_escape mode (get_or src i 0)) 1 0) 1 = rw needed refl in
-          let h = ap (escaped_count mode) here in let a = ap (escaped_count mode) after_here in
-          omega (arith, s, o, h, a)
+      escaped-here = grind (arith, nat_tests, escaped-step, here, after_here)
 
       -- it begins a run where none is open
       pub first-here : run_count mode (drop i src) ≡ run_count_after mode true (drop (i + passed mode (drop i src)) src) + 1
-      first-here =
-          let s = runs-first (get_or src i 0) (drop (i + 1) src) mode needed in
-          let h = ap (run_count mode) here in let a = ap (run_count_after mode true) after_here in
-          omega (arith, s, h, a)
+      first-here = grind (arith, nat_tests, runs-first, here, after_here)
 
       -- it goes on with an open run
       pub next-here : run_count_after mode true (drop i src) ≡ run_count_after mode true (drop (i + passed mode (drop i src)) src)
-      next-here =
-          let s = runs-next (get_or src i 0) (drop (i + 1) src) mode needed in
-          let h = ap (run_count_after mode true) here in let a = ap (run_count_after mode true) after_here in
-          omega (arith, s, h, a)
+      next-here = grind (arith, nat_tests, runs-next, here, after_here)
 
       -- the run goes on past it
       pub run_end-here : run_end mode src i ≡ run_end mode src (i + 1)
@@ -245,10 +191,7 @@ module _ (mode : Mode) where
     module _ (clean : needs_escape mode (get_or src i 0) ≡ false) where
       -- it ends an open run
       pub runs_stop-here : run_count_after mode true (drop i src) ≡ run_count mode (drop i src)
-      runs_stop-here =
-          let t = runs-clean (get_or src i 0) (drop (i + 1) src) mode true clean in let f = runs-clean (get_or src i 0) (drop (i + 1) src) mode false clean in
-          let h = ap (run_count mode) here in let a = ap (run_count_after mode true) here in
-          omega (arith, t, f, h, a)
+      runs_stop-here = grind (arith, nat_tests, runs-clean, here)
 
       -- it is passed alone
       pub passed_clean-here : passed mode (drop i src) ≡ 1
@@ -268,10 +211,7 @@ module _ (mode : Mode) where
 
     -- one step on no more runs begin
     pub runs-step : run_count mode (drop (i + passed mode (drop i src)) src) ≤ run_count mode (drop i src)
-    runs-step = elim (cases_Bool (needs_escape mode (get_or src i 0))) [
-      | inl needed ↦ let f = first-here needed in let most = runs_after-≤ (drop (i + passed mode (drop i src)) src) in omega (arith, f, most)
-      | inr clean ↦ let one = ap (λ k. run_count mode (drop (i + k) src)) (passed_clean-here clean) in let same = runs_clean-here clean in omega (arith, one, same)
-    ]
+    runs-step = grind (arith, nat_tests, first-here, runs_after-≤, passed_clean-here, runs_clean-here)
 
   -- the same at the end
   module _ (src : List ℕ) (i : ℕ) (over : length src ≤ i) where
@@ -287,24 +227,12 @@ module _ (mode : Mode) where
 
 -- a separator by six bytes
 pub length-separator : (bytes : List ℕ) → begins_separator bytes ≡ true → length (first_replacement script bytes) ≡ 6
-length-separator bytes begins = elim (cases_Bool (get_or bytes 2 0 == 0xa8)) [
-  | inl line ↦ rw (begins, line) refl
-  | inr paragraph ↦ rw (begins, paragraph) refl
-]
+length-separator bytes begins = grind (arith, nat_tests)
 
 -- the first of what stands for bytes has as many bytes at least as it stands for, and six times as many at most
 pub length-first : (mode : Mode) (bytes : List ℕ) → (passed mode bytes ≤ length (first_replacement mode bytes)) × (length (first_replacement mode bytes) ≤ 6 * passed mode bytes)
-length-first json bytes = length-replacement json (get_or bytes 0 0)
-length-first html bytes = length-replacement html (get_or bytes 0 0)
-length-first script bytes = elim (cases_Bool (begins_separator bytes)) [
-  | inl begins ↦ let l = length-separator bytes begins in let p : passed script bytes ≡ 3 = rw begins refl in (omega (arith, l, p), omega (arith, l, p))
-  | inr none ↦
-      let r = length-replacement script (get_or bytes 0 0) in
-      let p : passed script bytes ≡ 1 = rw none refl in
-      let f : first_replacement script bytes ≡ replacement script (get_or bytes 0 0) = rw none refl in
-      let l = ap length f in
-      (omega (arith, r, p, l), omega (arith, r, p, l))
-]
+length-first script bytes = grind (arith, nat_tests, length-separator, length-replacement)
+length-first mode bytes = length-replacement mode (get_or bytes 0 0)
 
 -- bytes are written by as many bytes at least, and six times as many at most
 pub length-inner : (mode : Mode) (bytes : List ℕ) → (length bytes ≤ length (inner mode bytes)) × (length (inner mode bytes) ≤ 6 * length bytes)

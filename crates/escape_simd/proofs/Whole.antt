@@ -1,16 +1,17 @@
--- A whole text: its bytes between quotes.
-use Rattle.std.proofs.Common.{◌≡◌, ℕ, ◌+◌, ◌*◌, ◌/◌, ◌≤◌, Bool, true, false, List, [], ◌++◌, length, take, drop, refl, sym, ap, subst, ◌∙◌, arith, length-append, length-take-le, le_refl}
+-- A whole text: its bytes between quotes, or with none.
+use Rattle.std.proofs.Common.{◌≡◌, ℕ, ◌+◌, ◌*◌, ◌/◌, ◌≤◌, true, false, List, [], ◌++◌, length, take, drop, refl, sym, ap, ◌∙◌, arith, length-append, length-take-le, le_refl}
 use Rattle.std.proofs.lemmas.List.{append-nil, drop_all}
 use Rattle.escape_lanes.specs.Mode.{Mode, json, html, script}
-use Rattle.escape_lanes.specs.Written.{bytes_of, stored_of, escaped_of, quotes_of, IsSameSlice}
+use Rattle.escape_lanes.specs.Written.{bytes_of}
 use Rattle.escape_lanes.specs.declared.simd.target.Target.{Target}
 use Rattle.escape_simd.specs.Output.{inner, plain, bound, quote_of, quote_count}
 use Rattle.escape_simd.specs.Runs.{escaped_count, run_count}
-use Rattle.escape_simd.specs.Stretch.{Stretch, rest_length, rest_slack}
-use Rattle.escape_simd.specs.Formatted.{IsWritten, IsFormatted, IsInnerAt}
-use Rattle.escape_simd.proofs.Stretches.{drop_further, rest-is}
+use Rattle.escape_simd.specs.Stretch.{Cost, Stretch, reach}
+use Rattle.escape_simd.specs.Formatted.{IsWritten, IsFormatted, IsInnerAt, IsInnerWritten, IsQuoted, IsQuotedAt}
+use Rattle.escape_simd.proofs.RestSteps.{rest-is}
+use Rattle.escape_simd.proofs.Stretches.{drop_further}
 use Rattle.escape_simd.proofs.ReplacementLemmas.{inner-nil}
-use Rattle.escape_simd.proofs.Texts.{escaped-empty, length-inner}
+use Rattle.escape_simd.proofs.Texts.{escaped-empty, length-inner, runs-empty}
 
 -- quotes around the escaped bytes
 pub plain-parts : (mode : Mode) (text : List ℕ) → plain mode text ≡ (quote_of mode ++ inner mode text) ++ quote_of mode
@@ -36,22 +37,6 @@ quote-short json = omega arith
 quote-short html = omega arith
 quote-short script = omega arith
 
--- how much the last bytes' stores may reach past the output
-pub slack-most : (exact : Bool) (n : ℕ) → (exact ≡ false → n ≤ 32) → 8 ≤ n → (rest_slack exact n ≤ 32) × (rest_slack exact n ≤ n)
-slack-most true n narrow some = (omega arith, some)
-slack-most false n narrow some = (narrow refl, omega arith)
-
--- what a narrow vector leaves alone a wider one may write
-pub written-wider : {n lanes : ℕ} {mode : Mode} {text old new : List ℕ} {count : ℕ} → n ≤ lanes → IsWritten n mode text old new count → IsWritten lanes mode text old new count
-written-wider {n} {lanes} {mode} {text} {old} {new} {count} h w = record {
-  exact = w.exact;
-  ends = w.ends;
-  least = w.least;
-  most = w.most;
-  kept_bound = w.kept_bound;
-  kept_past = drop_further new old (count + n) (count + lanes) (omega (arith, h)) w.kept_past;
-}
-
 -- all bytes of a text were passed
 module _ {N : ℕ} {mode : Mode} {slack : ℕ} {text : List ℕ} {old new : Target N} {to end : ℕ} (s : Stretch mode slack text old new 0 (length text) to end) where
   -- nothing is left
@@ -71,93 +56,88 @@ module _ {N : ℕ} {mode : Mode} {slack : ℕ} {text : List ℕ} {old new : Targ
       let l = s.limit in let r = rest-is mode text 0 in let q = rest-is mode text (length text) ∙ ap length (nothing-left ∙ inner-nil mode) in
       omega (arith, l, r, q)
 
-  -- and nothing past the slack changes
-  pub all-kept : drop (end + slack) (bytes_of new) ≡ drop (end + slack) (bytes_of old)
-  all-kept =
-      let l = s.limit in let q = rest-is mode text (length text) ∙ ap length (nothing-left ∙ inner-nil mode) in
-      let e : to + rest_length mode text 0 + slack ≡ end + slack = omega (arith, l, q) in
-      subst (λ k. drop k (bytes_of new) ≡ drop k (bytes_of old)) e s.kept
-
   -- so what stands for it is there
   pub all-inner : IsInnerAt mode slack text (bytes_of old) (bytes_of new) to end
-  all-inner = record { ends = all-end; written = all-written; kept = all-kept }
-
--- one quote was written or none
-pub record IsQuoted {N : ℕ} (mode : Mode) (old new : Target N) (to end : ℕ) : Type 0 where
-  pub same_slice : IsSameSlice old new
-  pub ends : end ≡ to + length (quote_of mode)
-  pub written : take end (bytes_of new) ≡ take to (bytes_of old) ++ quote_of mode
-  pub kept : drop (to + 1) (bytes_of new) ≡ drop (to + 1) (bytes_of old)
-  pub stored : stored_of new ≡ stored_of old
-  pub escaped : escaped_of new ≡ escaped_of old
-  pub quotes : quotes_of new ≡ quotes_of old + length (quote_of mode)
-
--- the same in bytes
-pub record IsQuotedIn (mode : Mode) (old new : List ℕ) (to end : ℕ) : Type 0 where
-  pub ends : end ≡ to + length (quote_of mode)
-  pub written : take end new ≡ take to old ++ quote_of mode
-  pub kept : drop (to + 1) new ≡ drop (to + 1) old
+  all-inner = record { ends = all-end; written = all-written; kept = s.kept }
 
 -- a text's bytes, and quotes around them
-module _ (lanes : ℕ) (mode : Mode) (exact : Bool) (text : List ℕ) {old first second new : List ℕ} {opened close count : ℕ}
-    (before : IsQuotedIn mode old first 0 opened)
-    (between : IsInnerAt mode (rest_slack exact lanes) text first second opened close) (len : length second ≡ length old)
-    (after : IsQuotedIn mode second new close count)
-    (room : bound mode (length text) ≤ length old) (narrow : exact ≡ false → lanes ≤ 32) (some : 8 ≤ lanes) where
-  -- what stands before the closing quote
-  front : take close second ≡ quote_of mode ++ inner mode text
-  front = between.written ∙ ap (λ xs. xs ++ inner mode text) before.written
+pub whole_written : {lanes : ℕ} {mode : Mode} {text old first second new : List ℕ} {opened close count : ℕ} → IsQuotedAt mode old first 0 opened → IsInnerAt mode (reach true lanes) text first second opened close → IsQuotedAt mode second new close count
+    → length first ≡ length old → length second ≡ length old → bound mode (length text) ≤ length old → 16 ≤ lanes → IsWritten lanes mode text old new count
+whole_written {lanes} {mode} {text} {old} {first} {second} {new} {opened} {close} {count} before between after len1 len2 room several =
+    let two = two_quotes mode in let b = bound-quotes mode (length text) in
+    let front : take close second ≡ quote_of mode ++ inner mode text = between.written ∙ ap (λ xs. xs ++ inner mode text) before.written in
+    let short = quote-short mode in let ends = between.ends in
+    let most = length-inner mode text in
+    let fits : length (take close second) ≡ close = length-take-le close second (omega (arith, ends, most, len2, before.ends, b, room)) in
+    let e = plain-parts mode text in
+    let same : take count new ≡ plain mode text = after.written ∙ ap (λ xs. xs ++ quote_of mode) front ∙ sym e in
+    let long : length (plain mode text) ≡ close + length (quote_of mode) = ap length (e ∙ ap (λ xs. xs ++ quote_of mode) (sym front)) ∙ length-append (take close second) (quote_of mode) ∙ ap (λ k. k + length (quote_of mode)) fits in
+    let kept : (k : ℕ) → close + reach true lanes ≤ k → close + 1 ≤ k → drop k new ≡ drop k old = λ k h g.
+    drop_further new second (close + 1) k g after.kept
+    ∙ drop_further second first (close + reach true lanes) k h between.kept
+    ∙ drop_further first old (0 + 1) k (omega (arith, g)) before.kept in
+    record {
+      exact = same;
+      ends = omega (arith, after.ends, long);
+      least = omega (arith, ends, most, before.ends, after.ends, two);
+      most = omega (arith, ends, most, before.ends, after.ends, two);
+      kept_bound = kept (bound mode (length text)) (omega (arith, ends, most, before.ends, b)) (omega (arith, ends, most, before.ends, b, short));
+      kept_past = kept (count + lanes) (omega (arith, after.ends)) (omega (arith, after.ends, several));
+    }
 
-  -- the bytes of the whole
-  pub parts_written : IsWritten lanes mode text old new count
-  parts_written =
-      let two = two_quotes mode in let b = bound-quotes mode (length text) in
-      let f = front in let short = quote-short mode in
-      let most = length-inner mode text in let few = slack-most exact lanes narrow some in
-      let fits : length (take close second) ≡ close = length-take-le close second (omega (arith, between.ends, most, len, before.ends, b)) in
-      let e = plain-parts mode text in
-      let same : take count new ≡ plain mode text = after.written ∙ ap (λ xs. xs ++ quote_of mode) f ∙ sym e in
-      let long : length (plain mode text) ≡ close + length (quote_of mode) = ap length (e ∙ ap (λ xs. xs ++ quote_of mode) (sym f)) ∙ length-append (take close second) (quote_of mode) ∙ ap (λ k. k + length (quote_of mode)) fits in
-      let kept : (k : ℕ) → close + rest_slack exact lanes ≤ k → close + 1 ≤ k → drop k new ≡ drop k old = λ k h g.
-      drop_further new second (close + 1) k g after.kept
-      ∙ drop_further second first (close + rest_slack exact lanes) k h between.kept
-      ∙ drop_further first old (0 + 1) k (omega (arith, g)) before.kept in
-      record {
-        exact = same;
-        ends = omega (arith, after.ends, long);
-        least = omega (arith, between.ends, most, before.ends, after.ends, two);
-        most = omega (arith, between.ends, most, before.ends, after.ends, two);
-        kept_bound = kept (bound mode (length text)) (omega (arith, between.ends, most, before.ends, b, few)) (omega (arith, between.ends, most, before.ends, b, short));
-        kept_past = kept (count + lanes) (omega (arith, after.ends, few)) (omega (arith, after.ends, some));
-      }
-
-module _ {N : ℕ} {mode : Mode} {exact : Bool} {text : List ℕ} {old first second new : Target N} {opened close count : ℕ}
-    (before : IsQuoted mode old first 0 opened) (s : Stretch mode (rest_slack exact N) text first second 0 (length text) opened close) (after : IsQuoted mode second new close count)
-    (room : bound mode (length text) ≤ length (bytes_of old)) (narrow : exact ≡ false → N ≤ 32) (some : 8 ≤ N) where
-  -- the bytes of the whole
-  pub whole_written : IsWritten N mode text (bytes_of old) (bytes_of new) count
-  whole_written =
-      parts_written N mode exact text {second = bytes_of second}
-      (record { ends = before.ends; written = before.written; kept = before.kept })
-      (all-inner s) (s.same_slice.len ∙ before.same_slice.len)
-      (record { ends = after.ends; written = after.written; kept = after.kept })
-      room narrow some
+-- the same over a target
+module _ {N : ℕ} {mode : Mode} {text : List ℕ} {old first second new : Target N} {opened close count : ℕ}
+    (before : IsQuoted mode old first 0 opened) (between : Stretch mode (reach true N) text first second 0 (length text) opened close)
+    (after : IsQuoted mode second new close count) (room : bound mode (length text) ≤ length (bytes_of old)) (several : 16 ≤ N) where
+  pub target_written : IsWritten N mode text (bytes_of old) (bytes_of new) count
+  target_written =
+      let l1 = before.same_slice.len in let l2 = between.same_slice.len in
+      whole_written before.quoted (all-inner between) after.quoted (omega (arith, l1)) (omega (arith, l1, l2)) room several
 
   -- and its counts
-  pub whole_formatted : {ticks_old ticks_new : ℕ} → stored_of second ≤ stored_of first + run_count mode text + length text / N + 1 → ticks_new + stored_of first ≡ ticks_old + stored_of second
-      → IsFormatted mode text old new count ticks_old ticks_new
-  whole_formatted stored classified =
-      let two = two_quotes mode in
-      let none : escaped_count mode (drop (length text) text) ≡ 0 = ap (escaped_count mode) (drop_all (length text) text (le_refl (length text))) ∙ escaped-empty mode in
+  pub whole_formatted : {t0 t1 : ℕ} → Cost mode text 0 (length text) (length text / N + 1) 0 first second t0 t1 → IsFormatted mode text old new count t0 t1
+  whole_formatted c =
+      let two = two_quotes mode in let s = between in
+      let over : drop (length text) text ≡ [] = drop_all (length text) text (le_refl (length text)) in
+      let none : escaped_count mode (drop (length text) text) ≡ 0 = ap (escaped_count mode) over ∙ escaped-empty mode in
+      let runs : run_count mode (drop (length text) text) ≡ 0 = ap (run_count mode) over ∙ runs-empty mode false in
       record {
         same_slice = record {
           reference = after.same_slice.reference ∙ s.same_slice.reference ∙ before.same_slice.reference;
           len = after.same_slice.len ∙ s.same_slice.len ∙ before.same_slice.len;
         };
-        written = whole_written;
+        written = target_written;
         escaped = omega (arith, after.escaped, s.escaped, before.escaped, none);
         quotes = omega (arith, after.quotes, s.quotes, before.quotes, two);
-        stored = omega (arith, after.stored, before.stored, stored);
-        each_stored = omega (arith, after.stored, before.stored, classified);
-        classified = omega (arith, classified, stored);
+        stored = omega (arith, after.stored, before.stored, c.stored);
+        each_stored = omega (arith, after.stored, before.stored, c.covered);
+        classified = omega (arith, c.classified, runs);
+        writes = omega (arith, after.writes, after.quotes, after.stored, after.escaped, s.writes, s.quotes, before.writes, before.quotes, before.stored, before.escaped);
       }
+
+-- over bytes of which the first alone had changed
+pub written-over : (lanes : ℕ) (mode : Mode) (text old mid new : List ℕ) (count : ℕ) → 16 ≤ lanes → drop 1 mid ≡ drop 1 old → IsWritten lanes mode text mid new count → IsWritten lanes mode text old new count
+written-over lanes mode text old mid new count several same w =
+    let b = bound-quotes mode (length text) in
+    record {
+      exact = w.exact;
+      ends = w.ends;
+      least = w.least;
+      most = w.most;
+      kept_bound = w.kept_bound ∙ drop_further mid old 1 (bound mode (length text)) (omega (arith, b)) same;
+      kept_past = w.kept_past ∙ drop_further mid old 1 (count + lanes) (omega (arith, several)) same;
+    }
+
+-- what stands for a text with no quotation marks, at the front of the bytes
+pub inner_written : (lanes : ℕ) (mode : Mode) (text old new : List ℕ) (count : ℕ) → IsInnerAt mode (reach true lanes) text old new 0 count → IsInnerWritten lanes mode text old new count
+inner_written lanes mode text old new count at =
+    let most = length-inner mode text in
+    let further : (k : ℕ) → count + reach true lanes ≤ k → drop k new ≡ drop k old = λ k h. drop_further new old (count + reach true lanes) k h at.kept in
+    record {
+      exact = at.written;
+      ends = omega (arith, at.ends);
+      least = omega (arith, at.ends, most);
+      most = omega (arith, at.ends, most);
+      kept_bound = further (6 * length text + 32) (omega (arith, at.ends, most));
+      kept_past = further (count + lanes) (omega arith);
+    }

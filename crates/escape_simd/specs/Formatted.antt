@@ -1,9 +1,9 @@
 -- What a kernel leaves behind.
 use Rattle.std.specs.Prelude.{◌≡◌, ℕ, ◌+◌, ◌*◌, ◌/◌, ◌≤◌, List, ◌++◌, length, take, drop}
 use Rattle.escape_lanes.specs.Mode.{Mode}
-use Rattle.escape_lanes.specs.Written.{bytes_of, stored_of, escaped_of, quotes_of, IsSameSlice}
+use Rattle.escape_lanes.specs.Written.{bytes_of, stored_of, escaped_of, quotes_of, writes_of, IsSameSlice}
 use Rattle.escape_lanes.specs.declared.simd.target.Target.{Target}
-use Rattle.escape_simd.specs.Output.{plain, inner, quote_count, bound}
+use Rattle.escape_simd.specs.Output.{plain, inner, quote_of, quote_count, bound}
 use Rattle.escape_simd.specs.Runs.{escaped_count, run_count}
 
 -- The plain escaping of the text stands at the front of the bytes.
@@ -17,8 +17,23 @@ pub record IsWritten (lanes : ℕ) (mode : Mode) (text old new : List ℕ) (coun
   pub kept_bound : drop (bound mode (length text)) new ≡ drop (bound mode (length text)) old
   pub kept_past : drop (count + lanes) new ≡ drop (count + lanes) old
 
+-- one quote was written or none, to bytes
+pub record IsQuotedAt (mode : Mode) (old new : List ℕ) (to end : ℕ) : Type 0 where
+  pub ends : end ≡ to + length (quote_of mode)
+  pub written : take end new ≡ take to old ++ quote_of mode
+  pub kept : drop (to + 1) new ≡ drop (to + 1) old
+
+-- the same in a target
+pub record IsQuoted {N : ℕ} (mode : Mode) (old new : Target N) (to end : ℕ) : Type 0 where
+  pub same_slice : IsSameSlice old new
+  pub quoted : IsQuotedAt mode (bytes_of old) (bytes_of new) to end
+  pub stored : stored_of new ≡ stored_of old
+  pub escaped : escaped_of new ≡ escaped_of old
+  pub quotes : quotes_of new ≡ quotes_of old + length (quote_of mode)
+  pub writes : writes_of new ≡ writes_of old + length (quote_of mode)
+
 -- The same in a target, at a cost of one vector stored, and one classified, for each run of escapes, and
--- one for each vector that the text fills or begins.
+-- one for each vector that the text fills or begins. Each write was counted.
 pub record IsFormatted {N : ℕ} (mode : Mode) (text : List ℕ) (old new : Target N) (count ticks_old ticks_new : ℕ) : Type 0 where
   pub same_slice : IsSameSlice old new
   pub written : IsWritten N mode text (bytes_of old) (bytes_of new) count
@@ -28,6 +43,8 @@ pub record IsFormatted {N : ℕ} (mode : Mode) (text : List ℕ) (old new : Targ
   -- each vector stored was classified
   pub each_stored : ticks_old + stored_of new ≤ ticks_new + stored_of old
   pub classified : ticks_new ≤ ticks_old + (run_count mode text + length text / N + 1)
+  -- no more writes than vectors stored, escapes and quotes together
+  pub writes : writes_of new + (stored_of old + escaped_of old + quotes_of old) ≤ writes_of old + (stored_of new + escaped_of new + quotes_of new)
 
 -- What stands for the text, with no quotation marks, stands at the front of the bytes.
 pub record IsInnerWritten (lanes : ℕ) (mode : Mode) (text old new : List ℕ) (count : ℕ) : Type 0 where

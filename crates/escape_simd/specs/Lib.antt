@@ -6,7 +6,9 @@ pub mod Modes
 pub mod Output
 pub mod Runs
 pub mod Stretch
+pub mod Blocks
 pub mod Formatted
+pub mod Parts
 pub mod Kernels
 pub mod Spelling
 pub mod Html
@@ -16,4 +18,3 @@ pub mod Headline
 pub mod Laws
 pub mod Escaping
 pub mod Messages
-pub mod Ahead

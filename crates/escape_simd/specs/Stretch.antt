@@ -1,13 +1,13 @@
 -- What a stretch of a text did to a target, and what it cost.
-use Rattle.std.specs.Prelude.{max, min, ◌≡◌, ℕ, ◌+◌, ◌-◌, ◌/◌, ◌<◌, ◌≤◌, Bool, true, false, List, ◌++◌, length, take, drop, map, slice_index, slice_index_or, if◌then◌else◌}
+use Rattle.std.specs.Prelude.{min, ◌≡◌, ℕ, ◌+◌, ◌-◌, ◌*◌, ◌/◌, ◌<◌, ◌≤◌, Bool, true, false, List, ◌++◌, length, take, drop, slice_index, slice_index_or, if◌then◌else◌}
 use Rattle.std.specs.List.{prefix_len}
 use Rattle.escape_lanes.specs.Bits.{none_set}
 use Rattle.escape_lanes.specs.Mode.{Mode, json, html, script}
-use Rattle.escape_lanes.specs.Replacement.{needs_escape}
-use Rattle.escape_lanes.specs.Written.{bytes_of, stored_of, escaped_of, quotes_of, IsSameSlice}
+use Rattle.escape_lanes.specs.Replacement.{needs_escape, replacement}
+use Rattle.escape_lanes.specs.Written.{bytes_of, stored_of, escaped_of, quotes_of, writes_of, IsSameSlice}
 use Rattle.escape_lanes.specs.declared.simd.target.Target.{Target}
 use Rattle.escape_simd.specs.Output.{inner, passed}
-use Rattle.escape_simd.specs.Runs.{escaped_count, run_count}
+use Rattle.escape_simd.specs.Runs.{escaped_count, run_count, run_count_after}
 
 -- where the bytes that need an escape from a place on end
 abbrev pub run_end : Mode → List ℕ → ℕ → ℕ
@@ -17,12 +17,8 @@ run_end mode src at = at + prefix_len (needs_escape mode) (drop at src)
 unfoldable pub rest_length : Mode → List ℕ → ℕ → ℕ
 rest_length mode src at = length (inner mode (drop at src))
 
--- the room in a target that the rest of a text may need: what it becomes, and a vector of 32 bytes
-abbrev pub room_from : Mode → List ℕ → ℕ → ℕ
-room_from mode src at = rest_length mode src at + 32
-
 -- The bytes of a text from `at` up to `next` were escaped into a target from `to` up to `end`. No write
--- passed what the rest of the text becomes by more than `slack` bytes.
+-- reached further than `slack` bytes past `end`, and each was counted.
 pub record Stretch {N : ℕ} (mode : Mode) (slack : ℕ) (src : List ℕ) (old new : Target N) (at next to end : ℕ) : Type 0 where
   pub same_slice : IsSameSlice old new
   pub forward : at ≤ next
@@ -31,46 +27,27 @@ pub record Stretch {N : ℕ} (mode : Mode) (slack : ℕ) (src : List ℕ) (old n
   pub limit : end + rest_length mode src next ≡ to + rest_length mode src at
   -- what is written and what is yet to be written stay one text
   pub bytes : take end (bytes_of new) ++ inner mode (drop next src) ≡ take to (bytes_of old) ++ inner mode (drop at src)
-  pub kept : drop (to + rest_length mode src at + slack) (bytes_of new) ≡ drop (to + rest_length mode src at + slack) (bytes_of old)
+  pub kept : drop (end + slack) (bytes_of new) ≡ drop (end + slack) (bytes_of old)
   pub escaped : escaped_of new + escaped_count mode (drop next src) ≡ escaped_of old + escaped_count mode (drop at src)
   pub quotes : quotes_of new ≡ quotes_of old
+  pub writes : writes_of new + (stored_of old + escaped_of old) ≤ writes_of old + (stored_of new + escaped_of new)
 
--- A stretch of a text from `at` up to `next` stored no more vectors than it has runs and whole vectors,
--- and classified each vector that it stored, and no other.
-pub record Paid (N : ℕ) (mode : Mode) (src : List ℕ) (at next stored_old stored_new ticks_old ticks_new : ℕ) : Type 0 where
-  pub stored : stored_new + run_count mode (drop next src) ≤ stored_old + run_count mode (drop at src) + (next - at) / N
-  pub classified : ticks_new + stored_old ≡ ticks_old + stored_new
+-- What a stretch of a text from `at` up to `next` may cost: a vector stored for each of its runs, and `vectors` more. As many
+-- vectors are classified as are stored at least, and as may be stored at most. So many of them were classified before: `asked`.
+pub record Cost {N : ℕ} (mode : Mode) (src : List ℕ) (at next vectors asked : ℕ) (old new : Target N) (ticks_old ticks_new : ℕ) : Type 0 where
+  pub stored : stored_of new + run_count mode (drop next src) ≤ stored_of old + run_count mode (drop at src) + vectors
+  pub covered : ticks_old + stored_of new ≤ ticks_new + stored_of old + asked
+  pub classified : ticks_new + run_count mode (drop next src) + asked ≤ ticks_old + run_count mode (drop at src) + vectors
 
--- how many bytes are stored of a vector of n lanes for `taken` bytes of a text of which `rest` are left: all lanes, or where
--- a store is exact, these bytes, and as many more up to 32 as are left
-abbrev pub stored_lanes : Bool → ℕ → ℕ → ℕ → ℕ
-stored_lanes exact n taken rest = if exact then max taken (min (min n 32) rest) else n
-
--- A mask has the lanes of the bytes that need an escape, of the first `taken` bytes of a text from `at` on. Those before
+-- A mask has the lanes of the bytes that need an escape, of the first `valid` bytes of a text from `at` on. Those before
 -- `from` it may have or not, and it has no other lane.
-pub record HoldsFlags (mode : Mode) (src : List ℕ) (at taken from : ℕ) (bits : List Bool) : Type 0 where
-  pub set : (k : ℕ) → slice_index_or bits k false ≡ true → (k < taken) × (needs_escape mode (slice_index src (at + k)) ≡ true)
-  pub unset : (k : ℕ) → slice_index_or bits k false ≡ false → from ≤ at + k → k < taken → needs_escape mode (slice_index src (at + k)) ≡ false
-
--- the first n lanes of a vector are the text's bytes from `at` on, and none of its lanes needs an escape
-pub record HoldsClean (mode : Mode) (n : ℕ) (src : List ℕ) (at : ℕ) (lanes : List ℕ) : Type 0 where
-  pub loaded : take n lanes ≡ take n (drop at src)
-  pub clean : none_set (map (needs_escape mode) lanes) ≡ true
-
--- a vector holds the text's bytes from `at` on, and its flags tell which of them need an escape
-pub record IsAsked (mode : Mode) (n : ℕ) (src : List ℕ) (at : ℕ) (lanes : List ℕ) (flags : List Bool) : Type 0 where
-  pub loaded : lanes ≡ take n (drop at src)
-  pub flagged : flags ≡ map (needs_escape mode) lanes
+pub record HoldsFlags (mode : Mode) (src : List ℕ) (at valid from : ℕ) (bits : List Bool) : Type 0 where
+  pub set : (k : ℕ) → slice_index_or bits k false ≡ true → (k < valid) × (needs_escape mode (slice_index src (at + k)) ≡ true)
+  pub unset : (k : ℕ) → slice_index_or bits k false ≡ false → from ≤ at + k → k < valid → needs_escape mode (slice_index src (at + k)) ≡ false
 
 -- what stands for a byte is told by that byte alone
 abbrev pub IsByteWise : Mode → Type 0
 IsByteWise mode = (bytes : List ℕ) → passed mode bytes ≡ 1
-
--- how many bytes past a flagged one are looked at
-abbrev pub look_ahead : Mode → ℕ
-look_ahead json = 0
-look_ahead html = 0
-look_ahead script = 2
 
 -- how far past what it stands for an entry of eight bytes may reach
 abbrev pub run_reach : Mode → ℕ
@@ -78,10 +55,9 @@ run_reach json = 6
 run_reach html = 6
 run_reach script = 7
 
--- how far past what the rest of a text becomes the stores of its last bytes reach: a vector, and where they
--- are exact no more than an escape
-abbrev pub rest_slack : Bool → ℕ → ℕ
-rest_slack exact n = if exact then 8 else n
+-- how far past what a vector becomes its stores may reach: a vector, and where it is one of a text's last ones, no more than 32 bytes
+abbrev pub reach : Bool → ℕ → ℕ
+reach last n = if last then min n 32 else n
 
 -- The bytes of a text were passed up to a place not before the border, and at most by the rest of a separator past it:
 -- none of those needs an escape.
@@ -91,63 +67,130 @@ pub record Passed (mode : Mode) (src : List ℕ) (border next : ℕ) : Type 0 wh
   pub exact : IsByteWise mode → next ≡ border
   pub clean : (p : ℕ) → border ≤ p → p < next → needs_escape mode (slice_index src p) ≡ false
 
--- A mask has the flags of `taken` bytes of a text from `at` on, which a vector of N bytes holds; they are passed from
--- `from` on, with what is written at `to`, and there is room for the rest.
-pub record IsVectorAt (mode : Mode) (N : ℕ) (src : List ℕ) (at taken from to size : ℕ) (bits : List Bool) : Type 0 where
-  pub count : length bits ≡ N
-  pub flags : HoldsFlags mode src at taken from bits
-  pub few : taken ≤ N
-  pub inside : at + taken ≤ length src
-  pub after : at ≤ from
-  pub before : from < at + taken
-  pub room : to + room_from mode src from ≤ size
+-- Text from `at` up to `next` was escaped to a target from `to` up to `end`, at this cost: all bytes before `border`, and what of
+-- a separator goes past it.
+pub record Escapes {N : ℕ} (mode : Mode) (slack border vectors asked : ℕ) (src : List ℕ) (old new : Target N) (at next to end ticks_old ticks_new : ℕ) : Type 0 where
+  pub stretch : Stretch mode slack src old new at next to end
+  pub passed : Passed mode src border next
+  pub cost : Cost mode src at next vectors asked old new ticks_old ticks_new
 
--- And the mask has no lane of the bytes before `from`.
-pub record IsLeftAt (mode : Mode) (N : ℕ) (src : List ℕ) (at taken from to size : ℕ) (bits : List Bool) : Type 0 where
-  pub vector : IsVectorAt mode N src at taken from to size bits
-  pub cleared : (k : ℕ) → slice_index_or bits k false ≡ true → from ≤ at + k
+-- a byte of the text that needs an escape
+pub record IsFlaggedAt (mode : Mode) (src : List ℕ) (at : ℕ) : Type 0 where
+  pub inside : at < length src
+  pub needed : needs_escape mode (slice_index src at) ≡ true
 
--- A vector holds `taken` bytes of a text from `at` on. Where it may not be the text's last one, a vector can be loaded from
--- each of them on, and where stores are not exact, the rest of the text and a vector of 32 bytes have room for one.
-pub record IsHeld (N : ℕ) (exact last : Bool) (src : List ℕ) (at taken : ℕ) (lanes : List ℕ) : Type 0 where
-  pub held : take taken lanes ≡ take taken (drop at src)
-  pub behind : last ≡ false → at + N + N ≤ length src
-  pub narrow : exact ≡ false → N ≤ length src - (at + taken) + 32
+-- the byte at `at`, or the separator that begins with it, was escaped
+pub record Escaped {N : ℕ} (mode : Mode) (src : List ℕ) (old new : Target N) (at next to end : ℕ) : Type 0 where
+  pub stretch : Stretch mode (run_reach mode) src old new at next to end
+  pub place : next ≡ at + passed mode (drop at src)
+  pub stored : stored_of new ≡ stored_of old
 
--- All escapes of a vector were written, as a mask with no lane says: its clean bytes from `from` on are left, or the rest
--- of a separator went past it. What is written is at `to`, and there is room for the rest.
-pub record IsVectorEnd (mode : Mode) (N : ℕ) (src : List ℕ) (at taken from to size : ℕ) (bits : List Bool) : Type 0 where
-  pub none : none_set bits ≡ true
-  pub inside : from ≤ length src
-  pub clean : from < at + taken → IsVectorAt mode N src at taken from to size bits
-  pub over : at + taken ≤ from → Passed mode src (at + taken) from
-  pub room : to + (at + taken - from) ≤ size
+-- the run of bytes at `at` that need an escape was escaped
+pub record IsRun {N : ℕ} (mode : Mode) (src : List ℕ) (old new : Target N) (at next to end : ℕ) : Type 0 where
+  pub stretch : Stretch mode (run_reach mode) src old new at next to end
+  pub place : next ≡ run_end mode src at
+  pub escaped : escaped_of new ≡ escaped_of old + (next - at)
+  pub stored : stored_of new ≡ stored_of old
 
--- A vector, whose first lanes are `taken` bytes of the text from `from` on, can be stored at `to`. Of at most 32 lanes all
--- have room, also where fewer are stored.
-pub record CanStore (N : ℕ) (exact : Bool) (src : List ℕ) (from taken to size : ℕ) : Type 0 where
-  pub few : taken ≤ N
-  pub inside : from + taken ≤ length src
-  pub room : to + stored_lanes exact N taken (length src - from) ≤ size
-  pub narrow : N ≤ 32 → to + N ≤ size
+-- A mask has the flags of `valid` bytes of a text from `at` on, at most a vector of N. A vector can be loaded from each place from
+-- `at` to their end, and there is room for what they become and for what their stores reach past it.
+pub record IsVectorAt (mode : Mode) (N slack : ℕ) (src : List ℕ) (at valid to size : ℕ) (bits : List Bool) : Type 0 where
+  pub flags : HoldsFlags mode src at valid at bits
+  pub few : valid ≤ N
+  pub inside : at + valid + N ≤ length src
+  pub room : to + 6 * valid + slack ≤ size
 
--- a vector was stored at `to`, whose first lanes are `taken` bytes of the text from `from` on
-pub record IsStored {N : ℕ} (exact : Bool) (src : List ℕ) (old new : Target N) (from taken to : ℕ) : Type 0 where
+-- Some of these bytes were passed: those from `next` on are left, with what is written at `to`. The mask has their flags alone.
+pub record IsLeftAt (mode : Mode) (N slack : ℕ) (src : List ℕ) (at valid next to size : ℕ) (bits : List Bool) : Type 0 where
+  pub flags : HoldsFlags mode src at valid next bits
+  pub cleared : (k : ℕ) → slice_index_or bits k false ≡ true → next ≤ at + k
+  pub few : valid ≤ N
+  pub inside : at + valid + N ≤ length src
+  pub after : at ≤ next
+  pub before : next < at + valid
+  pub room : to + 6 * (at + valid - next) + slack ≤ size
+
+-- a vector can be stored at `to`, whose first `left` lanes are the text's bytes from `from` on
+pub record CanStore (N slack : ℕ) (src : List ℕ) (from left to size : ℕ) : Type 0 where
+  pub few : left ≤ N
+  pub inside : from + N ≤ length src
+  pub room : to + left + slack ≤ size
+
+-- It was stored, and nothing changed further than `slack` bytes past these.
+pub record IsStored {N : ℕ} (slack : ℕ) (src : List ℕ) (old new : Target N) (from left to : ℕ) : Type 0 where
   pub same_slice : IsSameSlice old new
   pub written : take to (bytes_of new) ≡ take to (bytes_of old)
-  pub ahead : take taken (drop to (bytes_of new)) ≡ take taken (drop from src)
-  pub kept : drop (to + stored_lanes exact N taken (length src - from)) (bytes_of new) ≡ drop (to + stored_lanes exact N taken (length src - from)) (bytes_of old)
+  pub ahead : take left (drop to (bytes_of new)) ≡ take left (drop from src)
+  pub kept : drop (to + left + slack) (bytes_of new) ≡ drop (to + left + slack) (bytes_of old)
   pub stored : stored_of new ≡ stored_of old + 1
   pub escaped : escaped_of new ≡ escaped_of old
   pub quotes : quotes_of new ≡ quotes_of old
+  pub writes : writes_of new ≡ writes_of old + 1
 
--- What is written of a text from `start` up to `to` has no fewer bytes than were passed of it; where it has as many, it is
--- these bytes.
-pub record IsWrittenUpTo {N : ℕ} (src : List ℕ) (target : Target N) (at start to : ℕ) : Type 0 where
-  pub least : start + at ≤ to
-  pub as_it_is : to ≡ start + at → take at (drop start (bytes_of target)) ≡ take at src
+-- All escapes of a vector that ends at `border` were written: its clean bytes from `from` on are left, or the rest of a separator
+-- went past it. What is written is at `to`.
+pub record IsVectorEnd (mode : Mode) (N slack : ℕ) (src : List ℕ) (border from to size : ℕ) : Type 0 where
+  pub clean : (p : ℕ) → from ≤ p → p < border → needs_escape mode (slice_index src p) ≡ false
+  pub start : from ≤ length src
+  pub inside : border + N ≤ length src
+  pub near : border ≤ from + N
+  pub over : border ≤ from → Passed mode src border from
+  pub room : from < border → to + 6 * (border - from) + slack ≤ size
+
+-- These were passed, after a run of escapes that ended at `from`.
+pub record IsFinished {N : ℕ} (mode : Mode) (slack : ℕ) (src : List ℕ) (old new : Target N) (border from next to end ticks_old ticks_new : ℕ) : Type 0 where
+  pub stretch : Stretch mode slack src old new from next to end
+  pub passed : Passed mode src border next
+  pub stored : stored_of new + run_count mode (drop next src) ≤ stored_of old + run_count_after mode true (drop from src) + 1
+  pub classified : ticks_new + stored_of old ≡ ticks_old + stored_of new
 
 -- the text's clean bytes from `from` on, as far as the border, stand in a target from `to` on
 abbrev pub CleanAhead : {N : ℕ} → Mode → List ℕ → Target N → ℕ → ℕ → ℕ → Type 0
 CleanAhead mode src target from border to = (count : ℕ) → from + count ≤ border → ((p : ℕ) → from ≤ p → p < from + count → needs_escape mode (slice_index src p) ≡ false)
     → take count (drop to (bytes_of target)) ≡ take count (drop from src)
+
+-- After a run of escapes that ended at `from` the text's clean bytes from there on stand in the target, as far as the border.
+pub record IsResumed {N : ℕ} (mode : Mode) (slack : ℕ) (src : List ℕ) (old new : Target N) (border from to ticks_old ticks_new : ℕ) : Type 0 where
+  pub stretch : Stretch mode (border - from + slack) src old new from from to to
+  pub ahead : CleanAhead mode src new from border to
+  pub stored : stored_of new + run_count mode (drop from src) ≤ stored_of old + run_count_after mode true (drop from src) + 1
+  pub classified : ticks_new + stored_of old ≡ ticks_old + stored_of new
+
+-- Vectors of a text from `at` on are there, and one more behind them. There is room for what their bytes from `from` on become,
+-- and for a vector.
+pub record HasVectors (N vectors : ℕ) (src : List ℕ) (at from to size : ℕ) : Type 0 where
+  pub inside : at + (vectors + 1) * N ≤ length src
+  pub room : to + 6 * (at + vectors * N - from) + N ≤ size
+
+-- The bytes of a text from `at` on are fewer than two vectors have, and there is room for what they become.
+pub record HasRest (N : ℕ) (src : List ℕ) (at to size : ℕ) : Type 0 where
+  pub inside : at ≤ length src
+  pub few : length src < at + 2 * N
+  pub room : to + 6 * (length src - at) + reach true N ≤ size
+
+-- A short text, with the flags of its first vector, and where it has more bytes than one has, those of its last one.
+pub record AreLast (mode : Mode) (N : ℕ) (text : List ℕ) (first last : List Bool) : Type 0 where
+  pub few : length text < 2 * N
+  pub front : HoldsFlags mode text 0 (min (length text) N) 0 first
+  pub back : N ≤ length text → HoldsFlags mode text (length text - N) N (length text - N) last
+
+-- so many bytes of a text were classified, by vectors of N, and nothing was written
+pub record IsAsked {n : ℕ} (N count : ℕ) (old new : Target n) (ticks_old ticks_new : ℕ) : Type 0 where
+  pub target : new ≡ old
+  pub ticks : ticks_new ≡ ticks_old + (count / N + 1)
+
+-- what stands for each flagged byte of n that needs an escape is two bytes: a reverse solidus, and a letter or the byte itself
+abbrev pub AreShort : Mode → ℕ → List ℕ → ℕ → List Bool → Type 0
+AreShort mode n src at bits =
+    (k : ℕ) → k < n → slice_index_or bits k false ≡ true → needs_escape mode (slice_index src (at + k)) ≡ true → length (replacement mode (slice_index src (at + k))) ≡ 2
+
+-- a vector's first `valid` bytes can be escaped by blocks: some are flagged, and each of these has a short escape
+pub record HasBlocks (mode : Mode) (N : ℕ) (src : List ℕ) (at valid to size : ℕ) (bits : List Bool) : Type 0 where
+  pub flags : HoldsFlags mode src at valid at bits
+  pub some : none_set bits ≡ false
+  pub short : AreShort mode N src at bits
+  pub sixteens : N ≡ 16 * (N / 16)
+  pub most : N ≤ 64
+  pub few : valid ≤ N
+  pub inside : at + N ≤ length src
+  pub room : to + 2 * valid + 16 ≤ size

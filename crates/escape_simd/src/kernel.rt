@@ -2,20 +2,20 @@
 
 /// A body of a certain width and shape. All write the same bytes, on every processor.
 ///
-/// A name says how many bytes are looked at together, and in which steps. It says nothing of the
-/// instructions: each kernel is built for every target, and the build's `--cpu` decides what its steps
+/// A name says how many bytes are looked at together, and in which steps: each looks at four vectors at a time.
+/// It says nothing of the instructions: each kernel is built for every target, and the build's `--cpu` decides what its steps
 /// become. So a name does not ask for a processor that has the instructions of that name.
 #[derive(Debug, Clone, Copy, PartialEq, Eq)]
 pub enum Kernel {
-    /// 16 lanes in an array, one vector at a time.
+    /// 16 lanes in an array.
     V128,
-    /// 16 lanes, four vectors at a time.
+    /// 16 lanes.
     Sse2,
-    /// 16 lanes, four vectors at a time, with four bits a lane in its bit mask.
+    /// 16 lanes, with four bits a lane in its bit mask.
     Neon,
-    /// 32 lanes, four vectors at a time.
+    /// 32 lanes.
     Avx2,
-    /// 64 lanes, two vectors at a time.
+    /// 64 lanes.
     Avx512,
 }
 

@@ -12,18 +12,23 @@ ghost use Rattle.escape_simd.specs.Laws.{JoinsTexts, IsOfOneText, HasOutputLengt
 
 mod bytes;
 mod front;
+mod in_place;
 mod inner;
-mod moving;
-mod pieces;
 mod push;
 
 use crate::simd::HTML_MODE;
 use crate::simd::avx2::Simd256u;
 use crate::{html, json};
 use bytes::append_bytes;
-pub use inner::{escapes_at_most, stands_for_itself, write_inner};
-pub use pieces::PIECE;
+pub use inner::{stands_for_itself, write_inner};
+pub use push::PIECE;
+use push::push_quote;
 use std::alloc::{AllocError, Allocator};
+
+/// The vector by which texts are appended, and how many bytes it has.
+type V = Simd256u;
+
+const N: usize = 32;
 
 /// Why a text was not escaped.
 #[derive(Debug, Clone, Copy, PartialEq, Eq)]
@@ -59,25 +64,13 @@ pub fn scratch_bound<const MODE: u8>(len: usize) -> Option<usize>
         .checked_add(json::CAPACITY_SLACK)
 }
 
-/// Appends a quotation mark in JSON, also in script mode, and nothing in HTML.
-fn push_quote<const MODE: u8, A: Allocator>(dst: &mut Vec<u8, A>)
-    requires { vec_len dst.old < vec_capacity dst.old }
-    ensures items { dst.new.items ≡ dst.old.items ++ quote_of (mode_numbered MODE) }
-    ensures capacity { vec_capacity dst.old ≤ vec_capacity dst.new }
-{
-    if MODE != HTML_MODE {
-        dst.push_reserved(b'"');
-    }
-}
-
 /// Appends the output for the text to a vector that has room for it.
 fn append_output<const MODE: u8, A: Allocator>(value: &str, dst: &mut Vec<u8, A>)
     requires { vec_len dst.old + bound (mode_numbered MODE) (length value.now) ≤ vec_capacity dst.old }
     ensures { dst.new.items ≡ dst.old.items ++ plain (mode_numbered MODE) value.now }
 {
     push_quote::<MODE, A>(dst);
-    append_bytes::<Simd256u, A, MODE, 32, 4, false>(value, dst);
-    push_quote::<MODE, A>(dst);
+    append_bytes::<MODE, A>(value.as_bytes(), dst);
 }
 
 /// Appends the output for the text to `dst`, whatever bytes `dst` holds.

@@ -3,9 +3,7 @@ ghost use Rattle.std.specs.Prelude.{◌≡◌, ◌+◌, ◌<◌, ◌≤◌, ◌�
 ghost use Rattle.escape_simd.specs.Modes.{mode_numbered};
 ghost use Rattle.escape_simd.specs.Output.{plain, inner, bound};
 
-use crate::piecewise::{
-    DENSE_ROOM, FEW_ROOM, Pieces, ROOM, SHORT_ROOM, Way, escape_short, quote, way_of,
-};
+use crate::piecewise::{Pieces, ROOM, SHORT, SHORT_ROOM, escape_short, is_itself, quote};
 use escape_simd::output::{Refusal, scratch_bound};
 use std::alloc::Allocator;
 
@@ -41,21 +39,21 @@ fn push_text<A: Allocator>(text: &str, dst: &mut String<A>)
     };
 }
 
-/// Appends the output for the text to a string that has room for it. A text that stands for itself takes
-/// no array.
+/// Appends the output for the text to a string that has room for it. Arrays are those of the adapters.
 fn append_output<const MODE: u8, A: Allocator>(value: &str, dst: &mut String<A>)
     requires { string_len dst.old + bound (mode_numbered MODE) (length value.now)
         ≤ string_capacity dst.old }
     ensures { string_bytes dst.new
         ≡ string_bytes dst.old ++ plain (mode_numbered MODE) value.now }
 {
-    match way_of::<MODE>(value) {
-        Way::Itself => append_itself::<MODE, A>(value, dst),
-        Way::Few => append_short::<MODE, FEW_ROOM, A>(value, dst),
-        Way::Short => append_short::<MODE, SHORT_ROOM, A>(value, dst),
-        Way::Dense => append_short::<MODE, DENSE_ROOM, A>(value, dst),
-        Way::Pieces => append_pieces::<MODE, A>(value, dst),
+    if value.len() <= SHORT {
+        let mut room = [0; SHORT_ROOM];
+        return push_text(escape_short::<MODE>(value, &mut room), dst);
     }
+    if is_itself::<MODE>(value) {
+        return append_itself::<MODE, A>(value, dst);
+    }
+    append_pieces::<MODE, A>(value, dst);
 }
 
 /// The same for a text that stands for itself.
@@ -71,20 +69,8 @@ fn append_itself<const MODE: u8, A: Allocator>(value: &str, dst: &mut String<A>)
     push_text(quote::<MODE>(), dst);
 }
 
-/// The same made at once in an array of `N` bytes.
-fn append_short<const MODE: u8, const N: usize, A: Allocator>(value: &str, dst: &mut String<A>)
-    requires short { length (inner (mode_numbered MODE) value.now) + 34 ≤ N }
-    requires small { N ≤ ROOM }
-    requires room { string_len dst.old + bound (mode_numbered MODE) (length value.now)
-        ≤ string_capacity dst.old }
-    ensures { string_bytes dst.new
-        ≡ string_bytes dst.old ++ plain (mode_numbered MODE) value.now }
-{
-    let mut room = [0; N];
-    push_text(escape_short::<MODE>(value, &mut room), dst);
-}
-
 /// The same piece by piece.
+#[inline(never)]
 fn append_pieces<const MODE: u8, A: Allocator>(value: &str, dst: &mut String<A>)
     requires { string_len dst.old + bound (mode_numbered MODE) (length value.now)
         ≤ string_capacity dst.old }

@@ -5,25 +5,24 @@ ghost use Rattle.escape_simd.specs.Modes.{mode_numbered};
 ghost use Rattle.escape_simd.specs.Output.{plain, inner};
 ghost use Rattle.escape_text.specs.Writers.{AppendsBeginning};
 
-use crate::piecewise::{
-    DENSE_ROOM, FEW_ROOM, Pieces, ROOM, SHORT_ROOM, Way, escape_short, quote, way_of,
-};
+use crate::piecewise::{Pieces, ROOM, SHORT, SHORT_ROOM, escape_short, is_itself, quote};
 use std::io::{ErrorKind, Result, Write};
 
-/// Writes the output for the text, and does not flush. A text that stands for itself takes no array.
+/// Writes the output for the text, and does not flush. Arrays are those of the adapters.
 pub(crate) fn write_output<const MODE: u8, W: Write>(value: &str, writer: &mut W) -> Result<()>
     ensures whole { OnOk result (Appends (W.contents writer.old) (W.contents writer.new)
         (plain (mode_numbered MODE) value.now)) }
     ensures beginning { OnErr result (AppendsBeginning (W.contents writer.old)
         (W.contents writer.new) (plain (mode_numbered MODE) value.now)) }
 {
-    match way_of::<MODE>(value) {
-        Way::Itself => write_itself::<MODE, W>(value, writer),
-        Way::Few => write_short::<MODE, FEW_ROOM, W>(value, writer),
-        Way::Short => write_short::<MODE, SHORT_ROOM, W>(value, writer),
-        Way::Dense => write_short::<MODE, DENSE_ROOM, W>(value, writer),
-        Way::Pieces => write_pieces::<MODE, W>(value, writer),
+    if value.len() <= SHORT {
+        let mut room = [0; SHORT_ROOM];
+        return write_whole(escape_short::<MODE>(value, &mut room).as_bytes(), writer);
     }
+    if is_itself::<MODE>(value) {
+        return write_itself::<MODE, W>(value, writer);
+    }
+    write_pieces::<MODE, W>(value, writer)
 }
 
 /// The same for a text that stands for itself.
@@ -39,20 +38,8 @@ fn write_itself<const MODE: u8, W: Write>(value: &str, writer: &mut W) -> Result
     write_whole(quote::<MODE>().as_bytes(), writer)
 }
 
-/// The same made at once in an array of `N` bytes.
-fn write_short<const MODE: u8, const N: usize, W: Write>(value: &str, writer: &mut W) -> Result<()>
-    requires short { length (inner (mode_numbered MODE) value.now) + 34 ≤ N }
-    requires small { N ≤ ROOM }
-    ensures whole { OnOk result (Appends (W.contents writer.old) (W.contents writer.new)
-        (plain (mode_numbered MODE) value.now)) }
-    ensures beginning { OnErr result (AppendsBeginning (W.contents writer.old)
-        (W.contents writer.new) (plain (mode_numbered MODE) value.now)) }
-{
-    let mut room = [0; N];
-    write_whole(escape_short::<MODE>(value, &mut room).as_bytes(), writer)
-}
-
 /// The same piece by piece.
+#[inline(never)]
 fn write_pieces<const MODE: u8, W: Write>(value: &str, writer: &mut W) -> Result<()>
     ensures whole { OnOk result (Appends (W.contents writer.old) (W.contents writer.new)
         (plain (mode_numbered MODE) value.now)) }

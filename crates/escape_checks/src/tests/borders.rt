@@ -1,15 +1,13 @@
 //! Every border: of a vector, a chunk, the rest and the target.
 
 use crate::plain::plain;
-use crate::routes::{KERNELS, MODES, WAYS, format, lanes, room};
+use crate::routes::{KERNELS, MODES, WAYS, format, lanes};
 use crate::tests::texts::{LENGTHS, WIDTHS, letters_and_quotes, repeated};
+use crate::tests::whole_targets::{UNTOUCHED, is_right_by};
 use escape_simd::Kernel;
 use escape_stream::Mode;
 use std::process::Abort;
 use std::test::Fail;
-
-/// What a target holds before.
-const UNTOUCHED: u8 = 0xee;
 
 /// Each kernel writes what stands for the text byte by byte, in each mode.
 fn is_right(rt: &(impl Abort + AllocGlobal), text: &str) -> Result<(), Fail> {
@@ -25,45 +23,6 @@ fn is_right_in(rt: &(impl Abort + AllocGlobal), mode: Mode, text: &str) -> Resul
     for kernel in KERNELS {
         for more in [0, 100] {
             is_right_by(rt, kernel, mode, text, more, &wanted)?;
-        }
-    }
-    Ok(())
-}
-
-/// So it does by one kernel. It writes nothing from the bound on, nor from a vector past the last byte
-/// on, and the three ways to it leave the same whole target.
-fn is_right_by(
-    rt: &(impl Abort + AllocGlobal),
-    kernel: Kernel,
-    mode: Mode,
-    text: &str,
-    more: usize,
-    wanted: &[u8],
-) -> Result<(), Fail> {
-    let bound = room(mode, text)?;
-    let len = bound.saturating_add(more);
-    let mut first = Vec::new(rt.alloc());
-    for way in WAYS {
-        let mut target = vec![in rt.alloc(); UNTOUCHED; len]?;
-        let count = format(way, kernel, mode, text, &mut target);
-        assert_eq!(rt;
-            &target[..count],
-            wanted,
-            "{way:?} {kernel:?} {mode:?} {text}"
-        );
-        let end = bound.min(count.saturating_add(lanes(kernel)));
-        assert!(rt;
-            target[end..].iter().all(|byte| *byte == UNTOUCHED),
-            "{way:?} {kernel:?} {mode:?} {text}"
-        );
-        if first.is_empty() {
-            first = target;
-        } else {
-            assert_eq!(rt;
-                target.as_slice(),
-                first.as_slice(),
-                "{way:?} {kernel:?} {mode:?} {text}"
-            );
         }
     }
     Ok(())
@@ -149,8 +108,7 @@ fn byte_loop_behind_kernel(rt: HostRuntime) {
     }
 }
 
-// A vector of whose bytes more than a sixth need an escape is written byte by byte: so texts with one more,
-// as many and one fewer, and with what begins with e2 among them and across the borders.
+// Escapes in each share of a vector's bytes, with what begins with e2 among them and across the borders.
 #[test]
 fn many_escapes_in_each_width(rt: HostRuntime) -> Result<(), Fail> {
     let parts = [
@@ -174,8 +132,8 @@ fn many_escapes_in_each_width(rt: HostRuntime) -> Result<(), Fail> {
     Ok(())
 }
 
-// A byte that is written for itself among many escapes has zeros after it, which reach past few letters that
-// end the text: all calls leave the same bytes there.
+// A block of many escapes is written with what lies behind it, which reaches past few letters that end the
+// text: all calls leave the same bytes there.
 #[test]
 fn letters_after_many_escapes(rt: HostRuntime) -> Result<(), Fail> {
     for width in WIDTHS {
@@ -190,8 +148,8 @@ fn letters_after_many_escapes(rt: HostRuntime) -> Result<(), Fail> {
     Ok(())
 }
 
-// Many escapes are written sixteen at a time where a separator may begin with none of these: so one at each
-// place of such a text, and a character that begins as it does.
+// Many escapes are written a block at a time where no separator may begin in it: so one at each place of such
+// a text, and a character that begins as it does.
 #[test]
 fn a_separator_at_each_place_of_many_escapes(rt: HostRuntime) -> Result<(), Fail> {
     for part in ["\u{2028}", "\u{2026}"] {

@@ -102,9 +102,10 @@ fn calls_on_texts_as_long_as_pieces(rt: HostRuntime) -> Result<(), Fail> {
     Ok(())
 }
 
-/// Where a piece, or a front that is asked whether it stands for itself, can end: a front is one piece of
-/// the calls that append, and comes after a piece that was escaped.
-const ENDS: [usize; 5] = [
+/// Where a short text, a piece, or a front that is asked whether it stands for itself, can end: a front comes
+/// after a piece that was escaped.
+const ENDS: [usize; 6] = [
+    80,
     escape_text::PIECE,
     2 * escape_text::PIECE,
     escape_text::FRONT,
@@ -158,20 +159,21 @@ fn runs_on_texts_as_long_as_pieces(rt: HostRuntime) -> Result<(), Fail> {
     Ok(())
 }
 
-/// How many bytes the calls that append ask at once: four vectors, eight, and these after each other.
-const CHUNKS: [usize; 4] = [128, 256, 384, 512];
+/// Where a clean front of the calls that append can end: after a vector, two, a chunk, these after each other,
+/// and so many chunks.
+const FRONTS: [usize; 6] = [32, 64, 128, 160, 256, 512];
 
 // The calls append clean chunks as they are, up to the first that has an escape.
 #[test]
 fn calls_after_clean_fronts(rt: HostRuntime) -> Result<(), Fail> {
     for across in ACROSS {
         for start in STARTS {
-            for chunk in CHUNKS {
+            for front in FRONTS {
                 for more in [0, 40, 300] {
                     let text = repeated(
                         rt.alloc(),
                         &[
-                            ((chunk - 7).saturating_add(start), "a"),
+                            ((front - 7).saturating_add(start), "a"),
                             (1, across),
                             (more, "b"),
                             (1, "\""),

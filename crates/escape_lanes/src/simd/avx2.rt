@@ -12,8 +12,6 @@ ghost use Rattle.escape_lanes.specs.Replacement.{needs_escape};
 
 mod script;
 
-use crate::simd::down::{self, MoveDown};
-use crate::simd::ends::{self, LoadEnds};
 use crate::simd::flags::Flags;
 use crate::simd::lanes;
 use crate::simd::last::{self, LoadLast};
@@ -118,11 +116,13 @@ pub struct Flags256 {
 }
 
 impl Flags for Flags256 {
-    type BitMask = u32;
+    ghost LANES = { 32 };
 
     ghost truths = { λ f. flagged_lanes f.lanes };
 
     ghost width = { λ f. length-map f.lanes (λ b. nat_le 0x80 b) ∙ f.are_bytes.full };
+
+    ghost few = { lit≤ tt };
 
     #[inline(always)]
     fn join(&self, other: &Flags256) -> Flags256 {
@@ -137,8 +137,8 @@ impl Flags for Flags256 {
     }
 
     #[inline(always)]
-    fn bitmask(&self) -> u32 {
-        lanes::flag_bits(&self.lanes) as u32
+    fn bits(&self) -> u64 {
+        lanes::flag_bits(&self.lanes)
     }
 }
 
@@ -197,29 +197,11 @@ impl Simd for Simd256u {
     }
 }
 
-impl LoadEnds for Simd256u {
-    #[inline(always)]
-    fn load_ends(src: &[u8]) -> Self {
-        Simd256u {
-            lanes: ends::ends_32(src),
-        }
-    }
-}
-
 impl LoadLast for Simd256u {
     #[inline(always)]
     fn load_last(src: &[u8], count: usize) -> Self {
         Simd256u {
             lanes: last::last_32(src, count),
-        }
-    }
-}
-
-impl MoveDown for Simd256u {
-    #[inline(always)]
-    fn move_down(&self, count: usize) -> Self {
-        Simd256u {
-            lanes: down::down_32(&self.lanes, count),
         }
     }
 }
@@ -266,5 +248,5 @@ pub fn escaped_mask<const HTML: bool>(v: &Simd256u, ticks: &mut Ticks) -> u32
     ensures lanes { ⟦<u32 as BitMask>⟧.bits result ≡ map (needs_escape (mode_of HTML)) (⟦<Simd256u as Simd>⟧.lanes v.now) }
     ensures tick { ticks.new ≡ ticks.old + 1 }
 {
-    escaped_flags::<HTML>(v, ticks).bitmask()
+    lanes::flag_bits(&escaped_flags::<HTML>(v, ticks).lanes) as u32
 }

@@ -11,8 +11,6 @@ ghost use Rattle.escape_lanes.specs.Replacement.{needs_escape};
 
 mod script;
 
-use crate::simd::down::{self, MoveDown};
-use crate::simd::ends::{self, LoadEnds};
 use crate::simd::flags::Flags;
 use crate::simd::lanes;
 use crate::simd::last::{self, LoadLast};
@@ -110,11 +108,13 @@ pub struct Flags512 {
 }
 
 impl Flags for Flags512 {
-    type BitMask = u64;
+    ghost LANES = { 64 };
 
     ghost truths = { λ f. bits_of 64 f.flagged };
 
     ghost width = { λ f. length-bits_of 64 f.flagged };
+
+    ghost few = { lit≤ tt };
 
     #[inline(always)]
     fn join(&self, other: &Flags512) -> Flags512 {
@@ -129,7 +129,7 @@ impl Flags for Flags512 {
     }
 
     #[inline(always)]
-    fn bitmask(&self) -> u64 {
+    fn bits(&self) -> u64 {
         self.flagged
     }
 }
@@ -189,28 +189,12 @@ impl Simd for Simd512u {
     }
 }
 
-impl LoadEnds for Simd512u {
-    #[inline(always)]
-    fn load_ends(src: &[u8]) -> Self {
-        Simd512u {
-            lanes: ends::ends_64(src),
-        }
-    }
-}
-
 impl LoadLast for Simd512u {
     #[inline(always)]
     fn load_last(src: &[u8], count: usize) -> Self {
         Simd512u {
             lanes: last::last_64(src, count),
         }
-    }
-}
-
-impl MoveDown for Simd512u {
-    #[inline(always)]
-    fn move_down(&self, count: usize) -> Self {
-        down::down_in_memory::<Self, 64>(self, count)
     }
 }
 
@@ -258,5 +242,5 @@ pub fn escaped_mask<const HTML: bool>(v: &Simd512u, ticks: &mut Ticks) -> u64
     ensures lanes { ⟦<u64 as BitMask>⟧.bits result ≡ map (needs_escape (mode_of HTML)) (⟦<Simd512u as Simd>⟧.lanes v.now) }
     ensures tick { ticks.new ≡ ticks.old + 1 }
 {
-    escaped_flags::<HTML>(v, ticks).bitmask()
+    escaped_flags::<HTML>(v, ticks).bits()
 }

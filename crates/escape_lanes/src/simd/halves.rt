@@ -1,8 +1,10 @@
 //! Vectors of two halves.
 ghost use Rattle.std.specs.Prelude.{◌≡◌, ◌++◌, length};
-ghost use Rattle.escape_lanes.specs.Lanes.{AreBytes};
 
 use std::simd::prelude::*;
+
+// All lanes of two vectors of 4.
+const BOTH_4: [usize; 8] = [0, 1, 2, 3, 4, 5, 6, 7];
 
 // All lanes of two vectors of 8.
 const BOTH_8: [usize; 16] = [0, 1, 2, 3, 4, 5, 6, 7, 8, 9, 10, 11, 12, 13, 14, 15];
@@ -19,6 +21,16 @@ const BOTH_32: [usize; 64] = [
     26, 27, 28, 29, 30, 31, 32, 33, 34, 35, 36, 37, 38, 39, 40, 41, 42, 43, 44, 45, 46, 47, 48, 49,
     50, 51, 52, 53, 54, 55, 56, 57, 58, 59, 60, 61, 62, 63,
 ];
+
+/// Two vectors of 4 lanes as one.
+#[inline(always)]
+pub(crate) fn both_4(low: u8x4, high: u8x4) -> u8x8
+    requires low { length low ≡ 4 }
+    requires high { length high ≡ 4 }
+    ensures { result ≡ low ++ high }
+{
+    low.shuffle(high, BOTH_4)
+}
 
 /// Two vectors of 8 lanes as one.
 #[inline(always)]
@@ -48,14 +60,4 @@ pub(crate) fn both_32(low: u8x32, high: u8x32) -> u8x64
     ensures { result ≡ low ++ high }
 {
     low.shuffle(high, BOTH_32)
-}
-
-/// The first 16 lanes, and the others.
-#[inline(always)]
-pub(crate) fn halves(v: &u8x32) -> (u8x16, u8x16)
-    requires { AreBytes 32 v.now }
-    ensures bytes { AreBytes 16 result.0 × AreBytes 16 result.1 }
-    ensures both { v.now ≡ result.0 ++ result.1 }
-{
-    (v.extract::<0, 16>(), v.extract::<16, 16>())
 }

@@ -7,7 +7,7 @@ ghost use Rattle.std.specs.Simd.Lanes.{number_l};
 ghost use Rattle.escape_lanes.specs.Lanes.{AreBytes};
 
 use crate::simd::down::down_16;
-use crate::simd::halves::{both_16, both_32};
+use crate::simd::halves::{both_4, both_8, both_16, both_32};
 use crate::simd::lanes;
 use crate::simd::traits::Simd;
 use std::simd::prelude::*;
@@ -87,7 +87,7 @@ fn past_eight(src: &[u8], count: usize) -> u64
     (eight(src, src.len() - 8) >> (8 * (15 - count))) >> 8
 }
 
-/// The last `count` bytes as two numbers of eight.
+/// The last `count` bytes as two numbers of eight, for a vector of plain words.
 #[inline(always)]
 pub(crate) fn words(src: &[u8], count: usize) -> [u64; 2]
     requires few { count < 16 }
@@ -103,14 +103,61 @@ pub(crate) fn words(src: &[u8], count: usize) -> [u64; 2]
     }
 }
 
-/// The last `count` bytes of a text that may be short, made of words.
+// For each length of 4 to 15, where its bytes lie in four words of four bytes that overlap, and zeros after them.
+#[rattlefmt::skip]
+static GATHERED: [[u8; 16]; 16] = [
+    [128; 16],
+    [128; 16],
+    [128; 16],
+    [128; 16],
+    [12, 13, 14, 15, 128, 128, 128, 128, 128, 128, 128, 128, 128, 128, 128, 128],
+    [0, 12, 13, 14, 15, 128, 128, 128, 128, 128, 128, 128, 128, 128, 128, 128],
+    [0, 1, 12, 13, 14, 15, 128, 128, 128, 128, 128, 128, 128, 128, 128, 128],
+    [0, 1, 2, 12, 13, 14, 15, 128, 128, 128, 128, 128, 128, 128, 128, 128],
+    [0, 1, 2, 3, 12, 13, 14, 15, 128, 128, 128, 128, 128, 128, 128, 128],
+    [0, 1, 2, 3, 4, 12, 13, 14, 15, 128, 128, 128, 128, 128, 128, 128],
+    [0, 1, 2, 3, 4, 5, 12, 13, 14, 15, 128, 128, 128, 128, 128, 128],
+    [0, 1, 2, 3, 4, 5, 6, 12, 13, 14, 15, 128, 128, 128, 128, 128],
+    [0, 1, 2, 3, 4, 5, 6, 7, 12, 13, 14, 15, 128, 128, 128, 128],
+    [0, 1, 2, 3, 4, 5, 6, 7, 8, 12, 13, 14, 15, 128, 128, 128],
+    [0, 1, 2, 3, 4, 5, 6, 7, 8, 9, 12, 13, 14, 15, 128, 128],
+    [0, 1, 2, 3, 4, 5, 6, 7, 8, 9, 10, 12, 13, 14, 15, 128],
+];
+
+/// The four bytes from `at` on.
+#[inline(always)]
+fn four_lanes(src: &[u8], at: usize) -> u8x4
+    requires { at + 4 ≤ length src.now }
+    ensures { result ≡ take 4 (drop at src.now) }
+{
+    lanes::load(&src[at..])
+}
+
+/// A text of 4 to 15 bytes: four words that overlap, put in place by one look-up, so that of its length
+/// nothing more is asked.
+#[inline(always)]
+fn gathered(src: &[u8]) -> u8x16
+    requires several { 4 ≤ length src.now }
+    requires few { length src.now < 16 }
+    ensures { result ≡ src.now ++ replicate (16 - length src.now) 0 }
+{
+    let last = src.len() - 4;
+    let low = both_4(four_lanes(src, 0), four_lanes(src, last.min(4)));
+    let high = both_4(four_lanes(src, last.min(8)), four_lanes(src, last));
+    both_8(low, high).swizzle_dyn(u8x16::from_array(GATHERED[src.len()]))
+}
+
+/// The last `count` bytes of a text that may be short.
 #[inline(always)]
 fn joined(src: &[u8], count: usize) -> u8x16
     requires few { count < 16 }
     requires inside { count ≤ length src.now }
     ensures { result ≡ drop (length src.now - count) src.now ++ replicate (16 - count) 0 }
 {
-    u64x2::from_array(words(src, count)).to_le_bytes()
+    if 4 <= count {
+        return gathered(&src[src.len() - count..]);
+    }
+    u64x2::from_array([up_to_three(src, count), 0]).to_le_bytes()
 }
 
 /// The last `count` bytes of a text of 16 bytes or more: its last 16, moved down by a look-up.

@@ -1,6 +1,6 @@
 //! 16 bytes in a vector of `std::simd`, with four bits a lane in the bit mask. HTML is classified
 //! by nibble tables.
-ghost use Rattle.std.specs.Prelude.{◌≡◌, ◌+◌, ◌||◌, ◌&&◌, ℕ, map, nat_eq, nat_le, bit_and, refl};
+ghost use Rattle.std.specs.Prelude.{◌≡◌, ◌+◌, ◌||◌, ◌&&◌, ℕ, map, nat_eq, nat_le, refl};
 ghost use Rattle.std.specs.Simd.Lanes.{zip2};
 ghost use Rattle.std.proofs.Common.{◌∙◌, lit≤};
 ghost use Rattle.std.proofs.lemmas.List.{length-map};
@@ -13,8 +13,6 @@ ghost use Rattle.escape_lanes.specs.Replacement.{needs_escape};
 mod script;
 
 use crate::simd::bits::NeonBits;
-use crate::simd::down::{self, MoveDown};
-use crate::simd::ends::{self, LoadEnds};
 use crate::simd::flags::Flags;
 use crate::simd::lanes;
 use crate::simd::last::{self, LoadLast};
@@ -112,11 +110,13 @@ pub struct Flags128 {
 }
 
 impl Flags for Flags128 {
-    type BitMask = NeonBits;
+    ghost LANES = { 16 };
 
     ghost truths = { λ f. flagged_lanes f.lanes };
 
     ghost width = { λ f. length-map f.lanes (λ b. nat_le 0x80 b) ∙ f.are_bytes.full };
+
+    ghost few = { lit≤ tt };
 
     #[inline(always)]
     fn join(&self, other: &Flags128) -> Flags128 {
@@ -131,8 +131,8 @@ impl Flags for Flags128 {
     }
 
     #[inline(always)]
-    fn bitmask(&self) -> NeonBits {
-        bits(&lanes::flag_mask(&self.lanes))
+    fn bits(&self) -> u64 {
+        lanes::flag_bits(&self.lanes)
     }
 }
 
@@ -191,15 +191,6 @@ impl Simd for Simd128u {
     }
 }
 
-impl LoadEnds for Simd128u {
-    #[inline(always)]
-    fn load_ends(src: &[u8]) -> Self {
-        Simd128u {
-            lanes: ends::ends_16(src),
-        }
-    }
-}
-
 impl LoadLast for Simd128u {
     #[inline(always)]
     fn load_last(src: &[u8], count: usize) -> Self {
@@ -209,21 +200,11 @@ impl LoadLast for Simd128u {
     }
 }
 
-impl MoveDown for Simd128u {
-    #[inline(always)]
-    fn move_down(&self, count: usize) -> Self {
-        Simd128u {
-            lanes: down::down_16(&self.lanes, count),
-        }
-    }
-}
-
-/// Four bits for each lane of a mask, the first lane's lowest, of which the top one alone is set.
+/// Four bits for each lane of a mask, the first lane's lowest.
 #[inline(always)]
 fn nibbles(mask: &u8x16) -> u64
     requires { AreWhole 255 16 mask.now }
-    ensures lanes { nibbles_of 16 result ≡ set_lanes 255 mask.now }
-    ensures tops { bit_and result 0x8888_8888_8888_8888 ≡ result }
+    ensures { nibbles_of 16 result ≡ set_lanes 255 mask.now }
 {
     // The middle byte of two neighbouring lanes has four bits of each.
     let pairs = u16x8::from_le_bytes(*mask) >> u16x8::splat(4);
@@ -237,7 +218,7 @@ fn bits(mask: &u8x16) -> NeonBits
     requires { AreWhole 255 16 mask.now }
     ensures { ⟦<NeonBits as BitMask>⟧.bits result ≡ set_lanes 255 mask.now }
 {
-    NeonBits::of_tops(nibbles(mask))
+    NeonBits::new(nibbles(mask))
 }
 
 /// What the table has for the low half of each lane.
@@ -302,5 +283,5 @@ pub fn escaped_mask<const HTML: bool>(v: &Simd128u, ticks: &mut Ticks) -> NeonBi
     ensures lanes { ⟦<NeonBits as BitMask>⟧.bits result ≡ map (needs_escape (mode_of HTML)) (⟦<Simd128u as Simd>⟧.lanes v.now) }
     ensures tick { ticks.new ≡ ticks.old + 1 }
 {
-    escaped_flags::<HTML>(v, ticks).bitmask()
+    bits(&lanes::flag_mask(&escaped_flags::<HTML>(v, ticks).lanes))
 }

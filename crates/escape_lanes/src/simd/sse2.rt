@@ -9,8 +9,6 @@ ghost use Rattle.escape_lanes.specs.Replacement.{needs_escape};
 
 mod script;
 
-use crate::simd::down::{self, MoveDown};
-use crate::simd::ends::{self, LoadEnds};
 use crate::simd::flags::Flags;
 use crate::simd::lanes;
 use crate::simd::last::{self, LoadLast};
@@ -106,11 +104,13 @@ pub struct Flags128 {
 }
 
 impl Flags for Flags128 {
-    type BitMask = u16;
+    ghost LANES = { 16 };
 
     ghost truths = { λ f. flagged_lanes f.lanes };
 
     ghost width = { λ f. length-map f.lanes (λ b. nat_le 0x80 b) ∙ f.are_bytes.full };
+
+    ghost few = { lit≤ tt };
 
     #[inline(always)]
     fn join(&self, other: &Flags128) -> Flags128 {
@@ -125,8 +125,8 @@ impl Flags for Flags128 {
     }
 
     #[inline(always)]
-    fn bitmask(&self) -> u16 {
-        lanes::flag_bits(&self.lanes) as u16
+    fn bits(&self) -> u64 {
+        lanes::flag_bits(&self.lanes)
     }
 }
 
@@ -185,29 +185,11 @@ impl Simd for Simd128u {
     }
 }
 
-impl LoadEnds for Simd128u {
-    #[inline(always)]
-    fn load_ends(src: &[u8]) -> Self {
-        Simd128u {
-            lanes: ends::ends_16(src),
-        }
-    }
-}
-
 impl LoadLast for Simd128u {
     #[inline(always)]
     fn load_last(src: &[u8], count: usize) -> Self {
         Simd128u {
             lanes: last::last_16(src, count),
-        }
-    }
-}
-
-impl MoveDown for Simd128u {
-    #[inline(always)]
-    fn move_down(&self, count: usize) -> Self {
-        Simd128u {
-            lanes: down::down_16(&self.lanes, count),
         }
     }
 }
@@ -254,5 +236,5 @@ pub fn escaped_mask<const HTML: bool>(v: &Simd128u, ticks: &mut Ticks) -> u16
     ensures lanes { ⟦<u16 as BitMask>⟧.bits result ≡ map (needs_escape (mode_of HTML)) (⟦<Simd128u as Simd>⟧.lanes v.now) }
     ensures tick { ticks.new ≡ ticks.old + 1 }
 {
-    escaped_flags::<HTML>(v, ticks).bitmask()
+    lanes::flag_bits(&escaped_flags::<HTML>(v, ticks).lanes) as u16
 }

@@ -1,18 +1,19 @@
 //! The bytes that a kernel writes to, and how often it did.
-ghost use Rattle.std.specs.Prelude.{◌≡◌, ℕ, ◌+◌, ◌<◌, ◌≤◌, length, slice_set, take, if◌then◌else◌};
+ghost use Rattle.std.specs.Prelude.{◌≡◌, ℕ, ◌+◌, ◌<◌, ◌≤◌, length, nat_eq, slice_set, if◌then◌else◌};
 ghost use Rattle.std.proofs.Math.Seq.{paste};
-ghost use Rattle.escape_lanes.specs.Written.{bytes_of, stored_of, escaped_of, quotes_of, IsOver, IsSameSlice};
+ghost use Rattle.escape_lanes.specs.Written.{bytes_of, stored_of, escaped_of, quotes_of, writes_of, IsOver, IsSameSlice, Writes};
 
-use crate::simd::front::{copy_first, copy_front, copy_vector};
+use crate::simd::front::copy_front;
 use crate::simd::ticks::Tally;
 pub use crate::simd::ticks::Ticks;
 use crate::simd::traits::Simd;
 
 /// A slice that a kernel with vectors of `N` bytes writes to, and nowhere else.
 ///
-/// A contract sees its bytes and three counts: the vectors stored, the escapes written and the
-/// quotes written. The counts take no bytes, so a target is as large as the reference that it
-/// holds. Each call changes its own range and its own count, and leaves the rest.
+/// A contract sees its bytes and four counts: the vectors stored, the escapes written, the quotes
+/// written, and the writes. The counts take no bytes, so a target is as large as the reference that
+/// it holds. Each call changes its own range and its own count, raises the writes by one, and leaves
+/// the rest.
 ///
 /// ```notrust
 /// let mut target = Target::<16>::new(dst);
@@ -25,6 +26,7 @@ pub struct Target<'a, const N: usize> {
     stored: Tally,
     escaped: Tally,
     quotes: Tally,
+    writes: Tally,
 }
 
 impl<'a, const N: usize> Target<'a, N> {
@@ -36,12 +38,14 @@ impl<'a, const N: usize> Target<'a, N> {
         ensures stored { stored_of result ≡ 0 }
         ensures escaped { escaped_of result ≡ 0 }
         ensures quotes { quotes_of result ≡ 0 }
+        ensures writes { writes_of result ≡ 0 }
     {
         Target {
             slice: dst,
             stored: Tally::new(),
             escaped: Tally::new(),
             quotes: Tally::new(),
+            writes: Tally::new(),
         }
     }
 
@@ -51,6 +55,17 @@ impl<'a, const N: usize> Target<'a, N> {
         ensures { result ≡ length (bytes_of self.now) }
     {
         self.slice.len()
+    }
+
+    /// Writes the bytes at `at`, at most 64. No other function writes to the slice.
+    #[inline(always)]
+    fn write(&mut self, at: usize, bytes: &[u8])
+        requires few { length bytes.now ≤ 64 }
+        requires room { at + length bytes.now ≤ length (bytes_of self.old) }
+        ensures { Writes 0 0 0 self.old self.new at bytes.now }
+    {
+        copy_front(&mut self.slice[at..at + bytes.len()], bytes);
+        self.writes.raise();
     }
 
     /// Writes the `N` lanes of `v` at `at`.
@@ -65,9 +80,11 @@ impl<'a, const N: usize> Target<'a, N> {
         ensures stored { stored_of self.new ≡ stored_of self.old + 1 }
         ensures escaped { escaped_of self.new ≡ escaped_of self.old }
         ensures quotes { quotes_of self.new ≡ quotes_of self.old }
+        ensures writes { writes_of self.new ≡ writes_of self.old + 1 }
     {
-        v.storeu(&mut self.slice[at..at + N]);
-        self.stored.raise();
+        let mut lanes = [0u8; N];
+        v.storeu(&mut lanes);
+        self.put(at, &lanes);
     }
 
     /// Writes exactly the first `k` lanes of `v` at `at`.
@@ -83,6 +100,7 @@ impl<'a, const N: usize> Target<'a, N> {
         ensures stored { stored_of self.new ≡ stored_of self.old + 1 }
         ensures escaped { escaped_of self.new ≡ escaped_of self.old }
         ensures quotes { quotes_of self.new ≡ quotes_of self.old }
+        ensures writes { writes_of self.new ≡ writes_of self.old + 1 }
     {
         let mut lanes = [0u8; N];
         v.storeu(&mut lanes);
@@ -91,18 +109,14 @@ impl<'a, const N: usize> Target<'a, N> {
 
     /// Writes the `N` lanes of a vector at `at`, as [`store`](Target::store) does.
     ///
-    /// The target has `N` bytes from `at` on.
+    /// A vector has at most 64 lanes, and the target has `N` bytes from `at` on.
     #[inline(always)]
     pub fn put(&mut self, at: usize, lanes: &[u8; N])
-        requires { at + N ≤ length (bytes_of self.old) }
-        ensures same_slice { IsSameSlice self.old self.new }
-        ensures bytes { bytes_of self.new ≡ paste (bytes_of self.old) at lanes.now N }
-        ensures stored { stored_of self.new ≡ stored_of self.old + 1 }
-        ensures escaped { escaped_of self.new ≡ escaped_of self.old }
-        ensures quotes { quotes_of self.new ≡ quotes_of self.old }
+        requires few { N ≤ 64 }
+        requires room { at + N ≤ length (bytes_of self.old) }
+        ensures { Writes 1 0 0 self.old self.new at lanes.now }
     {
-        copy_vector::<N>(&mut self.slice[at..at + N], lanes);
-        self.stored.raise();
+        self.put_front(at, lanes);
     }
 
     /// Writes the first lanes of a vector at `at`, and nothing past them.
@@ -113,35 +127,13 @@ impl<'a, const N: usize> Target<'a, N> {
         requires few { N ≤ 64 }
         requires count { length lanes.now ≤ N }
         requires room { at + length lanes.now ≤ length (bytes_of self.old) }
-        ensures same_slice { IsSameSlice self.old self.new }
-        ensures bytes { bytes_of self.new ≡ paste (bytes_of self.old) at lanes.now (length lanes.now) }
-        ensures stored { stored_of self.new ≡ stored_of self.old + 1 }
-        ensures escaped { escaped_of self.new ≡ escaped_of self.old }
-        ensures quotes { quotes_of self.new ≡ quotes_of self.old }
+        ensures { Writes 1 0 0 self.old self.new at lanes.now }
     {
-        copy_front::<N>(&mut self.slice[at..at + lanes.len()], lanes);
+        self.write(at, lanes);
         self.stored.raise();
     }
 
-    /// Writes exactly the first `k` lanes of a vector at `at`, in one store: the bytes behind them are stored as they are.
-    ///
-    /// There are at most 64 lanes, `k` of which are written, and the target has `N` bytes from `at` on.
-    #[inline(always)]
-    pub fn put_first(&mut self, at: usize, lanes: &[u8; N], k: usize)
-        requires few { N ≤ 64 }
-        requires count { k ≤ N }
-        requires room { at + N ≤ length (bytes_of self.old) }
-        ensures same_slice { IsSameSlice self.old self.new }
-        ensures bytes { bytes_of self.new ≡ paste (bytes_of self.old) at lanes.now k }
-        ensures stored { stored_of self.new ≡ stored_of self.old + 1 }
-        ensures escaped { escaped_of self.new ≡ escaped_of self.old }
-        ensures quotes { quotes_of self.new ≡ quotes_of self.old }
-    {
-        copy_first::<N>(&mut self.slice[at..at + N], lanes, k);
-        self.stored.raise();
-    }
-
-    /// Writes the eight bytes of an entry at `at`.
+    /// Writes the eight bytes of an entry at `at`: one escape.
     ///
     /// The target has eight bytes from `at` on.
     #[inline(always)]
@@ -152,28 +144,24 @@ impl<'a, const N: usize> Target<'a, N> {
         ensures stored { stored_of self.new ≡ stored_of self.old }
         ensures escaped { escaped_of self.new ≡ escaped_of self.old + 1 }
         ensures quotes { quotes_of self.new ≡ quotes_of self.old }
+        ensures writes { writes_of self.new ≡ writes_of self.old + 1 }
     {
-        self.put_word(at, entry, true);
+        self.write(at, entry);
+        self.escaped.raise();
     }
 
-    /// Writes the eight bytes of a word at `at`: those of an escape, or of a byte that stands for itself.
+    /// Writes a block of 16 bytes at `at`, in which so many escapes stand. A block with none counts
+    /// as a vector stored.
     ///
-    /// The target has eight bytes from `at` on.
+    /// The target has 16 bytes from `at` on.
     #[inline(always)]
-    pub fn put_word(&mut self, at: usize, word: &[u8; 8], escape: bool)
-        requires { at + 8 ≤ length (bytes_of self.old) }
-        ensures same_slice { IsSameSlice self.old self.new }
-        ensures bytes { bytes_of self.new ≡ paste (bytes_of self.old) at word.now 8 }
-        ensures stored { stored_of self.new ≡ stored_of self.old }
-        ensures escaped { escaped_of self.new ≡ escaped_of self.old + (if escape then 1 else 0) }
-        ensures quotes { quotes_of self.new ≡ quotes_of self.old }
+    pub fn put_block(&mut self, at: usize, block: &[u8; 16], escapes: usize)
+        requires { at + 16 ≤ length (bytes_of self.old) }
+        ensures { Writes (if nat_eq escapes 0 then 1 else 0) escapes 0 self.old self.new at block.now }
     {
-        // A copy from a local is one move of eight bytes: it can't overlap the target.
-        let bytes = *word;
-        self.slice[at..at + 8].copy_from_slice(&bytes);
-        if escape {
-            self.escaped.raise();
-        }
+        self.write(at, block);
+        self.stored.raise_by((escapes == 0) as usize);
+        self.escaped.raise_by(escapes);
     }
 
     /// Writes a quotation mark, 0x22, at `at`.
@@ -187,8 +175,9 @@ impl<'a, const N: usize> Target<'a, N> {
         ensures stored { stored_of self.new ≡ stored_of self.old }
         ensures escaped { escaped_of self.new ≡ escaped_of self.old }
         ensures quotes { quotes_of self.new ≡ quotes_of self.old + 1 }
+        ensures writes { writes_of self.new ≡ writes_of self.old + 1 }
     {
-        self.slice[at] = b'"';
+        self.write(at, b"\"");
         self.quotes.raise();
     }
 }

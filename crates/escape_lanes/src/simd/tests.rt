@@ -2,7 +2,7 @@ ghost use Rattle.std.specs.Prelude.{◌≡◌, ◌<◌, ◌≤◌, length};
 
 use crate::simd::bits::NeonBits;
 use crate::simd::target::{Target, Ticks};
-use crate::simd::{BitMask, Flags, LaneMask, Mask, Simd, avx2, avx512, neon, sse2, v128};
+use crate::simd::{BitMask, Flags, Mask, Simd, avx2, avx512, neon, sse2, v128};
 use crate::tables::{HTML_CANDIDATE_TAB, HTML_HI_NIBBLE_TAB, HTML_LO_NIBBLE_TAB};
 
 // The bytes that HTML escapes, others that share a half with one of them, and the ends.
@@ -135,19 +135,6 @@ fn html_candidates(rt: HostRuntime) {
     }
 }
 
-// The lanes that the mask sets: the lowest bit is the first.
-fn as_bits<M: LaneMask>(mask: &M) -> u64
-    requires { M.LEN ≤ 64 }
-{
-    let mut lanes = 0;
-    for lane in 0..M::LEN {
-        if mask.is_set(lane) {
-            lanes |= 1 << lane;
-        }
-    }
-    lanes
-}
-
 // The row again in each block of sixteen lanes.
 fn blocks_of(row: &[u8; 16]) -> [u8; 64] {
     let mut src = [0; 64];
@@ -163,50 +150,92 @@ fn classified_lanes(rt: HostRuntime) {
     for (row, [html, json, script]) in [(ROW, ROW_LANES), (OTHER_ROW, OTHER_ROW_LANES)] {
         let src = blocks_of(&row);
         let v = v128::Simd128u::loadu(&src);
-        assert_eq!(rt; as_bits(&v128::escaped_mask::<true>(&v, &mut ticks)), html);
-        assert_eq!(rt; as_bits(&v128::escaped_mask::<false>(&v, &mut ticks)), json);
-        assert_eq!(rt; as_bits(&v128::script_mask(&v, &mut ticks)), script);
+        assert_eq!(rt; v128::escaped_flags::<true>(&v, &mut ticks).bits(), html);
+        assert_eq!(rt; v128::escaped_flags::<false>(&v, &mut ticks).bits(), json);
+        assert_eq!(rt; v128::script_flags(&v, &mut ticks).bits(), script);
         let v = sse2::Simd128u::loadu(&src);
-        assert_eq!(rt; as_bits(&sse2::escaped_mask::<true>(&v, &mut ticks)), html);
-        assert_eq!(rt; as_bits(&sse2::escaped_mask::<false>(&v, &mut ticks)), json);
-        assert_eq!(rt; as_bits(&sse2::script_mask(&v, &mut ticks)), script);
+        assert_eq!(rt; sse2::escaped_flags::<true>(&v, &mut ticks).bits(), html);
+        assert_eq!(rt; sse2::escaped_flags::<false>(&v, &mut ticks).bits(), json);
+        assert_eq!(rt; sse2::script_flags(&v, &mut ticks).bits(), script);
         let v = neon::Simd128u::loadu(&src);
-        assert_eq!(rt; as_bits(&neon::escaped_mask::<true>(&v, &mut ticks)), html);
-        assert_eq!(rt; as_bits(&neon::escaped_mask::<false>(&v, &mut ticks)), json);
-        assert_eq!(rt; as_bits(&neon::script_mask(&v, &mut ticks)), script);
-        let of_vector = neon::escaped_mask_vec::<true>(&v, &mut ticks).bitmask();
-        assert_eq!(rt; as_bits(&of_vector), html);
-        let of_vector = neon::escaped_mask_vec::<false>(&v, &mut ticks).bitmask();
-        assert_eq!(rt; as_bits(&of_vector), json);
+        assert_eq!(rt; neon::escaped_flags::<true>(&v, &mut ticks).bits(), html);
+        assert_eq!(rt; neon::escaped_flags::<false>(&v, &mut ticks).bits(), json);
+        assert_eq!(rt; neon::script_flags(&v, &mut ticks).bits(), script);
         let twice = 0x0001_0001;
         let v = avx2::Simd256u::loadu(&src);
         assert_eq!(rt;
-            as_bits(&avx2::escaped_mask::<true>(&v, &mut ticks)),
+            avx2::escaped_flags::<true>(&v, &mut ticks).bits(),
             html.wrapping_mul(twice)
         );
         assert_eq!(rt;
-            as_bits(&avx2::escaped_mask::<false>(&v, &mut ticks)),
+            avx2::escaped_flags::<false>(&v, &mut ticks).bits(),
             json.wrapping_mul(twice)
         );
         assert_eq!(rt;
-            as_bits(&avx2::script_mask(&v, &mut ticks)),
+            avx2::script_flags(&v, &mut ticks).bits(),
             script.wrapping_mul(twice)
         );
         let four_times = 0x0001_0001_0001_0001;
         let v = avx512::Simd512u::loadu(&src);
         assert_eq!(rt;
-            as_bits(&avx512::escaped_mask::<true>(&v, &mut ticks)),
+            avx512::escaped_flags::<true>(&v, &mut ticks).bits(),
             html.wrapping_mul(four_times)
         );
         assert_eq!(rt;
-            as_bits(&avx512::escaped_mask::<false>(&v, &mut ticks)),
+            avx512::escaped_flags::<false>(&v, &mut ticks).bits(),
             json.wrapping_mul(four_times)
         );
         assert_eq!(rt;
-            as_bits(&avx512::script_mask(&v, &mut ticks)),
+            avx512::script_flags(&v, &mut ticks).bits(),
             script.wrapping_mul(four_times)
         );
     }
+}
+
+#[test]
+fn masks_of_lanes(rt: HostRuntime) {
+    let mut ticks = Ticks::new();
+    let [html, json, script] = OTHER_ROW_LANES;
+    let src = blocks_of(&OTHER_ROW);
+    let v = v128::Simd128u::loadu(&src);
+    assert_eq!(rt; v128::escaped_mask::<true>(&v, &mut ticks) as u64, html);
+    assert_eq!(rt; v128::escaped_mask::<false>(&v, &mut ticks) as u64, json);
+    assert_eq!(rt; v128::script_mask(&v, &mut ticks) as u64, script);
+    let v = sse2::Simd128u::loadu(&src);
+    assert_eq!(rt; sse2::escaped_mask::<true>(&v, &mut ticks) as u64, html);
+    assert_eq!(rt; sse2::escaped_mask::<false>(&v, &mut ticks) as u64, json);
+    assert_eq!(rt; sse2::script_mask(&v, &mut ticks) as u64, script);
+    let v = neon::Simd128u::loadu(&src);
+    assert_eq!(rt;
+        front_of(&neon::escaped_mask::<true>(&v, &mut ticks), 12),
+        (3, 3, false)
+    );
+    assert_eq!(rt;
+        front_of(&neon::escaped_mask::<false>(&v, &mut ticks), 13),
+        (2, 2, false)
+    );
+    assert_eq!(rt;
+        front_of(&neon::script_mask(&v, &mut ticks), 15),
+        (0, 0, false)
+    );
+    let of_vector = neon::escaped_mask_vec::<true>(&v, &mut ticks).bitmask();
+    assert_eq!(rt; front_of(&of_vector, 13), (3, 16, true));
+    let of_vector = neon::escaped_mask_vec::<false>(&v, &mut ticks).bitmask();
+    assert_eq!(rt; front_of(&of_vector, 14), (2, 16, true));
+    let v = avx2::Simd256u::loadu(&src);
+    assert_eq!(rt; avx2::escaped_mask::<true>(&v, &mut ticks), 0x0388_0388);
+    assert_eq!(rt; avx2::escaped_mask::<false>(&v, &mut ticks), 0x8a04_8a04);
+    assert_eq!(rt; avx2::script_mask(&v, &mut ticks), 0x8b8d_8b8d);
+    let v = avx512::Simd512u::loadu(&src);
+    assert_eq!(rt;
+        avx512::escaped_mask::<true>(&v, &mut ticks),
+        0x0388_0388_0388_0388
+    );
+    assert_eq!(rt;
+        avx512::escaped_mask::<false>(&v, &mut ticks),
+        0x8a04_8a04_8a04_8a04
+    );
+    assert_eq!(rt; avx512::script_mask(&v, &mut ticks), 0x8b8d_8b8d_8b8d_8b8d);
 }
 
 // The first lane that is set of all, and of all but the last `n`, and whether none of these is.
@@ -236,64 +265,10 @@ fn masks_that_are_cut(rt: HostRuntime) {
     );
 }
 
-// How often the mask's lanes are set before `at`, at it, and from it on.
-fn around<M: LaneMask>(mask: &M, at: usize) -> [usize; 3]
-    requires { at < M.LEN }
-{
-    let from = mask.clear_low_bits(at);
-    let here = if mask.is_set(at) { 1 } else { 0 };
-    [mask.first_offset(), here, from.count_set()]
-}
-
-#[test]
-fn masks_that_are_held(rt: HostRuntime) {
-    assert_eq!(rt; around(&0x8006_u16, 2), [1, 1, 2]);
-    assert_eq!(rt; around(&0x8006_u16, 3), [1, 0, 1]);
-    assert_eq!(rt; around(&0x8000_0006_u32, 2), [1, 1, 2]);
-    assert_eq!(rt; around(&0x8000_0006_u32, 31), [1, 1, 1]);
-    assert_eq!(rt; around(&0x8000_0000_0000_0006_u64, 63), [1, 1, 1]);
-    assert_eq!(rt; around(&0x8000_0000_0000_0006_u64, 0), [1, 0, 3]);
-    assert_eq!(rt; around(&NeonBits::new(0x8000_0000_0000_0310), 1), [1, 1, 3]);
-    assert_eq!(rt; around(&NeonBits::new(0x8000_0000_0000_0310), 3), [1, 0, 1]);
-    assert!(rt; !0xffff_u16.is_set(31));
-    assert!(rt; !0xffff_ffff_u32.is_set(63));
-    assert!(rt; !u64::MAX.is_set(127));
-    assert!(rt; !NeonBits::new(u64::MAX).is_set(31));
-}
-
-// The first lane that is set behind the first one, and how many are.
-fn behind_first<M: LaneMask>(mask: &M) -> [usize; 2] {
-    if mask.all_zero() {
-        return [0, 0];
-    }
-    let rest = mask.clear_first_set();
-    [rest.first_offset(), rest.count_set()]
-}
-
-#[test]
-fn masks_whose_first_lane_is_cleared(rt: HostRuntime) {
-    assert_eq!(rt; behind_first(&0x8006_u16), [2, 2]);
-    assert_eq!(rt; behind_first(&0x8000_u16), [16, 0]);
-    assert_eq!(rt; behind_first(&0x8000_0006_u32), [2, 2]);
-    assert_eq!(rt; behind_first(&0x8000_0000_u32), [32, 0]);
-    assert_eq!(rt; behind_first(&0x8000_0000_0000_0006_u64), [2, 2]);
-    assert_eq!(rt; behind_first(&0x8000_0000_0000_0000_u64), [64, 0]);
-    assert_eq!(rt; behind_first(&NeonBits::new(0x8000_0000_0000_0310)), [2, 2]);
-    assert_eq!(rt;
-        behind_first(&NeonBits::new(0xf000_0000_0000_0000)),
-        [16, 0]
-    );
-}
-
-// Whether none is flagged, and the first lane that is, in one vector and in both.
-fn joined<F: Flags>(one: &F, other: &F) -> [usize; 3] {
+// Whether none is flagged in both, and the lanes that are in one vector and in both.
+fn joined<F: Flags>(one: &F, other: &F) -> (bool, u64, u64) {
     let both = one.join(other);
-    let none = if both.none() { 1 } else { 0 };
-    [
-        none,
-        one.bitmask().first_offset(),
-        both.bitmask().first_offset(),
-    ]
+    (both.none(), one.bits(), both.bits())
 }
 
 #[test]
@@ -305,35 +280,35 @@ fn flags_that_are_joined(rt: HostRuntime) {
     other[4] = b'"';
     let (v, w) = (v128::Simd128u::loadu(&src), v128::Simd128u::loadu(&other));
     let one = v128::escaped_flags::<false>(&v, &mut ticks);
-    assert_eq!(rt; joined(&one, &one), [1, 16, 16]);
+    assert_eq!(rt; joined(&one, &one), (true, 0, 0));
     let one = v128::escaped_flags::<true>(&v, &mut ticks);
     let two = v128::escaped_flags::<true>(&w, &mut ticks);
-    assert_eq!(rt; joined(&one, &two), [0, 9, 4]);
+    assert_eq!(rt; joined(&one, &two), (false, 0x0200, 0x0210));
     let (v, w) = (sse2::Simd128u::loadu(&src), sse2::Simd128u::loadu(&other));
     let one = sse2::escaped_flags::<false>(&v, &mut ticks);
-    assert_eq!(rt; joined(&one, &one), [1, 16, 16]);
+    assert_eq!(rt; joined(&one, &one), (true, 0, 0));
     let one = sse2::escaped_flags::<true>(&v, &mut ticks);
     let two = sse2::escaped_flags::<true>(&w, &mut ticks);
-    assert_eq!(rt; joined(&one, &two), [0, 9, 4]);
+    assert_eq!(rt; joined(&one, &two), (false, 0x0200, 0x0210));
     let (v, w) = (neon::Simd128u::loadu(&src), neon::Simd128u::loadu(&other));
     let one = neon::escaped_flags::<false>(&v, &mut ticks);
-    assert_eq!(rt; joined(&one, &one), [1, 16, 16]);
+    assert_eq!(rt; joined(&one, &one), (true, 0, 0));
     let one = neon::escaped_flags::<true>(&v, &mut ticks);
     let two = neon::escaped_flags::<true>(&w, &mut ticks);
-    assert_eq!(rt; joined(&one, &two), [0, 9, 4]);
+    assert_eq!(rt; joined(&one, &two), (false, 0x0200, 0x0210));
     let (v, w) = (avx2::Simd256u::loadu(&src), avx2::Simd256u::loadu(&other));
     let one = avx2::escaped_flags::<false>(&v, &mut ticks);
-    assert_eq!(rt; joined(&one, &one), [1, 32, 32]);
+    assert_eq!(rt; joined(&one, &one), (true, 0, 0));
     let one = avx2::escaped_flags::<true>(&v, &mut ticks);
     let two = avx2::escaped_flags::<true>(&w, &mut ticks);
-    assert_eq!(rt; joined(&one, &two), [0, 9, 4]);
+    assert_eq!(rt; joined(&one, &two), (false, 0x0200, 0x0210));
     let (v, w) = (
         avx512::Simd512u::loadu(&src),
         avx512::Simd512u::loadu(&other),
     );
     let one = avx512::escaped_flags::<false>(&v, &mut ticks);
-    assert_eq!(rt; joined(&one, &one), [1, 64, 64]);
+    assert_eq!(rt; joined(&one, &one), (true, 0, 0));
     let one = avx512::escaped_flags::<true>(&v, &mut ticks);
     let two = avx512::escaped_flags::<true>(&w, &mut ticks);
-    assert_eq!(rt; joined(&one, &two), [0, 9, 4]);
+    assert_eq!(rt; joined(&one, &two), (false, 0x0200, 0x0210));
 }

@@ -38,6 +38,16 @@ impl Tally {
     {
         *self = Tally::one_more(self);
     }
+
+    /// Raises the count by `more`. The loop does nothing that runs, and is dropped.
+    #[inline(always)]
+    pub(crate) fn raise_by(&mut self, more: usize)
+        ensures { self.new.count ≡ self.old.count + more }
+    {
+        for _ in 0..more {
+            self.raise();
+        }
+    }
 }
 
 /// How often a classifier was called. A contract sees that number.

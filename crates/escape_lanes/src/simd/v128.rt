@@ -15,8 +15,6 @@ ghost use Rattle.escape_lanes.specs.Words.{lanes_of_word, lanes_of_words, words-
 
 mod script;
 
-use crate::simd::down::{self, MoveDown};
-use crate::simd::ends::LoadEnds;
 use crate::simd::flags::Flags;
 use crate::simd::last::{self, LoadLast};
 use crate::simd::target::Ticks;
@@ -120,6 +118,14 @@ fn flag_bits(flags: u64) -> u16
     ensures bits { bits_of 8 result ≡ flagged_lanes (lanes_of_word flags) }
 {
     ((flags & TOPS).wrapping_mul(0x0002_0408_1020_4081) >> 56) as u16
+}
+
+/// One bit for each lane of both words that is flagged, the first lane's lowest.
+#[inline(always)]
+fn lane_bits(flags: &Flags128) -> u16
+    ensures { bits_of 16 result ≡ flagged_lanes (lanes_of_words flags.now.low flags.now.high) }
+{
+    flag_bits(flags.low) | flag_bits(flags.high) << 8
 }
 
 /// What `f` makes of each lane of both.
@@ -234,11 +240,13 @@ impl Mask for Mask128 {
 }
 
 impl Flags for Flags128 {
-    type BitMask = u16;
+    ghost LANES = { 16 };
 
     ghost truths = { λ f. flagged_lanes (lanes_of_words f.low f.high) };
 
     ghost width = { λ f. length-map (lanes_of_words f.low f.high) (λ b. nat_le 0x80 b) ∙ (words-bytes f.low f.high).full };
+
+    ghost few = { lit≤ tt };
 
     #[inline(always)]
     fn join(&self, other: &Flags128) -> Flags128 {
@@ -254,8 +262,8 @@ impl Flags for Flags128 {
     }
 
     #[inline(always)]
-    fn bitmask(&self) -> u16 {
-        flag_bits(self.low) | flag_bits(self.high) << 8
+    fn bits(&self) -> u64 {
+        lane_bits(self) as u64
     }
 }
 
@@ -317,28 +325,11 @@ impl Simd for Simd128u {
     }
 }
 
-impl LoadEnds for Simd128u {
-    #[inline(always)]
-    fn load_ends(src: &[u8]) -> Self {
-        Simd128u {
-            low: word_at(src, 0),
-            high: word_at(src, src.len() - 8),
-        }
-    }
-}
-
 impl LoadLast for Simd128u {
     #[inline(always)]
     fn load_last(src: &[u8], count: usize) -> Self {
         let [low, high] = last::words(src, count);
         Simd128u { low, high }
-    }
-}
-
-impl MoveDown for Simd128u {
-    #[inline(always)]
-    fn move_down(&self, count: usize) -> Self {
-        down::down_in_memory::<Self, 16>(self, count)
     }
 }
 
@@ -411,5 +402,5 @@ pub fn escaped_mask<const HTML: bool>(v: &Simd128u, ticks: &mut Ticks) -> u16
     ensures lanes { ⟦<u16 as BitMask>⟧.bits result ≡ map (needs_escape (mode_of HTML)) (⟦<Simd128u as Simd>⟧.lanes v.now) }
     ensures tick { ticks.new ≡ ticks.old + 1 }
 {
-    escaped_flags::<HTML>(v, ticks).bitmask()
+    lane_bits(&escaped_flags::<HTML>(v, ticks))
 }

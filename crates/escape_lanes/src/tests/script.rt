@@ -1,8 +1,8 @@
 use crate::tables::{
     LINE_SEPARATOR, PARAGRAPH_SEPARATOR, SCRIPT_FLAGGED, SCRIPT_HI_NIBBLE_TAB,
-    SCRIPT_LO_NIBBLE_TAB, SCRIPT_TAB, script_entry, script_word,
+    SCRIPT_LO_NIBBLE_TAB, SCRIPT_TAB, script_entry,
 };
-use crate::tests::{expected_json_entry, expected_word, needs_script};
+use crate::tests::{expected_json_entry, needs_script};
 
 // The entry of a byte in a script literal: that of JSON, and four more.
 fn expected_script_entry(b: u8) -> (u8, [u8; 8]) {
@@ -23,7 +23,6 @@ fn script_tables(rt: HostRuntime) {
         let entry = expected_script_entry(b);
         assert!(rt; &SCRIPT_TAB[place] == &entry, "byte {b}");
         assert!(rt; script_entry(b) == &entry, "byte {b}");
-        assert!(rt; script_word(b) == &expected_word(b, entry), "byte {b}");
         assert_eq!(rt; SCRIPT_FLAGGED[place], needs_script(b) as u8, "byte {b}");
         assert_eq!(rt; entry.0 != 0, needs_script(b), "byte {b}");
         flagged = flagged.saturating_add(u32::from(SCRIPT_FLAGGED[place]));

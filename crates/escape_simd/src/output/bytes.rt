@@ -1,220 +1,93 @@
-//! Appending what stands for a text's bytes to a vector that has room for it.
+//! Appending what stands for a text's bytes, and the last quotation mark, to a vector that has room for it.
 //!
-//! Bytes none of which needs an escape are appended as they are, from the vectors that were asked. Others
-//! are escaped in place: so the vector is filled with zeros first, but only with as many as the output may
-//! take.
-ghost use Rattle.std.specs.Prelude.{◌≡◌, ◌+◌, ◌*◌, ◌<◌, ◌≤◌, ◌++◌, false, length, take, vec_len, vec_capacity};
-ghost use Rattle.std.specs.List.{count_by};
-ghost use Rattle.escape_lanes.specs.Replacement.{needs_escape};
+//! Each form ends with the mark: so the calls of those that follow are the last that is done.
+ghost use Rattle.std.specs.Prelude.{◌≡◌, ◌+◌, ◌*◌, ◌<◌, ◌≤◌, ◌++◌, length, vec_len, vec_capacity};
 ghost use Rattle.escape_simd.specs.Modes.{mode_numbered};
-ghost use Rattle.escape_simd.specs.Output.{inner};
-ghost use Rattle.escape_simd.specs.Stretch.{HoldsFlags, room_from};
+ghost use Rattle.escape_simd.specs.Output.{inner, quote_of};
 
-use crate::output::moving::Appends;
-use crate::output::pieces::append_many;
-use crate::output::push::{fill, push_four, push_front, push_two, push_vector};
-use crate::simd::{
-    Vector, escape_by_masks, escape_inner, load_masked, masks_of_two, most_of_four, most_of_fours,
-};
-use escape_lanes::simd::{BitMask, Flags, LaneMask};
+use crate::output::front::append_front;
+use crate::output::in_place::{append_flagged, append_in_place};
+use crate::output::push::{push_quote, push_vector};
+use crate::output::{N, V};
+use crate::simd::Vector;
+use escape_lanes::simd::target::Ticks;
+use escape_lanes::simd::{BitMask, Flags};
 use std::alloc::Allocator;
 
-/// Appends what stands for the bytes of a text, of which at most `most` need an escape.
-#[inline(never)]
-fn append_flagged<
-    V: Vector<N>,
-    A: Allocator,
-    const MODE: u8,
-    const N: usize,
-    const CHUNK: usize,
-    const EXACT: bool,
->(bytes: &[u8], most: usize, dst: &mut Vec<u8, A>)
-    requires most { count_by (needs_escape (mode_numbered MODE)) bytes.now ≤ most }
-    requires whole { most ≤ length bytes.now }
-    requires narrow { N ≤ 32 }
-    requires room { vec_len dst.old + 6 * length bytes.now + 32 ≤ vec_capacity dst.old }
-    ensures items { dst.new.items ≡ dst.old.items ++ inner (mode_numbered MODE) bytes.now }
-    ensures room { vec_len dst.new + 32 ≤ vec_capacity dst.new }
-{
-    let old = dst.len();
-    // A byte is written by six bytes at most.
-    fill(dst, old + bytes.len() + 5 * most + 32);
-    let end = escape_inner::<V, MODE, N, CHUNK, EXACT>(bytes, dst, old);
-    dst.truncate(end);
-}
-
-/// Appends what stands for the bytes of a text no shorter than a vector, of which at most `most` need an escape.
-/// Which of its first two vectors do, the masks tell.
-#[inline(never)]
-fn append_by_masks<
-    V: Vector<N>,
-    A: Allocator,
-    const MODE: u8,
-    const N: usize,
-    const CHUNK: usize,
-    const EXACT: bool,
->(
-    bytes: &[u8],
-    mask1: <V::Flags as Flags>::BitMask,
-    mask2: <V::Flags as Flags>::BitMask,
-    most: usize,
-    dst: &mut Vec<u8, A>,
-)
-    requires some { N ≤ length bytes.now }
-    requires flagged1 { HoldsFlags (mode_numbered MODE) bytes.now 0 N 0 (V.Flags.BitMask.bits mask1) }
-    requires flagged2 { 2 * N ≤ length bytes.now
-        → HoldsFlags (mode_numbered MODE) bytes.now N N N (V.Flags.BitMask.bits mask2) }
-    requires most { count_by (needs_escape (mode_numbered MODE)) bytes.now ≤ most }
-    requires narrow { N ≤ 32 }
-    requires room { vec_len dst.old + 6 * length bytes.now + 32 ≤ vec_capacity dst.old }
-    ensures items { dst.new.items ≡ dst.old.items ++ inner (mode_numbered MODE) bytes.now }
-    ensures room { vec_len dst.new + 32 ≤ vec_capacity dst.new }
-{
-    let most = most.min(bytes.len());
-    let old = dst.len();
-    // A byte is written by six bytes at most.
-    fill(dst, old + bytes.len() + 5 * most + 32);
-    let end = escape_by_masks::<V, MODE, N, CHUNK, EXACT>(bytes, mask1, mask2, dst, old);
-    dst.truncate(end);
-}
-
-/// Appends what stands for the bytes of a text shorter than four vectors, and no shorter than one: with
-/// no loop and no call where none needs an escape.
-#[inline(never)]
-fn append_few<
-    V: Vector<N>,
-    A: Allocator,
-    const MODE: u8,
-    const N: usize,
-    const CHUNK: usize,
-    const EXACT: bool,
->(bytes: &[u8], dst: &mut Vec<u8, A>)
-    requires some { N ≤ length bytes.now }
-    requires few { length bytes.now < 4 * N }
-    requires narrow { N ≤ 32 }
-    requires room { vec_len dst.old + 6 * length bytes.now + 32 ≤ vec_capacity dst.old }
-    ensures items { dst.new.items ≡ dst.old.items ++ inner (mode_numbered MODE) bytes.now }
-    ensures room { vec_len dst.new + 32 ≤ vec_capacity dst.new }
-{
-    let last = bytes.len() - N;
-    let second = N.min(last);
-    let third = last - second;
-    let most = most_of_four::<V, MODE, N>(bytes, 0, second, third, last);
-    if most != 0 {
-        // The flags that were asked above: where it is built, nothing is asked again.
-        let (mask1, mask2) = masks_of_two::<V, MODE, N>(bytes, second);
-        return append_by_masks::<V, A, MODE, N, CHUNK, EXACT>(bytes, mask1, mask2, most, dst);
-    }
-    // The last ones go over what those before them have of the same bytes.
-    let old = dst.len();
-    if bytes.len() < 2 * N {
-        push_vector::<V, A, N>(dst, old, bytes, 0);
-        return push_vector::<V, A, N>(dst, old + last, bytes, last);
-    }
-    push_two::<V, A, N>(dst, old, bytes, 0);
-    if third != 0 {
-        push_two::<V, A, N>(dst, old + third, bytes, third);
-    }
-}
-
-/// Appends what stands for the bytes of a text shorter than a vector: with no call where none needs an
+/// Appends what stands for the bytes of a text shorter than a vector: from a register where none needs an
 /// escape.
 #[inline(always)]
-fn append_last<
-    V: Vector<N>,
-    A: Allocator,
-    const MODE: u8,
-    const N: usize,
-    const CHUNK: usize,
-    const EXACT: bool,
->(bytes: &[u8], dst: &mut Vec<u8, A>)
-    requires few { length bytes.now < N }
-    requires narrow { N ≤ 32 }
-    requires room { vec_len dst.old + 6 * length bytes.now + 32 ≤ vec_capacity dst.old }
-    ensures items { dst.new.items ≡ dst.old.items ++ inner (mode_numbered MODE) bytes.now }
-    ensures room { vec_len dst.new + 32 ≤ vec_capacity dst.new }
+fn append_one<const MODE: u8, A: Allocator>(text: &[u8], dst: &mut Vec<u8, A>)
+    requires few { length text.now < N }
+    requires room { vec_len dst.old + 6 * length text.now + N ≤ vec_capacity dst.old }
+    ensures { dst.new.items ≡ dst.old.items
+        ++ (inner (mode_numbered MODE) text.now ++ quote_of (mode_numbered MODE)) }
 {
-    let (v, mask) = load_masked::<V, MODE, N>(bytes, bytes.len());
-    if !mask.all_zero() {
-        return append_flagged::<V, A, MODE, N, CHUNK, EXACT>(bytes, mask.count_set(), dst);
+    let count = text.len();
+    let v = V::load_last(text, count);
+    let mut ticks = Ticks::new();
+    let flags = v.flags(MODE, &mut ticks).bits().clear_high_bits(64 - count);
+    if !flags.all_zero() {
+        return append_flagged::<MODE, A>(text, flags, 0, dst);
     }
-    push_front::<V, A, N>(dst, &v, bytes.len());
+    let len = dst.len();
+    push_vector(dst, len, &v);
+    dst.truncate(len + count);
+    push_quote::<MODE, A>(dst);
 }
 
-/// Appends what stands for the bytes of a text shorter than four vectors.
+/// Appends what stands for the bytes of a text of one vector or more, and fewer than two: from registers where
+/// none needs an escape. The last vector goes over what the first has of the same bytes.
 #[inline(always)]
-pub(super) fn append_short<
-    V: Vector<N>,
-    A: Allocator,
-    const MODE: u8,
-    const N: usize,
-    const CHUNK: usize,
-    const EXACT: bool,
->(bytes: &[u8], dst: &mut Vec<u8, A>)
-    requires few { length bytes.now < 4 * N }
-    requires narrow { N ≤ 32 }
-    requires room { vec_len dst.old + 6 * length bytes.now + 32 ≤ vec_capacity dst.old }
-    ensures items { dst.new.items ≡ dst.old.items ++ inner (mode_numbered MODE) bytes.now }
-    ensures room { vec_len dst.new + 32 ≤ vec_capacity dst.new }
+fn append_two<const MODE: u8, A: Allocator>(text: &[u8], dst: &mut Vec<u8, A>)
+    requires some { (N ≤ length text.now) × (length text.now < 2 * N) }
+    requires room { vec_len dst.old + 6 * length text.now + N ≤ vec_capacity dst.old }
+    ensures { dst.new.items ≡ dst.old.items
+        ++ (inner (mode_numbered MODE) text.now ++ quote_of (mode_numbered MODE)) }
 {
-    if bytes.len() < N {
-        return append_last::<V, A, MODE, N, CHUNK, EXACT>(bytes, dst);
+    let last = text.len() - N;
+    let v1 = V::load(text, 0);
+    let v2 = V::load(text, last);
+    let mut ticks = Ticks::new();
+    let flags1 = v1.flags(MODE, &mut ticks);
+    let flags2 = v2.flags(MODE, &mut ticks);
+    if !flags1.join(&flags2).none() {
+        return append_flagged::<MODE, A>(text, flags1.bits(), flags2.bits(), dst);
     }
-    append_few::<V, A, MODE, N, CHUNK, EXACT>(bytes, dst);
+    let len = dst.len();
+    push_vector(dst, len, &v1);
+    push_vector(dst, len + last, &v2);
+    push_quote::<MODE, A>(dst);
 }
 
-/// Appends what stands for the bytes of a text of four vectors or more, and eight at most: with no loop where
-/// none needs an escape.
-#[inline(always)]
-fn append_eight<
-    V: Vector<N>,
-    A: Allocator,
-    const MODE: u8,
-    const N: usize,
-    const CHUNK: usize,
-    const EXACT: bool,
->(bytes: &[u8], dst: &mut Vec<u8, A>)
-    requires some { 4 * N ≤ length bytes.now }
-    requires few { length bytes.now ≤ 8 * N }
-    requires narrow { N ≤ 32 }
-    requires room { vec_len dst.old + 6 * length bytes.now + 32 ≤ vec_capacity dst.old }
-    ensures items { dst.new.items ≡ dst.old.items ++ inner (mode_numbered MODE) bytes.now }
-    ensures room { vec_len dst.new + 32 ≤ vec_capacity dst.new }
+/// Appends what stands for the bytes of a text of two vectors or more: its clean front as it is, and the rest in
+/// place.
+#[inline(never)]
+fn append_many<const MODE: u8, A: Allocator>(text: &[u8], dst: &mut Vec<u8, A>)
+    requires { vec_len dst.old + 6 * length text.now + N ≤ vec_capacity dst.old }
+    ensures { dst.new.items ≡ dst.old.items
+        ++ (inner (mode_numbered MODE) text.now ++ quote_of (mode_numbered MODE)) }
 {
-    let last = bytes.len() - 4 * N;
-    let most = most_of_fours::<V, MODE, N>(bytes, 0, last);
-    if most != 0 {
-        // No more bytes need an escape than there are.
-        let few = most.min(bytes.len());
-        return append_flagged::<V, A, MODE, N, CHUNK, EXACT>(bytes, few, dst);
+    let at = append_front::<MODE, A>(text, dst);
+    let rest = &text[at..];
+    if rest.len() < N {
+        return append_one::<MODE, A>(rest, dst);
     }
-    // The last four go over what the first four have of the same bytes.
-    let old = dst.len();
-    push_four::<V, A, N>(dst, bytes, 0);
-    dst.truncate(old + last);
-    push_four::<V, A, N>(dst, bytes, last);
+    append_in_place::<MODE, A>(rest, dst);
 }
 
 /// Appends what stands for the text's bytes.
-pub(crate) fn append_bytes<
-    V: Appends<N>,
-    A: Allocator,
-    const MODE: u8,
-    const N: usize,
-    const CHUNK: usize,
-    const EXACT: bool,
->(value: &str, dst: &mut Vec<u8, A>)
-    requires narrow { N ≤ 32 }
-    requires room { vec_len dst.old + 6 * length value.now + 32 ≤ vec_capacity dst.old }
-    ensures items { dst.new.items ≡ dst.old.items ++ inner (mode_numbered MODE) value.now }
-    ensures room { vec_len dst.new + 32 ≤ vec_capacity dst.new }
+#[inline(always)]
+pub(super) fn append_bytes<const MODE: u8, A: Allocator>(text: &[u8], dst: &mut Vec<u8, A>)
+    requires { vec_len dst.old + 6 * length text.now + N ≤ vec_capacity dst.old }
+    ensures { dst.new.items ≡ dst.old.items
+        ++ (inner (mode_numbered MODE) text.now ++ quote_of (mode_numbered MODE)) }
 {
-    let bytes = value.as_bytes();
-    if bytes.len() < 4 * N {
-        return append_short::<V, A, MODE, N, CHUNK, EXACT>(bytes, dst);
+    if text.len() < N {
+        return append_one::<MODE, A>(text, dst);
     }
-    if bytes.len() <= 8 * N {
-        return append_eight::<V, A, MODE, N, CHUNK, EXACT>(bytes, dst);
+    if text.len() < 2 * N {
+        return append_two::<MODE, A>(text, dst);
     }
-    append_many::<V, A, MODE, N, CHUNK, EXACT>(value, dst);
+    append_many::<MODE, A>(text, dst);
 }

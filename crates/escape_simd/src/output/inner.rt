@@ -2,47 +2,85 @@
 ghost use Rattle.std.specs.Prelude.{◌≡◌, ◌+◌, ◌*◌, ◌<◌, ◌≤◌, ◌++◌, true, false, length, take};
 ghost use Rattle.std.specs.List.{count_by};
 ghost use Rattle.escape_lanes.specs.Replacement.{needs_escape};
+ghost use Rattle.escape_simd.specs.Parts.{IsAnswer};
 ghost use Rattle.escape_simd.specs.Modes.{mode_numbered};
 ghost use Rattle.escape_simd.specs.Output.{inner};
 
-use crate::simd::avx2::Simd256u;
-use crate::simd::{count_or_more, escape_inner, is_clean};
+use crate::output::{N, V};
+use crate::simd::{Vector, escape_at, flags_at};
+use escape_lanes::simd::target::Ticks;
+use escape_lanes::simd::{BitMask, Flags};
 
 /// Writes what stands for the text, with no quotation marks, to `dst` from `at` on, and answers the place
 /// after it. The bytes before `at` stay.
 ///
-/// `dst` must have room from `at` on for what stands for the text and 32 bytes more. That is at most
-/// `n + 5 * k + 32` bytes for a text of `n` bytes of which [`escapes_at_most`] answers `k`, and
-/// `6 * n + 32` for any.
+/// `dst` must have room from `at` on for `6 * n + 32` bytes for a text of `n` bytes.
 #[inline(always)]
 pub fn write_inner<const MODE: u8>(value: &str, dst: &mut [u8], at: usize) -> usize
-    requires { at + length (inner (mode_numbered MODE) value.now) + 32 ≤ length dst.old }
+    requires { at + 6 * length value.now + 32 ≤ length dst.old }
     ensures end { result ≡ at + length (inner (mode_numbered MODE) value.now) }
     ensures written { take result dst.new
         ≡ take at dst.old ++ inner (mode_numbered MODE) value.now }
 {
-    escape_inner::<Simd256u, MODE, 32, 4, false>(value.as_bytes(), dst, at)
+    escape_at::<V, MODE, N>(value.as_bytes(), dst, at)
+}
+
+/// Whether no byte of four vectors of the text from `at` on needs an escape.
+#[inline(always)]
+pub(super) fn is_clean_chunk<const MODE: u8>(src: &[u8], at: usize) -> bool
+    requires { at + 4 * N ≤ length src.now }
+    ensures { IsAnswer (mode_numbered MODE) src.now at (at + 4 * N) result }
+{
+    let mut ticks = Ticks::new();
+    let flags1 = flags_at::<V, MODE, N>(src, at, &mut ticks);
+    let flags2 = flags_at::<V, MODE, N>(src, at + N, &mut ticks);
+    let flags3 = flags_at::<V, MODE, N>(src, at + 2 * N, &mut ticks);
+    let flags4 = flags_at::<V, MODE, N>(src, at + 3 * N, &mut ticks);
+    flags1.join(&flags2).join(&flags3.join(&flags4)).none()
+}
+
+/// Whether no byte of the vector of the text at `at` needs an escape.
+#[inline(always)]
+pub(super) fn is_clean_vector<const MODE: u8>(src: &[u8], at: usize) -> bool
+    requires { at + N ≤ length src.now }
+    ensures { IsAnswer (mode_numbered MODE) src.now at (at + N) result }
+{
+    let mut ticks = Ticks::new();
+    flags_at::<V, MODE, N>(src, at, &mut ticks).none()
+}
+
+/// Whether none of the text's bytes from `at` on, fewer than a vector has, needs an escape.
+#[inline(always)]
+fn is_clean_rest<const MODE: u8>(src: &[u8], at: usize) -> bool
+    requires { (at ≤ length src.now) × (length src.now < at + N) }
+    ensures { IsAnswer (mode_numbered MODE) src.now at (length src.now) result }
+{
+    let count = src.len() - at;
+    let mut ticks = Ticks::new();
+    let v = V::load_last(src, count);
+    let flags = v.flags(MODE, &mut ticks).bits();
+    flags.clear_high_bits(64 - count).all_zero()
 }
 
 /// Returns whether the text stands for itself: no byte of it needs an escape.
-#[inline(always)]
+#[inline(never)]
 pub fn stands_for_itself<const MODE: u8>(value: &str) -> bool
     ensures itself { result ≡ true → inner (mode_numbered MODE) value.now ≡ value.now }
     ensures flagged { result ≡ false → 0 < count_by (needs_escape (mode_numbered MODE)) value.now }
 {
-    is_clean::<Simd256u, MODE, 32>(value.as_bytes())
-}
-
-/// Returns at least as many as the bytes of the text that need an escape, and at most three times as
-/// many: so 0 exactly where none does.
-///
-/// What stands for a text of `n` bytes has at most `n + 5 * k` bytes where this answers `k`.
-#[inline(always)]
-pub fn escapes_at_most<const MODE: u8>(value: &str) -> usize
-    ensures all { count_by (needs_escape (mode_numbered MODE)) value.now ≤ result }
-    ensures most { result ≤ 3 * count_by (needs_escape (mode_numbered MODE)) value.now }
-    ensures itself { result ≡ 0 → inner (mode_numbered MODE) value.now ≡ value.now }
-    ensures len { length (inner (mode_numbered MODE) value.now) ≤ length value.now + 5 * result }
-{
-    count_or_more::<Simd256u, MODE, 32>(value.as_bytes())
+    let src = value.as_bytes();
+    let mut at = 0;
+    'chunks: while 4 * N <= src.len() - at {
+        if !is_clean_chunk::<MODE>(src, at) {
+            return false;
+        }
+        at += 4 * N;
+    }
+    'vectors: while N <= src.len() - at {
+        if !is_clean_vector::<MODE>(src, at) {
+            return false;
+        }
+        at += N;
+    }
+    is_clean_rest::<MODE>(src, at)
 }

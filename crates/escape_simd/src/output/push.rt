@@ -1,20 +1,21 @@
 //! Bytes at the end of a vector that has room for them.
-ghost use Rattle.std.specs.Prelude.{◌≡◌, ◌+◌, ◌*◌, ◌≤◌, ◌++◌, length, take, drop, vec_len, vec_capacity};
-ghost use Rattle.std.specs.List.{flat_map};
+ghost use Rattle.std.specs.Prelude.{◌≡◌, ◌+◌, ◌*◌, ◌<◌, ◌≤◌, ◌++◌, length, take, drop, vec_len, vec_capacity};
+ghost use Rattle.escape_simd.specs.Modes.{mode_numbered};
+ghost use Rattle.escape_simd.specs.Output.{quote_of};
 
-use crate::simd::Vector;
+use crate::output::{N, V};
+use crate::simd::{HTML_MODE, Vector};
 use std::alloc::Allocator;
 
-/// So many zeros at most are stores, and no call.
-const SHORT_FILL: usize = 160;
-
-/// Up to so many are stores too: a call's loop would end at another length for each text.
-const LONG_FILL: usize = 512;
+/// How many bytes of a vector the calls that append fill with zeros at a time, where it has room for them.
+///
+/// What may stand for a text of fewer bytes than two vectors have is no longer. So many are stores and no call.
+pub const PIECE: usize = 448;
 
 /// Appends the bytes to a vector that has room for them.
 ///
-/// That it has room is asked all the same: so the compiler leaves out the call that asks for more, and the
-/// vector's length can stay in a register.
+/// That it has room is asked all the same, and answered by `return`: so the compiler leaves out the call that
+/// asks for more, and the vector's length can stay in a register.
 #[inline(always)]
 pub(super) fn push_all<A: Allocator>(dst: &mut Vec<u8, A>, bytes: &[u8])
     requires { vec_len dst.old + length bytes.now ≤ vec_capacity dst.old }
@@ -29,138 +30,76 @@ pub(super) fn push_all<A: Allocator>(dst: &mut Vec<u8, A>, bytes: &[u8])
     };
 }
 
+/// Appends a quotation mark in JSON, also in script mode, and nothing in HTML.
+#[inline(always)]
+pub(super) fn push_quote<const MODE: u8, A: Allocator>(dst: &mut Vec<u8, A>)
+    requires { vec_len dst.old < vec_capacity dst.old }
+    ensures items { dst.new.items ≡ dst.old.items ++ quote_of (mode_numbered MODE) }
+    ensures capacity { vec_capacity dst.old ≤ vec_capacity dst.new }
+{
+    if MODE != HTML_MODE {
+        dst.push_reserved(b'"');
+    }
+}
+
 /// Makes the vector `len` bytes long or longer by zeros, where it is shorter. It has room for them.
+#[inline(always)]
 pub(super) fn fill<A: Allocator>(dst: &mut Vec<u8, A>, len: usize)
     requires { len ≤ vec_capacity dst.old }
     ensures front { take (vec_len dst.old) dst.new.items ≡ dst.old.items }
-    ensures longer { vec_len dst.old ≤ vec_len dst.new }
-    ensures filled { len ≤ vec_len dst.new }
+    ensures filled { (vec_len dst.old ≤ vec_len dst.new) × (len ≤ vec_len dst.new) }
     ensures capacity { vec_capacity dst.old ≤ vec_capacity dst.new }
 {
-    if len <= dst.len() {
-        return;
+    'zeros: while dst.len() < len && PIECE <= dst.capacity() - dst.len() {
+        push_all(dst, &[0; PIECE]);
     }
-    if len - dst.len() <= SHORT_FILL && SHORT_FILL <= dst.capacity() - dst.len() {
-        return push_all(dst, &[0; SHORT_FILL]);
+    if dst.len() < len {
+        let Ok(()) = dst.resize(len, 0) else {
+            unreachable!()
+        };
     }
-    if len - dst.len() <= LONG_FILL && LONG_FILL <= dst.capacity() - dst.len() {
-        return push_all(dst, &[0; LONG_FILL]);
-    }
-    let Ok(()) = dst.resize(len, 0) else {
-        unreachable!()
-    };
 }
 
-/// Appends the first `count` lanes of the vector.
+/// Cuts `dst` to `len` bytes, and appends the vector's lanes.
 #[inline(always)]
-pub(super) fn push_front<V: Vector<N>, A: Allocator, const N: usize>(
-    dst: &mut Vec<u8, A>,
-    v: &V,
-    count: usize,
-)
-    requires few { count ≤ N }
-    requires room { vec_len dst.old + N ≤ vec_capacity dst.old }
-    ensures items { dst.new.items ≡ dst.old.items ++ take count (V.lanes v.now) }
-    ensures capacity { vec_capacity dst.old ≤ vec_capacity dst.new }
-{
-    let end = dst.len() + count;
-    let mut lanes = [0u8; N];
-    v.put(&mut lanes);
-    push_all(dst, &lanes);
-    dst.truncate(end);
-}
-
-/// Cuts `dst` to `len` bytes, and appends the vector of the text at `at`.
-#[inline(always)]
-pub(super) fn push_vector<V: Vector<N>, A: Allocator, const N: usize>(
-    dst: &mut Vec<u8, A>,
-    len: usize,
-    src: &[u8],
-    at: usize,
-)
-    requires inside { at + N ≤ length src.now }
-    requires shorter { len ≤ vec_len dst.old }
-    requires room { len + N ≤ vec_capacity dst.old }
-    ensures items { dst.new.items ≡ take len dst.old.items ++ take N (drop at src.now) }
+pub(super) fn push_vector<A: Allocator>(dst: &mut Vec<u8, A>, len: usize, v: &V)
+    requires { (len ≤ vec_len dst.old) × (len + N ≤ vec_capacity dst.old) }
+    ensures items { dst.new.items ≡ take len dst.old.items ++ ⟦<V as Vector<32>>⟧.lanes v.now }
     ensures capacity { vec_capacity dst.old ≤ vec_capacity dst.new }
 {
     let mut lanes = [0u8; N];
-    V::load(src, at).put(&mut lanes);
+    v.put(&mut lanes);
     dst.truncate(len);
     push_all(dst, &lanes);
 }
 
-/// Two vectors of the text from `at` on, one after the other.
+/// The text's vector at `from`.
 ///
-/// They go through an array and not as a slice of the text, so that they are stored from the registers
-/// in which they were asked.
+/// It goes through an array and not as a slice of the text: so it is stored from the register in which it was
+/// asked.
 #[inline(always)]
-fn two_at<V: Vector<N>, const N: usize>(src: &[u8], at: usize) -> [[u8; N]; 2]
-    requires { at + 2 * N ≤ length src.now }
-    ensures { flat_map (λ row. row) result ≡ take (2 * N) (drop at src.now) }
+pub(super) fn lanes_at(src: &[u8], from: usize) -> [u8; N]
+    requires { from + N ≤ length src.now }
+    ensures { result ≡ take N (drop from src.now) }
 {
-    let mut rows = [[0u8; N]; 2];
-    V::load(src, at).put(&mut rows[0]);
-    V::load(src, at + N).put(&mut rows[1]);
-    rows
+    let mut lanes = [0u8; N];
+    V::load(src, from).put(&mut lanes);
+    lanes
 }
 
-/// Four vectors of the text from `at` on.
+/// Appends four vectors of the text from `from` on.
 #[inline(always)]
-fn four_at<V: Vector<N>, const N: usize>(src: &[u8], at: usize) -> [[[u8; N]; 2]; 2]
-    requires { at + 4 * N ≤ length src.now }
-    ensures { flat_map (λ row. row) (flat_map (λ two. two) result) ≡ take (4 * N) (drop at src.now) }
-{
-    [two_at::<V, N>(src, at), two_at::<V, N>(src, at + 2 * N)]
-}
-
-/// Cuts `dst` to `len` bytes, and appends the two vectors of the text at `at`.
-#[inline(always)]
-pub(super) fn push_two<V: Vector<N>, A: Allocator, const N: usize>(
-    dst: &mut Vec<u8, A>,
-    len: usize,
-    src: &[u8],
-    at: usize,
-)
-    requires inside { at + 2 * N ≤ length src.now }
-    requires shorter { len ≤ vec_len dst.old }
-    requires room { len + 2 * N ≤ vec_capacity dst.old }
-    ensures items { dst.new.items ≡ take len dst.old.items ++ take (2 * N) (drop at src.now) }
-    ensures capacity { vec_capacity dst.old ≤ vec_capacity dst.new }
-{
-    let rows = two_at::<V, N>(src, at);
-    dst.truncate(len);
-    push_all(dst, rows.as_flattened());
-}
-
-/// Appends the four vectors of the text at `at`.
-#[inline(always)]
-pub(super) fn push_four<V: Vector<N>, A: Allocator, const N: usize>(
-    dst: &mut Vec<u8, A>,
-    src: &[u8],
-    at: usize,
-)
-    requires inside { at + 4 * N ≤ length src.now }
+pub(super) fn push_chunk<A: Allocator>(dst: &mut Vec<u8, A>, src: &[u8], from: usize)
+    requires inside { from + 4 * N ≤ length src.now }
     requires room { vec_len dst.old + 4 * N ≤ vec_capacity dst.old }
-    ensures items { dst.new.items ≡ dst.old.items ++ take (4 * N) (drop at src.now) }
+    ensures items { dst.new.items ≡ dst.old.items ++ take (4 * N) (drop from src.now) }
     ensures capacity { vec_capacity dst.old ≤ vec_capacity dst.new }
 {
-    push_all(dst, four_at::<V, N>(src, at).as_flattened().as_flattened());
-}
-
-/// Appends the eight vectors of the text at `at`: as many as stay in registers, and one new length for
-/// all of them.
-#[inline(always)]
-pub(super) fn push_eight<V: Vector<N>, A: Allocator, const N: usize>(
-    dst: &mut Vec<u8, A>,
-    src: &[u8],
-    at: usize,
-)
-    requires inside { at + 8 * N ≤ length src.now }
-    requires room { vec_len dst.old + 8 * N ≤ vec_capacity dst.old }
-    ensures items { dst.new.items ≡ dst.old.items ++ take (8 * N) (drop at src.now) }
-    ensures capacity { vec_capacity dst.old ≤ vec_capacity dst.new }
-{
-    let rows = [four_at::<V, N>(src, at), four_at::<V, N>(src, at + 4 * N)];
-    push_all(dst, rows.as_flattened().as_flattened().as_flattened());
+    let rows = [
+        lanes_at(src, from),
+        lanes_at(src, from + N),
+        lanes_at(src, from + 2 * N),
+        lanes_at(src, from + 3 * N),
+    ];
+    push_all(dst, rows.as_flattened());
 }

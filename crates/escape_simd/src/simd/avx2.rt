@@ -9,22 +9,26 @@ ghost use Rattle.escape_simd.specs.Headline.{IsOnlyOutput};
 ghost use Rattle.escape_simd.specs.Laws.{IsOfOneText};
 ghost use Rattle.escape_simd.specs.Modes.{mode_numbered};
 
-use crate::simd::classify::{HTML_MODE, JSON_MODE, SCRIPT_MODE, Vector};
-use crate::simd::{body, inner, string};
+use crate::simd::vector::{HTML_MODE, JSON_MODE, SCRIPT_MODE, Vector};
+use crate::simd::whole;
 pub use escape_lanes::simd::avx2::{
     Flags256, Mask256, Simd256u, escaped_flags, escaped_mask, script_flags, script_mask,
 };
 use escape_lanes::simd::target::{Target, Ticks};
-use escape_lanes::simd::{LoadEnds, LoadLast, MoveDown, Simd};
+use escape_lanes::simd::{LoadLast, Simd};
 
 impl Vector<32> for Simd256u {
     type Flags = Flags256;
+
+    const LOOKS_UP: bool = true;
 
     ghost lanes = { λ v. ⟦<Simd256u as Simd>⟧.lanes v };
 
     ghost width = { λ v. v.are_bytes.full };
 
     ghost flag_width = { refl };
+
+    ghost sixteens = { refl };
 
     ghost several = { lit≤ tt };
 
@@ -35,22 +39,12 @@ impl Vector<32> for Simd256u {
         Self::loadu(&text[at..])
     }
 
-    #[inline(always)]
+    #[inline]
     fn load_last(text: &[u8], count: usize) -> Self {
         <Self as LoadLast>::load_last(text, count)
     }
 
-    #[inline(always)]
-    fn load_ends(text: &[u8]) -> Self {
-        <Self as LoadEnds>::load_ends(text)
-    }
-
-    #[inline(always)]
-    fn move_down(&self, count: usize) -> Self {
-        <Self as MoveDown>::move_down(self, count)
-    }
-
-    #[inline(always)]
+    #[inline]
     fn flags(&self, mode: u8, ticks: &mut Ticks) -> Flags256 {
         if mode == JSON_MODE {
             escaped_flags::<false>(self, ticks)
@@ -82,7 +76,7 @@ pub fn format_target<const HTML: bool>(
     ensures { IsFormatted (mode_of HTML) value.now
         target.old target.new result ticks.old ticks.new }
 {
-    body::format_target::<Simd256u, HTML, 32, 4, false>(value, target, ticks)
+    whole::format_target::<Simd256u, HTML, 32>(value, target, ticks)
 }
 
 /// As [`format_target`], with the target made over `dst`.
@@ -99,7 +93,7 @@ pub fn format_string<const HTML: bool>(value: &str, dst: &mut [u8]) -> usize
     ensures headline { IsOnlyOutput (mode_of HTML) (take result dst.new) (chars value.now) }
     ensures equal_texts { IsOfOneText (mode_of HTML) value.now (take result dst.new) }
 {
-    string::format_string::<Simd256u, HTML, 32, 4, false>(value, dst)
+    whole::format_string::<Simd256u, HTML, 32>(value, dst)
 }
 
 /// Escapes the text to the front of the target as a JSON string literal that can stand in a script
@@ -113,7 +107,7 @@ pub fn format_script_target(value: &str, target: &mut Target<'_, 32>, ticks: &mu
     ensures { IsFormatted script value.now
         target.old target.new result ticks.old ticks.new }
 {
-    body::body::<Simd256u, { SCRIPT_MODE }, 32, 4, false>(value, target, ticks)
+    whole::format::<Simd256u, { SCRIPT_MODE }, 32>(value, target, ticks)
 }
 
 /// As [`format_script_target`], with the target made over `dst`.
@@ -130,7 +124,7 @@ pub fn format_script_string(value: &str, dst: &mut [u8]) -> usize
     ensures headline { IsOnlyOutput script (take result dst.new) (chars value.now) }
     ensures equal_texts { IsOfOneText script value.now (take result dst.new) }
 {
-    string::format_in_mode::<Simd256u, { SCRIPT_MODE }, 32, 4, false>(value, dst)
+    whole::format_in_mode::<Simd256u, { SCRIPT_MODE }, 32>(value, dst)
 }
 
 /// Escapes the text to the front of `dst` in the mode numbered `MODE`, with no quotation marks, and
@@ -139,5 +133,5 @@ pub(crate) fn format_inner<const MODE: u8>(value: &str, dst: &mut [u8]) -> usize
     requires { 6 * length value.now + 32 ≤ length dst.old }
     ensures { IsInnerWritten 32 (mode_numbered MODE) value.now dst.old dst.new result }
 {
-    inner::format_inner::<Simd256u, MODE, 32, 4, false>(value, dst)
+    whole::format_inner::<Simd256u, MODE, 32>(value, dst)
 }

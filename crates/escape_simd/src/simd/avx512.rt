@@ -1,4 +1,4 @@
-//! The kernel of 64 lanes, which stores exactly the bytes of a text's tail.
+//! The kernel of 64 lanes.
 ghost use Rattle.std.specs.Prelude.{◌≡◌, ◌+◌, ◌*◌, ◌≤◌, length, take, chars, refl};
 ghost use Rattle.std.proofs.Common.{lit≤};
 ghost use Rattle.escape_lanes.specs.Mode.{mode_of, script};
@@ -9,30 +9,26 @@ ghost use Rattle.escape_simd.specs.Headline.{IsOnlyOutput};
 ghost use Rattle.escape_simd.specs.Laws.{IsOfOneText};
 ghost use Rattle.escape_simd.specs.Modes.{mode_numbered};
 
-use crate::simd::classify::{HTML_MODE, JSON_MODE, SCRIPT_MODE, Vector};
-use crate::simd::short::format_short;
-use crate::simd::{body, inner, string};
-use escape_lanes::simd::avx2::Simd256u;
+use crate::simd::vector::{HTML_MODE, JSON_MODE, SCRIPT_MODE, Vector};
+use crate::simd::whole;
 pub use escape_lanes::simd::avx512::{
     Flags512, Mask512, Simd512u, escaped_flags, escaped_mask, script_flags, script_mask,
 };
 use escape_lanes::simd::target::{Target, Ticks};
-use escape_lanes::simd::{LoadEnds, LoadLast, MoveDown, Simd};
-
-/// How many bytes half a vector has.
-const HALF: usize = 32;
-
-/// A text of fewer bytes goes by vectors of half the width.
-const WIDE: usize = 2048;
+use escape_lanes::simd::{LoadLast, Simd};
 
 impl Vector<64> for Simd512u {
     type Flags = Flags512;
+
+    const LOOKS_UP: bool = true;
 
     ghost lanes = { λ v. ⟦<Simd512u as Simd>⟧.lanes v };
 
     ghost width = { λ v. v.are_bytes.full };
 
     ghost flag_width = { refl };
+
+    ghost sixteens = { refl };
 
     ghost several = { lit≤ tt };
 
@@ -43,22 +39,12 @@ impl Vector<64> for Simd512u {
         Self::loadu(&text[at..])
     }
 
-    #[inline(always)]
+    #[inline]
     fn load_last(text: &[u8], count: usize) -> Self {
         <Self as LoadLast>::load_last(text, count)
     }
 
-    #[inline(always)]
-    fn load_ends(text: &[u8]) -> Self {
-        <Self as LoadEnds>::load_ends(text)
-    }
-
-    #[inline(always)]
-    fn move_down(&self, count: usize) -> Self {
-        <Self as MoveDown>::move_down(self, count)
-    }
-
-    #[inline(always)]
+    #[inline]
     fn flags(&self, mode: u8, ticks: &mut Ticks) -> Flags512 {
         if mode == JSON_MODE {
             escaped_flags::<false>(self, ticks)
@@ -73,37 +59,6 @@ impl Vector<64> for Simd512u {
     fn put(&self, bytes: &mut [u8]) {
         self.storeu(bytes);
     }
-}
-
-/// Whether a text of so many bytes goes by vectors of half the width.
-///
-/// The last stores of both widths are exact, so that they leave the same bytes past the output. Not so where fewer than
-/// eight bytes are past the first half of the last vector, since what is written of that half may reach past them.
-#[inline(always)]
-fn is_narrow(len: usize) -> bool {
-    let past = len % (2 * HALF);
-    len < WIDE && (past <= HALF || HALF + 8 <= past)
-}
-
-/// Escapes the text to the front of `dst` in the mode numbered `MODE`, and answers how many bytes it
-/// became.
-///
-/// Vectors of half the width are no slower where a text has few of them. In a script literal their second half may begin
-/// with the rest of a separator, so there it is the shortest texts alone that go by them.
-#[inline(always)]
-fn format_in_mode<const MODE: u8>(value: &str, dst: &mut [u8]) -> usize
-    requires { bound (mode_numbered MODE) (length value.now) ≤ length dst.old }
-    ensures written { IsWritten 64 (mode_numbered MODE) value.now dst.old dst.new result }
-    ensures headline { IsOnlyOutput (mode_numbered MODE) (take result dst.new) (chars value.now) }
-    ensures equal_texts { IsOfOneText (mode_numbered MODE) value.now (take result dst.new) }
-{
-    if value.len() < HALF {
-        return format_short::<Simd256u, MODE, 32, true>(value, dst);
-    }
-    if MODE != SCRIPT_MODE && is_narrow(value.len()) {
-        return string::format_in_mode::<Simd256u, MODE, 32, 4, true>(value, dst);
-    }
-    string::format_in_mode::<Simd512u, MODE, 64, 2, true>(value, dst)
 }
 
 /// Escapes the text to the front of the target, as HTML if `HTML`, else as a JSON string literal,
@@ -121,7 +76,7 @@ pub fn format_target<const HTML: bool>(
     ensures { IsFormatted (mode_of HTML) value.now
         target.old target.new result ticks.old ticks.new }
 {
-    body::format_target::<Simd512u, HTML, 64, 2, true>(value, target, ticks)
+    whole::format_target::<Simd512u, HTML, 64>(value, target, ticks)
 }
 
 /// As [`format_target`], with the target made over `dst`.
@@ -138,10 +93,7 @@ pub fn format_string<const HTML: bool>(value: &str, dst: &mut [u8]) -> usize
     ensures headline { IsOnlyOutput (mode_of HTML) (take result dst.new) (chars value.now) }
     ensures equal_texts { IsOfOneText (mode_of HTML) value.now (take result dst.new) }
 {
-    if HTML {
-        return format_in_mode::<{ HTML_MODE }>(value, dst);
-    }
-    format_in_mode::<{ JSON_MODE }>(value, dst)
+    whole::format_string::<Simd512u, HTML, 64>(value, dst)
 }
 
 /// Escapes the text to the front of the target as a JSON string literal that can stand in a script
@@ -155,7 +107,7 @@ pub fn format_script_target(value: &str, target: &mut Target<'_, 64>, ticks: &mu
     ensures { IsFormatted script value.now
         target.old target.new result ticks.old ticks.new }
 {
-    body::body::<Simd512u, { SCRIPT_MODE }, 64, 2, true>(value, target, ticks)
+    whole::format::<Simd512u, { SCRIPT_MODE }, 64>(value, target, ticks)
 }
 
 /// As [`format_script_target`], with the target made over `dst`.
@@ -172,7 +124,7 @@ pub fn format_script_string(value: &str, dst: &mut [u8]) -> usize
     ensures headline { IsOnlyOutput script (take result dst.new) (chars value.now) }
     ensures equal_texts { IsOfOneText script value.now (take result dst.new) }
 {
-    format_in_mode::<{ SCRIPT_MODE }>(value, dst)
+    whole::format_in_mode::<Simd512u, { SCRIPT_MODE }, 64>(value, dst)
 }
 
 /// Escapes the text to the front of `dst` in the mode numbered `MODE`, with no quotation marks, and
@@ -181,5 +133,5 @@ pub(crate) fn format_inner<const MODE: u8>(value: &str, dst: &mut [u8]) -> usize
     requires { 6 * length value.now + 32 ≤ length dst.old }
     ensures { IsInnerWritten 64 (mode_numbered MODE) value.now dst.old dst.new result }
 {
-    inner::format_inner::<Simd512u, MODE, 64, 2, true>(value, dst)
+    whole::format_inner::<Simd512u, MODE, 64>(value, dst)
 }

@@ -1,153 +1,96 @@
-//! The body of all kernels: a text's bytes between quotation marks.
-ghost use Rattle.std.specs.Prelude.{◌≡◌, ◌+◌, ◌<◌, ◌≤◌, ◌++◌, false, length, take, drop, chars};
-ghost use Rattle.escape_lanes.specs.Mode.{mode_of};
-ghost use Rattle.escape_lanes.specs.Written.{bytes_of, stored_of, escaped_of, quotes_of, IsSameSlice};
+//! The body of all kernels: a text's bytes by chunks, by vectors, and the last ones.
+ghost use Rattle.std.specs.Prelude.{◌≡◌, ◌+◌, ◌*◌, ◌/◌, ◌≤◌, true, length};
+ghost use Rattle.escape_lanes.specs.Written.{bytes_of};
 ghost use Rattle.escape_simd.specs.Modes.{mode_numbered};
-ghost use Rattle.escape_simd.specs.Output.{bound, quote_of};
-ghost use Rattle.escape_simd.specs.Formatted.{IsFormatted, IsInnerAt, IsWritten};
-ghost use Rattle.escape_simd.specs.Headline.{IsOnlyOutput};
-ghost use Rattle.escape_simd.specs.Laws.{IsOfOneText};
-ghost use Rattle.escape_simd.specs.Stretch.{room_from, rest_slack};
+ghost use Rattle.escape_simd.specs.Formatted.{IsInnerAt};
+ghost use Rattle.escape_simd.specs.Parts.{IsPartAt};
+ghost use Rattle.escape_simd.specs.Stretch.{Escapes, HasVectors, reach};
 
-use crate::simd::classify::{HTML_MODE, JSON_MODE, Vector};
-use crate::simd::many::escape_many;
+use crate::simd::chunk::{chunk, whole_vector};
+use crate::simd::rest::rest;
+use crate::simd::vector::Vector;
 use escape_lanes::simd::target::{Target, Ticks};
 
-/// Escapes the bytes to `dst` from `to` on, with no quotation marks, and answers the place reached.
-///
-/// The target is made here, so that its place stays in a register over the loops.
-#[inline(never)]
-pub(crate) fn escape_at<
-    V: Vector<N>,
-    const MODE: u8,
-    const N: usize,
-    const CHUNK: usize,
-    const EXACT: bool,
->(src: &[u8], dst: &mut [u8], to: usize) -> usize
-    requires narrow { EXACT ≡ false → N ≤ 32 }
-    requires room { to + room_from (mode_numbered MODE) src.now 0 ≤ length dst.old }
-    ensures { IsInnerAt (mode_numbered MODE) (rest_slack EXACT N) src.now dst.old dst.new to result }
+/// Escapes the bytes to the target from `to` on by single vectors, and the last ones. Returns the place after them.
+#[inline(always)]
+fn escape_vectors<V: Vector<N>, const MODE: u8, const N: usize>(
+    src: &[u8],
+    target: &mut Target<'_, N>,
+    to: usize,
+    ticks: &mut Ticks,
+) -> usize
+    requires { to + 6 * length src.now + 32 ≤ length (bytes_of target.old) }
+    ensures { Escapes (mode_numbered MODE) (reach true N) (length src.now) (length src.now / N + 1) 0 src.now target.old target.new 0 (length src.now) to result ticks.old ticks.new }
 {
+    let mut at = 0;
+    let mut end = to;
+    'vectors: while 2 * N <= src.len() - at {
+        (at, end) = whole_vector::<V, MODE, N>(src, at, target, end, ticks);
+    }
+    rest::<V, MODE, N>(src, at, target, end, ticks)
+}
+
+/// Escapes the bytes to the target from `to` on, with no quotation marks. Returns the place after them.
+#[inline(always)]
+pub(crate) fn escape_bytes<V: Vector<N>, const MODE: u8, const N: usize>(
+    src: &[u8],
+    target: &mut Target<'_, N>,
+    to: usize,
+    ticks: &mut Ticks,
+) -> usize
+    requires { to + 6 * length src.now + 32 ≤ length (bytes_of target.old) }
+    ensures { Escapes (mode_numbered MODE) (reach true N) (length src.now) (length src.now / N + 1) 0 src.now target.old target.new 0 (length src.now) to result ticks.old ticks.new }
+{
+    let mut at = 0;
+    let mut end = to;
+    'chunks: while 5 * N <= src.len() - at {
+        (at, end) = chunk::<V, MODE, N>(src, at, target, end, ticks);
+    }
+    escape_vectors::<V, MODE, N>(&src[at..], target, end, ticks)
+}
+
+/// Escapes chunks of the text to `dst` from `to` on, as long as one more has room. Returns the places after them.
+///
+/// The target is made here, so that its counts stay in registers, and are left out where no one asks for them.
+#[inline(never)]
+pub(crate) fn escape_chunks<V: Vector<N>, const MODE: u8, const N: usize>(
+    src: &[u8],
+    dst: &mut [u8],
+    to: usize,
+) -> (usize, usize)
+    requires { HasVectors N 4 src.now 0 0 to (length dst.old) }
+    ensures { IsPartAt (mode_numbered MODE) (reach true N) src.now dst.old dst.new result.0 to result.1 }
+{
+    let last = src.len() - 5 * N;
+    let last_end = dst.len() - 25 * N;
     let mut target = Target::<N>::new(dst);
     let mut ticks = Ticks::new();
-    escape_many::<V, MODE, N, CHUNK, EXACT>(src, &mut target, to, &mut ticks)
-}
-
-/// A quotation mark in JSON, also in script mode, nothing in HTML. Answers the place after it.
-#[inline(always)]
-pub(crate) fn quote<const MODE: u8, const N: usize>(target: &mut Target<'_, N>, to: usize) -> usize
-    requires { to < length (bytes_of target.old) }
-    ensures same_slice { IsSameSlice target.old target.new }
-    ensures end { result ≡ to + length (quote_of (mode_numbered MODE)) }
-    ensures written { take result (bytes_of target.new)
-        ≡ take to (bytes_of target.old) ++ quote_of (mode_numbered MODE) }
-    ensures kept { drop (to + 1) (bytes_of target.new) ≡ drop (to + 1) (bytes_of target.old) }
-    ensures stored { stored_of target.new ≡ stored_of target.old }
-    ensures escaped { escaped_of target.new ≡ escaped_of target.old }
-    ensures quotes { quotes_of target.new
-        ≡ quotes_of target.old + length (quote_of (mode_numbered MODE)) }
-{
-    if MODE != HTML_MODE {
-        target.quote(to);
-        return to + 1;
+    let mut at = 0;
+    let mut end = to;
+    'chunks: while at <= last && end <= last_end {
+        (at, end) = chunk::<V, MODE, N>(src, at, &mut target, end, &mut ticks);
     }
-    to
+    (at, end)
 }
 
-/// Escapes the text to the front of the target, and answers how many bytes it became.
-///
-/// `CHUNK` says how many vectors are classified at once: four (and two of those that are left), two or
-/// one.
-#[inline(always)]
-pub(crate) fn quoted<
-    V: Vector<N>,
-    const MODE: u8,
-    const N: usize,
-    const CHUNK: usize,
-    const EXACT: bool,
->(value: &str, target: &mut Target<'_, N>, ticks: &mut Ticks) -> usize
-    requires narrow { EXACT ≡ false → N ≤ 32 }
-    requires room { bound (mode_numbered MODE) (length value.now) ≤ length (bytes_of target.old) }
-    ensures { IsFormatted (mode_numbered MODE) value.now
-        target.old target.new result ticks.old
-        ticks.new }
-{
-    let open = quote::<MODE, N>(target, 0);
-    let bytes = value.as_bytes();
-    let close = escape_many::<V, MODE, N, CHUNK, EXACT>(bytes, target, open, ticks);
-    quote::<MODE, N>(target, close)
-}
-
-/// Escapes the text to the front of the target, and answers how many bytes it became.
-#[inline(always)]
-pub(crate) fn body<
-    V: Vector<N>,
-    const MODE: u8,
-    const N: usize,
-    const CHUNK: usize,
-    const EXACT: bool,
->(value: &str, target: &mut Target<'_, N>, ticks: &mut Ticks) -> usize
-    requires narrow { EXACT ≡ false → N ≤ 32 }
-    requires room { bound (mode_numbered MODE) (length value.now) ≤ length (bytes_of target.old) }
-    ensures { IsFormatted (mode_numbered MODE) value.now
-        target.old target.new result ticks.old
-        ticks.new }
-{
-    quoted::<V, MODE, N, CHUNK, EXACT>(value, target, ticks)
-}
-
-/// The body in one of the two modes of the public calls.
-#[inline(always)]
-pub(crate) fn format_target<
-    V: Vector<N>,
-    const HTML: bool,
-    const N: usize,
-    const CHUNK: usize,
-    const EXACT: bool,
->(value: &str, target: &mut Target<'_, N>, ticks: &mut Ticks) -> usize
-    requires narrow { EXACT ≡ false → N ≤ 32 }
-    requires room { bound (mode_of HTML) (length value.now) ≤ length (bytes_of target.old) }
-    ensures { IsFormatted (mode_of HTML) value.now
-        target.old target.new result ticks.old ticks.new }
-{
-    if HTML {
-        return body::<V, { HTML_MODE }, N, CHUNK, EXACT>(value, target, ticks);
-    }
-    body::<V, { JSON_MODE }, N, CHUNK, EXACT>(value, target, ticks)
-}
-
-/// As [`quote`], in a slice.
-#[inline(always)]
-fn quote_in<const MODE: u8>(dst: &mut [u8], to: usize) -> usize
-    requires { to < length dst.old }
-    ensures end { result ≡ to + length (quote_of (mode_numbered MODE)) }
-    ensures written { take result dst.new ≡ take to dst.old ++ quote_of (mode_numbered MODE) }
-    ensures kept { drop (to + 1) dst.new ≡ drop (to + 1) dst.old }
-{
-    if MODE != HTML_MODE {
-        dst[to] = b'"';
-        return to + 1;
-    }
-    to
-}
-
-/// Escapes the text to the front of `dst`, in a function of its own: so a short text waits for no loop's
-/// frame.
+/// As [`escape_bytes`], to `dst`, and with no count.
 #[inline(never)]
-pub(crate) fn format_many<
-    V: Vector<N>,
-    const MODE: u8,
-    const N: usize,
-    const CHUNK: usize,
-    const EXACT: bool,
->(value: &str, dst: &mut [u8]) -> usize
-    requires narrow { EXACT ≡ false → N ≤ 32 }
-    requires room { bound (mode_numbered MODE) (length value.now) ≤ length dst.old }
-    ensures written { IsWritten N (mode_numbered MODE) value.now dst.old dst.new result }
-    ensures headline { IsOnlyOutput (mode_numbered MODE) (take result dst.new) (chars value.now) }
-    ensures equal_texts { IsOfOneText (mode_numbered MODE) value.now (take result dst.new) }
+pub(crate) fn escape_at<V: Vector<N>, const MODE: u8, const N: usize>(
+    src: &[u8],
+    dst: &mut [u8],
+    to: usize,
+) -> usize
+    requires { to + 6 * length src.now + 32 ≤ length dst.old }
+    ensures { IsInnerAt (mode_numbered MODE) (reach true N) src.now dst.old dst.new to result }
 {
-    let open = quote_in::<MODE>(dst, 0);
-    let close = escape_at::<V, MODE, N, CHUNK, EXACT>(value.as_bytes(), dst, open);
-    quote_in::<MODE>(dst, close)
+    let mut left = src;
+    let mut end = to;
+    'parts: while 5 * N <= left.len() {
+        let (passed, next) = escape_chunks::<V, MODE, N>(left, dst, end);
+        left = &left[passed..];
+        end = next;
+    }
+    let mut target = Target::<N>::new(dst);
+    let mut ticks = Ticks::new();
+    escape_vectors::<V, MODE, N>(left, &mut target, end, &mut ticks)
 }

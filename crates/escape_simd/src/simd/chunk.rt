@@ -1,127 +1,123 @@
-//! Whole vectors of a text: one, a pair, and a chunk of four.
-ghost use Rattle.std.specs.Prelude.{◌≡◌, ℕ, ◌+◌, ◌-◌, ◌*◌, ◌<◌, ◌≤◌, false, true, length, take, drop, slice_index, map};
-ghost use Rattle.escape_lanes.specs.Bits.{none_set};
+//! Whole vectors of a text that have a further one behind them: a chunk of four, and one alone.
+ghost use Rattle.std.specs.Prelude.{◌≡◌, ◌+◌, ◌*◌, ◌≤◌, length, take, drop, map};
+ghost use Rattle.escape_lanes.specs.Bits.{bits_of};
 ghost use Rattle.escape_lanes.specs.Replacement.{needs_escape};
-ghost use Rattle.escape_lanes.specs.Written.{bytes_of, stored_of};
+ghost use Rattle.escape_lanes.specs.Written.{bytes_of};
 ghost use Rattle.escape_simd.specs.Modes.{mode_numbered};
-ghost use Rattle.escape_simd.specs.Runs.{run_count};
-ghost use Rattle.escape_simd.specs.Stretch.{Stretch, Paid, room_from, rest_slack};
+ghost use Rattle.escape_simd.specs.Stretch.{Escapes, HasVectors, HoldsFlags, Passed};
 
-use crate::simd::classify::Vector;
-use crate::simd::each::escape_on;
-use crate::simd::flagged::{four_with_runs, last_flagged_vector, two_with_runs};
-use crate::simd::pass::{pass, pass_two};
-use crate::simd::util::run;
+use crate::simd::by_mask::escape_by_mask;
+use crate::simd::store::store_loaded;
+use crate::simd::vector::Vector;
 use escape_lanes::simd::Flags;
+use escape_lanes::simd::lane_bits::shift_lanes;
 use escape_lanes::simd::target::{Target, Ticks};
 
-/// One vector of the text, and where vectors are classified alone, what is left of a run that reaches past
-/// it. Answers the places reached.
+/// Classifies the text's vector at `at`.
 #[inline(always)]
-pub(crate) fn whole_vector<
-    V: Vector<N>,
-    const MODE: u8,
-    const N: usize,
-    const CHUNK: usize,
-    const EXACT: bool,
->(src: &[u8], at: usize, target: &mut Target<'_, N>, to: usize, ticks: &mut Ticks) -> (usize, usize)
-    requires inside { at + N ≤ length src.now }
-    requires narrow { EXACT ≡ false → N ≤ 32 }
-    requires room { to + room_from (mode_numbered MODE) src.now at ≤ length (bytes_of target.old) }
-    ensures stretch { Stretch (mode_numbered MODE) (rest_slack EXACT N) src.now
-        target.old target.new at result.0 to result.1 }
-    ensures step { at + N ≤ result.0 }
-    ensures paid { Paid N (mode_numbered MODE) src.now at result.0 (stored_of target.old)
-        (stored_of target.new) ticks.old ticks.new }
+pub(crate) fn flags_at<V: Vector<N>, const MODE: u8, const N: usize>(
+    src: &[u8],
+    at: usize,
+    ticks: &mut Ticks,
+) -> V::Flags
+    requires { at + N ≤ length src.now }
+    ensures flagged { V.Flags.truths result ≡ map (needs_escape (mode_numbered MODE)) (take N (drop at src.now)) }
+    ensures tick { ticks.new ≡ ticks.old + 1 }
 {
-    let v = V::load(src, at);
-    let flags = v.flags(MODE, ticks);
-    if !flags.none() {
-        let mask = flags.bitmask();
-        let (next, end) = last_flagged_vector::<V, MODE, N, EXACT>(
-            src, at, at, target, to, mask, ticks,
-        );
-        if CHUNK == 1 {
-            let (next, end) = escape_on::<MODE, N>(src, next, target, end);
-            return run::<MODE, N>(src, next, target, end);
-        }
-        return (next, end);
-    }
-    pass::<V, MODE, N>(src, at, target, to, &v);
-    (at + N, to + N)
+    V::load(src, at).flags(MODE, ticks)
 }
 
-/// Two vectors of the text, classified at once, since most are clean. Answers the places reached.
+/// Escapes one vector of the text. Returns the places after it.
 #[inline(always)]
-pub(crate) fn pair<V: Vector<N>, const MODE: u8, const N: usize, const EXACT: bool>(
+pub(crate) fn whole_vector<V: Vector<N>, const MODE: u8, const N: usize>(
     src: &[u8],
     at: usize,
     target: &mut Target<'_, N>,
     to: usize,
     ticks: &mut Ticks,
 ) -> (usize, usize)
-    requires inside { at + 2 * N ≤ length src.now }
-    requires narrow { EXACT ≡ false → N ≤ 32 }
-    requires room { to + room_from (mode_numbered MODE) src.now at ≤ length (bytes_of target.old) }
-    ensures stretch { Stretch (mode_numbered MODE) (rest_slack EXACT N) src.now
-        target.old target.new at result.0 to result.1 }
-    ensures step { at + 2 * N ≤ result.0 }
-    ensures paid { Paid N (mode_numbered MODE) src.now at result.0 (stored_of target.old)
-        (stored_of target.new) ticks.old ticks.new }
+    requires { HasVectors N 1 src.now at at to (length (bytes_of target.old)) }
+    ensures { Escapes (mode_numbered MODE) N (at + N) 1 0 src.now target.old target.new at result.0 to result.1 ticks.old ticks.new }
 {
-    let v1 = V::load(src, at);
-    let v2 = V::load(src, at + N);
-    let flags1 = v1.flags(MODE, ticks);
-    let flags2 = v2.flags(MODE, ticks);
-    if !flags1.join(&flags2).none() {
-        let (mask1, mask2) = (flags1.bitmask(), flags2.bitmask());
-        return two_with_runs::<V, MODE, N, EXACT>(src, at, target, to, mask1, mask2, ticks);
-    }
-    pass_two::<V, MODE, N>(src, at, target, to, &v1, &v2);
-    (at + 2 * N, to + 2 * N)
+    let flags = flags_at::<V, MODE, N>(src, at, ticks).bits();
+    escape_by_mask::<V, MODE, N, false>(src, at, N, flags, target, to, ticks)
 }
 
-/// Four vectors of the text, classified at once, since most are clean. Answers the places reached.
+/// Escapes the text's vector at `at` from `from` on: what came before it may have passed the rest of a separator.
+/// Its flags are known. Returns the places after it.
 #[inline(always)]
-pub(crate) fn chunk<V: Vector<N>, const MODE: u8, const N: usize, const EXACT: bool>(
+fn vector_from<V: Vector<N>, const MODE: u8, const N: usize>(
+    src: &[u8],
+    at: usize,
+    from: usize,
+    flags: u64,
+    target: &mut Target<'_, N>,
+    to: usize,
+    ticks: &mut Ticks,
+) -> (usize, usize)
+    requires flagged { HoldsFlags (mode_numbered MODE) src.now at N at (bits_of 64 flags) }
+    requires passed { Passed (mode_numbered MODE) src.now at from }
+    requires room { HasVectors N 1 src.now at from to (length (bytes_of target.old)) }
+    ensures { Escapes (mode_numbered MODE) N (at + N) 1 1 src.now target.old target.new from result.0 to result.1 ticks.old ticks.new }
+{
+    let passed = from - at;
+    let flags = shift_lanes(flags, passed);
+    escape_by_mask::<V, MODE, N, false>(src, from, N - passed, flags, target, to, ticks)
+}
+
+/// Escapes four vectors of the text. They are classified at once, since most are clean. Returns the places after
+/// them.
+#[inline(always)]
+pub(crate) fn chunk<V: Vector<N>, const MODE: u8, const N: usize>(
     src: &[u8],
     at: usize,
     target: &mut Target<'_, N>,
     to: usize,
     ticks: &mut Ticks,
 ) -> (usize, usize)
-    requires inside { at + 4 * N ≤ length src.now }
-    requires narrow { EXACT ≡ false → N ≤ 32 }
-    requires room { to + room_from (mode_numbered MODE) src.now at ≤ length (bytes_of target.old) }
-    ensures stretch { Stretch (mode_numbered MODE) (rest_slack EXACT N) src.now
-        target.old target.new at result.0 to result.1 }
-    ensures step { at + 4 * N ≤ result.0 }
-    ensures paid { Paid N (mode_numbered MODE) src.now at result.0 (stored_of target.old)
-        (stored_of target.new) ticks.old ticks.new }
+    requires { HasVectors N 4 src.now at at to (length (bytes_of target.old)) }
+    ensures { Escapes (mode_numbered MODE) N (at + 4 * N) 4 0 src.now target.old target.new at result.0 to result.1 ticks.old ticks.new }
 {
     let (second, third, fourth) = (at + N, at + 2 * N, at + 3 * N);
-    let v1 = V::load(src, at);
-    let v2 = V::load(src, second);
-    let v3 = V::load(src, third);
-    let v4 = V::load(src, fourth);
-    let flags1 = v1.flags(MODE, ticks);
-    let flags2 = v2.flags(MODE, ticks);
-    let flags3 = v3.flags(MODE, ticks);
-    let flags4 = v4.flags(MODE, ticks);
-    if !flags1.join(&flags2).join(&flags3.join(&flags4)).none() {
-        return four_with_runs::<V, MODE, N, EXACT, false>(
-            src,
-            at,
-            target,
-            to,
-            flags1.bitmask(),
-            flags2.bitmask(),
-            flags3.bitmask(),
-            flags4.bitmask(),
-            ticks,
-        );
+    let (v1, v2) = (V::load(src, at), V::load(src, second));
+    let (v3, v4) = (V::load(src, third), V::load(src, fourth));
+    let flags1 = flags_at::<V, MODE, N>(src, at, ticks);
+    let flags2 = flags_at::<V, MODE, N>(src, second, ticks);
+    let flags3 = flags_at::<V, MODE, N>(src, third, ticks);
+    let flags4 = flags_at::<V, MODE, N>(src, fourth, ticks);
+    if flags1.join(&flags2).join(&flags3.join(&flags4)).none() {
+        store_loaded::<V, N, false>(&v1, src, at, N, target, to);
+        store_loaded::<V, N, false>(&v2, src, second, N, target, to + N);
+        store_loaded::<V, N, false>(&v3, src, third, N, target, to + 2 * N);
+        store_loaded::<V, N, false>(&v4, src, fourth, N, target, to + 3 * N);
+        return (at + 4 * N, to + 4 * N);
     }
-    pass_two::<V, MODE, N>(src, at, target, to, &v1, &v2);
-    pass_two::<V, MODE, N>(src, third, target, to + 2 * N, &v3, &v4);
-    (at + 4 * N, to + 4 * N)
+    let (next, end) = escape_by_mask::<V, MODE, N, false>(
+        src,
+        at,
+        N,
+        flags1.bits(),
+        target,
+        to,
+        ticks,
+    );
+    let (next, end) = vector_from::<V, MODE, N>(
+        src,
+        second,
+        next,
+        flags2.bits(),
+        target,
+        end,
+        ticks,
+    );
+    let (next, end) = vector_from::<V, MODE, N>(
+        src,
+        third,
+        next,
+        flags3.bits(),
+        target,
+        end,
+        ticks,
+    );
+    vector_from::<V, MODE, N>(src, fourth, next, flags4.bits(), target, end, ticks)
 }

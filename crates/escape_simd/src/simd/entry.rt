@@ -1,13 +1,12 @@
 //! What stands for a byte, and for a separator in a script literal.
 ghost use Rattle.std.specs.Prelude.{◌≡◌, ◌+◌, ◌<◌, ◌≤◌, ◌==◌, length, drop, codes, if◌then◌else◌};
-ghost use Rattle.escape_lanes.specs.Entry.{entry_count, entry_bytes, entry_word, padded};
+ghost use Rattle.escape_lanes.specs.Entry.{entry_count, entry_bytes, padded};
 ghost use Rattle.escape_simd.specs.Modes.{mode_numbered};
 ghost use Rattle.escape_simd.specs.Output.{begins_separator};
 
-use crate::simd::classify::{HTML_MODE, JSON_MODE};
+use crate::simd::vector::{HTML_MODE, JSON_MODE};
 use escape_lanes::tables::{
-    LINE_SEPARATOR, PARAGRAPH_SEPARATOR, html_entry, html_word, json_entry, json_word,
-    script_entry, script_word,
+    LINE_SEPARATOR, PARAGRAPH_SEPARATOR, html_entry, json_entry, script_entry,
 };
 
 /// How many bytes stand for the byte, 0 where it stands for itself, and these bytes with zeros
@@ -23,21 +22,6 @@ pub(crate) fn entry<const MODE: u8>(b: u8) -> &'static (u8, [u8; 8])
         html_entry(b)
     } else {
         script_entry(b)
-    }
-}
-
-/// What stands for the byte, be it the byte itself, with zeros after it up to seven bytes, and how many
-/// bytes stand for it.
-#[inline(always)]
-pub(crate) fn word<const MODE: u8>(b: u8) -> &'static [u8; 8]
-    ensures { result.now ≡ entry_word (mode_numbered MODE) b }
-{
-    if MODE == JSON_MODE {
-        json_word(b)
-    } else if MODE == HTML_MODE {
-        html_word(b)
-    } else {
-        script_word(b)
     }
 }
 

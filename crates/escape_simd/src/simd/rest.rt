@@ -1,56 +1,137 @@
-//! The last bytes of a text, fewer than a vector has.
-ghost use Rattle.std.specs.Prelude.{◌≡◌, ◌+◌, ◌<◌, ◌≤◌, false, length, drop};
-ghost use Rattle.escape_lanes.specs.Written.{bytes_of, stored_of};
+//! The last bytes of a text, fewer than two vectors have, and with them every short text.
+ghost use Rattle.std.specs.Prelude.{min, ◌≡◌, ◌+◌, ◌-◌, ◌*◌, ◌/◌, ◌<◌, ◌≤◌, ◌++◌, true, length, drop, replicate, IfOk, IfErr, OnErr};
+ghost use Rattle.std.specs.List.{flat_map};
+ghost use Rattle.escape_lanes.specs.Bits.{bits_of};
+ghost use Rattle.escape_lanes.specs.Written.{bytes_of};
 ghost use Rattle.escape_simd.specs.Modes.{mode_numbered};
-ghost use Rattle.escape_simd.specs.Runs.{run_count};
-ghost use Rattle.escape_simd.specs.Stretch.{Stretch, IsWrittenUpTo, room_from, rest_slack};
+ghost use Rattle.escape_simd.specs.Stretch.{AreLast, Escapes, HasRest, IsAsked, reach};
 
-use crate::simd::classify::Vector;
-use crate::simd::last::{load_rest, pass_over, pass_rest};
-use crate::simd::vector::last_apart;
-use escape_lanes::simd::BitMask;
+use crate::simd::by_mask::escape_by_mask;
+use crate::simd::chunk::flags_at;
+use crate::simd::store::{store, store_lanes};
+use crate::simd::vector::Vector;
+use escape_lanes::simd::lane_bits::shift_lanes;
 use escape_lanes::simd::target::{Target, Ticks};
+use escape_lanes::simd::{BitMask, Flags};
 
-/// The text's last bytes, fewer than a vector has, if any. What was written before them begins at `start`. Answers the
-/// place reached.
-///
-/// All calls leave the same bytes past the count. So where the text stands as it is up to here, the last vector is stored
-/// whole over what the one before has of the same bytes, as `pass_few` stores it (`clean.rt`). A clean text of half a vector
-/// or more, and fewer bytes than one has, is stored exactly, as by both its ends (`ends.rt`). And of an empty text a vector
-/// of zeros is stored, since a short one is not asked whether it is empty (`short.rt`).
+/// Returns the bytes of a short text, and zeros after them: further vectors can be loaded there.
 #[inline(always)]
-pub(crate) fn last_vector<V: Vector<N>, const MODE: u8, const N: usize, const EXACT: bool>(
-    src: &[u8],
-    at: usize,
+fn hold<V: Vector<N>, const N: usize>(text: &[u8]) -> [[u8; N]; 3]
+    requires { length text.now < 2 * N }
+    ensures { flat_map (λ row. row) result ≡ text.now ++ replicate (3 * N - length text.now) 0 }
+{
+    let mut held = [[0u8; N]; 3];
+    if text.len() < N {
+        V::load_last(text, text.len()).put(&mut held[0]);
+    } else {
+        V::load(text, 0).put(&mut held[0]);
+        V::load_last(text, text.len() - N).put(&mut held[1]);
+    }
+    held
+}
+
+/// Escapes a short text, whose flags are known: `first` has those of its first vector, and `last` those of its last
+/// one, which may have some of the same bytes. Returns the place after it.
+#[inline(always)]
+pub(crate) fn escape_last<V: Vector<N>, const MODE: u8, const N: usize>(
+    text: &[u8],
+    first: u64,
+    last: u64,
     target: &mut Target<'_, N>,
-    start: usize,
     to: usize,
     ticks: &mut Ticks,
 ) -> usize
-    requires inside { at ≤ length src.now }
-    requires few { length src.now < at + N }
-    requires narrow { EXACT ≡ false → N ≤ 32 }
-    requires written { IsWrittenUpTo src.now target.old at start to }
-    requires room { to + room_from (mode_numbered MODE) src.now at ≤ length (bytes_of target.old) }
-    ensures stretch { Stretch (mode_numbered MODE) (rest_slack EXACT N) src.now
-        target.old target.new at (length src.now) to result }
-    ensures stored { stored_of target.new
-        ≤ stored_of target.old + run_count (mode_numbered MODE) (drop at src.now) + 1 }
-    ensures classified { ticks.new + stored_of target.old ≡ ticks.old + stored_of target.new }
+    requires flagged { AreLast (mode_numbered MODE) N text.now (bits_of 64 first) (bits_of 64 last) }
+    requires room { to + 6 * length text.now + reach true N ≤ length (bytes_of target.old) }
+    ensures { Escapes (mode_numbered MODE) (reach true N) (length text.now) (length text.now / N + 1) (length text.now / N + 1) text.now target.old target.new 0 (length text.now) to result ticks.old ticks.new }
 {
-    if at == src.len() && 0 < at {
-        return to;
+    let count = text.len();
+    let rows = hold::<V, N>(text);
+    let held = rows.as_flattened();
+    let (next, end) = escape_by_mask::<V, MODE, N, true>(
+        held,
+        0,
+        count.min(N),
+        first,
+        target,
+        to,
+        ticks,
+    );
+    if count <= next {
+        return end;
     }
-    let (v, mask) = load_rest::<V, MODE, N>(src, at, ticks);
-    if !mask.all_zero() {
-        let left = src.len() - at;
-        return last_apart::<V, MODE, N, EXACT>(src, at, left, at, target, to, &v, mask, ticks).1;
+    let left = shift_lanes(last, next + N - count);
+    escape_by_mask::<V, MODE, N, true>(held, next, count - next, left, target, end, ticks).1
+}
+
+/// The flags of a text's last bytes, fewer than two vectors have: of their first vector, and where they are more than
+/// one has, of their last one.
+#[derive(Drop)]
+pub(crate) struct LastFlags {
+    pub first: u64,
+    pub last: u64,
+}
+
+/// Stores the text's bytes from `at` on, fewer than two vectors have, where none of them needs an escape. Returns the
+/// place after them, and else their flags.
+#[inline(always)]
+pub(crate) fn store_last<V: Vector<N>, const MODE: u8, const N: usize>(
+    src: &[u8],
+    at: usize,
+    target: &mut Target<'_, N>,
+    to: usize,
+    ticks: &mut Ticks,
+) -> Result<usize, LastFlags>
+    requires { HasRest N src.now at to (length (bytes_of target.old)) }
+    ensures clean { IfOk result (λ end. Escapes (mode_numbered MODE) (reach true N) (length src.now) ((length src.now - at) / N + 1) 0 src.now target.old target.new at (length src.now) to end ticks.old ticks.new) }
+    ensures flagged { IfErr result (λ flags. AreLast (mode_numbered MODE) N (drop at src.now) (bits_of 64 flags.first) (bits_of 64 flags.last)) }
+    ensures unchanged { OnErr result (IsAsked N (length src.now - at) target.old target.new ticks.old ticks.new) }
+{
+    let count = src.len() - at;
+    if count < N {
+        let v = V::load_last(src, count);
+        let first = v.flags(MODE, ticks).bits().clear_high_bits(64 - count);
+        if !first.all_zero() {
+            return Err(LastFlags { first, last: 0 });
+        }
+        store_lanes::<V, N, true>(&v, &src[at..], target, to);
+        return Ok(to + count);
     }
-    if N <= at && to == start + at {
-        return pass_over::<V, MODE, N>(src, at, &mask, target, start);
+    let last = src.len() - N;
+    let flags1 = flags_at::<V, MODE, N>(src, at, ticks);
+    let flags2 = flags_at::<V, MODE, N>(src, last, ticks);
+    if !flags1.join(&flags2).none() {
+        return Err(LastFlags {
+            first: flags1.bits(),
+            last: flags2.bits(),
+        });
     }
-    if at == 0 && N / 2 <= src.len() {
-        return pass_rest::<V, MODE, N, true>(src, at, &v, &mask, target, to);
+    store::<V, N, true>(src, at, N, target, to);
+    store::<V, N, true>(src, last, N, target, to + (count - N));
+    Ok(to + count)
+}
+
+/// Escapes the text's bytes from `at` on, fewer than two vectors have. Returns the place after them.
+#[inline(always)]
+pub(crate) fn rest<V: Vector<N>, const MODE: u8, const N: usize>(
+    src: &[u8],
+    at: usize,
+    target: &mut Target<'_, N>,
+    to: usize,
+    ticks: &mut Ticks,
+) -> usize
+    requires { HasRest N src.now at to (length (bytes_of target.old)) }
+    ensures { Escapes (mode_numbered MODE) (reach true N) (length src.now) ((length src.now - at) / N + 1) 0 src.now target.old target.new at (length src.now) to result ticks.old ticks.new }
+{
+    match store_last::<V, MODE, N>(src, at, target, to, ticks) {
+        Ok(end) => end,
+        Err(flags) => escape_last::<V, MODE, N>(
+            &src[at..],
+            flags.first,
+            flags.last,
+            target,
+            to,
+            ticks,
+        ),
     }
-    pass_rest::<V, MODE, N, EXACT>(src, at, &v, &mask, target, to)
 }

@@ -44,5 +44,5 @@ pub fn script_mask(v: &Simd256u, ticks: &mut Ticks) -> u32
     ensures lanes { ⟦<u32 as BitMask>⟧.bits result ≡ map (needs_escape script) (⟦<Simd256u as Simd>⟧.lanes v.now) }
     ensures tick { ticks.new ≡ ticks.old + 1 }
 {
-    script_flags(v, ticks).bitmask()
+    lanes::flag_bits(&script_flags(v, ticks).lanes) as u32
 }

@@ -44,5 +44,5 @@ pub fn script_mask(v: &Simd512u, ticks: &mut Ticks) -> u64
     ensures lanes { ⟦<u64 as BitMask>⟧.bits result ≡ map (needs_escape script) (⟦<Simd512u as Simd>⟧.lanes v.now) }
     ensures tick { ticks.new ≡ ticks.old + 1 }
 {
-    script_flags(v, ticks).bitmask()
+    script_flags(v, ticks).bits()
 }

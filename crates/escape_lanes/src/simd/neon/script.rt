@@ -7,7 +7,7 @@ ghost use Rattle.escape_lanes.specs.Replacement.{needs_escape};
 use crate::simd::bits::NeonBits;
 use crate::simd::flags::Flags;
 use crate::simd::lanes;
-use crate::simd::neon::{Flags128, Simd128u, by_high_half, by_low_half};
+use crate::simd::neon::{Flags128, Simd128u, bits, by_high_half, by_low_half};
 use crate::simd::target::Ticks;
 use crate::simd::traits::{BitMask, Simd};
 use crate::tables::{SCRIPT_HI_NIBBLE_TAB, SCRIPT_LO_NIBBLE_TAB};
@@ -45,5 +45,5 @@ pub fn script_mask(v: &Simd128u, ticks: &mut Ticks) -> NeonBits
     ensures lanes { ⟦<NeonBits as BitMask>⟧.bits result ≡ map (needs_escape script) (⟦<Simd128u as Simd>⟧.lanes v.now) }
     ensures tick { ticks.new ≡ ticks.old + 1 }
 {
-    script_flags(v, ticks).bitmask()
+    bits(&lanes::flag_mask(&script_flags(v, ticks).lanes))
 }

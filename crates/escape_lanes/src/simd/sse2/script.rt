@@ -5,6 +5,7 @@ ghost use Rattle.escape_lanes.specs.Mode.{script};
 ghost use Rattle.escape_lanes.specs.Replacement.{needs_escape};
 
 use crate::simd::flags::Flags;
+use crate::simd::lanes;
 use crate::simd::neon::script_needs;
 use crate::simd::sse2::{Flags128, Simd128u};
 use crate::simd::target::Ticks;
@@ -30,5 +31,5 @@ pub fn script_mask(v: &Simd128u, ticks: &mut Ticks) -> u16
     ensures lanes { ⟦<u16 as BitMask>⟧.bits result ≡ map (needs_escape script) (⟦<Simd128u as Simd>⟧.lanes v.now) }
     ensures tick { ticks.new ≡ ticks.old + 1 }
 {
-    script_flags(v, ticks).bitmask()
+    lanes::flag_bits(&script_flags(v, ticks).lanes) as u16
 }

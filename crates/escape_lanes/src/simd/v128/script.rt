@@ -8,7 +8,7 @@ ghost use Rattle.escape_lanes.specs.Words.{lanes_of_word};
 use crate::simd::flags::Flags;
 use crate::simd::target::Ticks;
 use crate::simd::traits::{BitMask, Simd};
-use crate::simd::v128::{Flags128, Simd128u, sums};
+use crate::simd::v128::{Flags128, Simd128u, lane_bits, sums};
 
 /// Flags where a script literal has to look at the byte, in one word.
 ///
@@ -47,5 +47,5 @@ pub fn script_mask(v: &Simd128u, ticks: &mut Ticks) -> u16
     ensures lanes { ⟦<u16 as BitMask>⟧.bits result ≡ map (needs_escape script) (⟦<Simd128u as Simd>⟧.lanes v.now) }
     ensures tick { ticks.new ≡ ticks.old + 1 }
 {
-    script_flags(v, ticks).bitmask()
+    lane_bits(&script_flags(v, ticks))
 }

@@ -1,6 +1,4 @@
-use Rattle.std.proofs.Common.{subst, sym}
-use Rattle.escape_lanes.specs.Mode.{html}
-use Rattle.escape_simd.specs.Escaping.{IsEscaping}
+use Rattle.escape_simd.proofs.Words.{subst, sym, html, IsEscaping}
 use Rattle.escape_simd.proofs.format.format_html_str.Goals as goal
 
 pub returns : goal.returns

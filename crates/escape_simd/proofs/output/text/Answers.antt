@@ -1,4 +1,4 @@
-use Rattle.std.proofs.Common.{ap, ◌∙◌, refl, arith}
+use Rattle.std.proofs.Common.{ap, ◌∙◌, arith}
 use Rattle.escape_simd.proofs.OutputLemmas.{IsTextOf-chars, IsUtf8-output, IsOnlyOutput-output, IsOfOneText-output, HasOutputLength-output, JoinsTexts-output}
 use Rattle.escape_simd.proofs.output.text.Goals as goal
 
@@ -30,5 +30,4 @@ returns-clause-len g c =
     HasOutputLength-output _ _ _ (ap (λ v. v.items) c.from_utf8_unchecked.ensures.value ∙ bytes)
 
 pub returns-in_default-clause-too_large : goal.returns-in_default-clause-too_large
-returns-in_default-clause-too_large g c =
-    let passes = c.in_default.ensures.passes.0 refl in (λ _. omega (arith, passes), λ _. refl)
+returns-in_default-clause-too_large g c = grind arith

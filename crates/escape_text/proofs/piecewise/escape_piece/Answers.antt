@@ -1,5 +1,6 @@
 use Rattle.std.proofs.Common.{IsUtf8, sym, subst, arith}
 use Rattle.escape_simd.specs.Modes.{mode_numbered}
+use Rattle.escape_simd.proofs.Texts.{length-inner}
 use Rattle.escape_text.proofs.ToWrite.{IsUtf8-piece, length-quote_if, piece-whole}
 use Rattle.escape_text.proofs.piecewise.escape_piece.Goals as goal
 
@@ -11,8 +12,8 @@ write_inner-end-requires g c =
 pub quote_at-close-requires : goal.quote_at-close-requires
 quote_at-close-requires g c =
     let mode = mode_numbered g.row.MODE in
-    let quote = length-quote_if mode c.args.first in
-    omega (arith, quote, c.quote_at-open.ensures.end, c.write_inner-end.ensures.end, c.requires)
+    let quote = length-quote_if mode c.args.first in let most = (length-inner mode c.args.piece.now).1 in
+    omega (arith, quote, most, c.quote_at-open.ensures.end, c.write_inner-end.ensures.end, c.requires)
 
 pub from_utf8_unchecked-requires : goal.from_utf8_unchecked-requires
 from_utf8_unchecked-requires g c =

@@ -1,7 +1,5 @@
-use Rattle.std.proofs.Common.{Err, [], ap, ℕ, List, length, Bor}
+use Rattle.escape_simd.proofs.Words.{Err, [], ap, ℕ, List, length, Bor, html, bound}
 use Rattle.std.proofs.lemmas.Option.{slice_get-get_or}
-use Rattle.escape_lanes.specs.Mode.{html}
-use Rattle.escape_simd.specs.Output.{bound}
 use Rattle.escape_simd.proofs.JoinedLemmas.{written_more, each_more}
 use Rattle.escape_simd.proofs.html.each.escape_html_each.Goals as goal
 

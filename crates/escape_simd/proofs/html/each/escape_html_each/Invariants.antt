@@ -1,7 +1,4 @@
-use Rattle.std.proofs.Common.{◌≡◌, ℕ, ◌<◌, ◌≤◌, ◌++◌, List, length, map, take, slice_index_or, Bor}
-use Rattle.std.specs.List.{concat}
-use Rattle.escape_lanes.specs.Mode.{html}
-use Rattle.escape_simd.specs.Output.{plain, bound}
+use Rattle.escape_simd.proofs.Words.{◌≡◌, ℕ, ◌<◌, ◌≤◌, ◌++◌, List, length, map, take, slice_index_or, Bor, concat, html, plain, bound}
 use Rattle.escape_simd.proofs.html.each.escape_html_each.Given as goal
 
 -- the texts so far are written, and none of them was too large

@@ -1,6 +1,4 @@
-use Rattle.std.proofs.Common.{◌≡◌, ◌+◌, get_or, arith}
-use Rattle.std.proofs.lemmas.Bool.Decides.{nat_tests}
-use Rattle.std.proofs.lemmas.List.{get_or_past}
+use Rattle.escape_simd.proofs.Words.{arith, nat_tests, get_or_past}
 use Rattle.escape_simd.proofs.Escapes.{begins-at}
 use Rattle.escape_simd.proofs.simd.entry.is_separator.Goals as goal
 
@@ -8,10 +6,7 @@ pub returns-then-src-at : goal.returns-then-src-at
 returns-then-src-at c = let e = begins-at c.args.src.now c.args.at in grind (arith, nat_tests, e)
 
 pub returns-then-src-at-lt3 : goal.returns-then-src-at-lt3
-returns-then-src-at-lt3 c =
-    let e = begins-at c.args.src.now c.args.at in
-    let none : get_or c.args.src.now (c.args.at + 2) 0 ≡ 0 = get_or_past c.args.src.now (c.args.at + 2) 0 (omega (arith, c.if-src-at-lt3.true)) in
-    grind (arith, nat_tests, e, none)
+returns-then-src-at-lt3 c = grind (arith, nat_tests, begins-at, get_or_past)
 
 pub returns-then-third : goal.returns-then-third
 returns-then-third c = let e = begins-at c.args.src.now c.args.at in grind (arith, nat_tests, e)

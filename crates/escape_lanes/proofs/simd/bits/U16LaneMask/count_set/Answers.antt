@@ -1,6 +1,0 @@
-use Rattle.std.proofs.Common.{arith}
-use Rattle.escape_lanes.proofs.HeldLemmas.{ones-bits}
-use Rattle.escape_lanes.proofs.simd.bits.U16LaneMask.count_set.Goals as goal
-
-pub returns : goal.returns
-returns c = ones-bits 16 c.args.self.now (omega arith)

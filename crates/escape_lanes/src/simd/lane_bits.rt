@@ -1,0 +1,49 @@
+//! The flags of a vector as a number, a bit for each lane: how a body goes through them.
+ghost use Rattle.std.specs.Prelude.{◌≡◌, ◌+◌, ◌*◌, ◌<◌, ◌≤◌, ◌++◌, false, take, drop, replicate};
+ghost use Rattle.escape_lanes.specs.Bits.{bits_of, first_set, none_set, clear_first, gaps};
+
+use crate::simd::traits::BitMask;
+
+/// Returns the flags without the first one. Some lane is flagged.
+///
+/// Of `0b0110` that is `0b0100`.
+#[inline(always)]
+pub fn clear_first_lane(flags: u64) -> u64
+    requires { none_set (bits_of 64 flags) ≡ false }
+    ensures { bits_of 64 result ≡ clear_first (first_set (bits_of 64 flags) + 1) (bits_of 64 flags) }
+{
+    flags & (flags - 1)
+}
+
+/// Returns the flags from lane `count` on, moved to the first lanes.
+///
+/// `count` is below 64. Of `0b0110` and 1 that is `0b0011`.
+#[inline(always)]
+pub fn shift_lanes(flags: u64, count: usize) -> u64
+    requires { count < 64 }
+    ensures { bits_of 64 result ≡ drop count (bits_of 64 flags) ++ replicate count false }
+{
+    flags >> count
+}
+
+/// Returns the eight flags from lane `8 * at` on. `at` is below 8.
+#[inline(always)]
+pub fn eight_lanes(flags: u64, at: usize) -> u8
+    requires { at < 8 }
+    ensures { bits_of 8 result ≡ take 8 (drop (8 * at) (bits_of 64 flags)) }
+{
+    ((flags >> (8 * at)) & 0xff) as u8
+}
+
+/// Returns how many of the first `count` lanes are not flagged and follow one that is: where runs end.
+///
+/// `count` is at most 64. Of `0b0110` and 4 that is 1, and of `0b0110` and 3 it is 0.
+#[inline(always)]
+pub fn count_gaps(flags: u64, count: usize) -> usize
+    requires { count ≤ 64 }
+    ensures { result ≡ gaps false (take count (bits_of 64 flags)) }
+{
+    (!flags & (flags << 1))
+        .clear_high_bits(64 - count)
+        .count_ones() as usize
+}

@@ -1,0 +1,209 @@
+-- A vector of a text as a whole: stored where it is clean, and what blocks cost.
+use Rattle.std.proofs.Common.{◌≡◌, ℕ, ◌+◌, ◌-◌, ◌/◌, ◌<◌, ◌≤◌, Bool, true, false, List, ◌++◌, length, length-drop, length-take-le, map, replicate, take, drop, get_or, refl, sym, ap, subst, ◌∙◌, arith, inl, inr}
+use Rattle.escape_simd.proofs.Words.{cases_Bool, drop-drop, get_or-drop, get_or-take, take-take, bits_of, gaps, length-bits_of, none_set, Mode, script, needs_escape, replacement, bytes_of, stored_of, Target, inner, passed, escaped_count, run_count, AreShort, Escapes, HasVectors, HoldsFlags, IsStored, IsVectorAt, Passed, Stretch}
+use Rattle.escape_simd.proofs.Escapes.{other-byte, passed-alone}
+use Rattle.escape_simd.proofs.Gaps.{gaps-paid_mask}
+use Rattle.escape_simd.proofs.Lanes.{CleanFrom, held-shifted, held-whole, none_clean}
+use Rattle.escape_simd.proofs.RestSteps.{rest-is}
+use Rattle.escape_simd.proofs.Stretches.{onward, onward_to, stored_ahead, widened}
+use Rattle.escape_simd.proofs.Texts.{passed_clean-here}
+use Rattle.escape_simd.proofs.Turns.{ahead-front, ahead-passed, ahead-runs}
+
+-- just up to a border
+pub passed-to : (mode : Mode) (src : List ℕ) (border : ℕ) → Passed mode src border border
+passed-to mode src border = record {
+  whole = omega arith;
+  near = omega arith;
+  exact = λ bytewise. refl;
+  clean = λ p late early. absurd (omega (arith, late, early));
+}
+
+-- clean bytes that were stored are passed
+pub clean-stored : {N : ℕ} (mode : Mode) (slack : ℕ) (src : List ℕ) (old new : Target N) (at valid to : ℕ) → at + valid ≤ length src → CleanFrom mode src at (at + valid) → IsStored slack src old new at valid to
+    → Stretch mode slack src old new at (at + valid) to (to + valid)
+clean-stored mode slack src old new at valid to inside clean s =
+    let ahead = ahead-front mode src new at (at + valid) to valid (omega arith) s.ahead in
+    let all : at + valid - at ≡ valid = omega arith in
+    onward_to slack (stored_ahead mode slack src old new at valid to s (omega (arith, inside)))
+    (subst (λ k. Stretch mode slack src new new at (at + valid) to (to + k)) all (ahead-passed mode slack src new at (at + valid) (at + valid) to ahead (omega arith) (omega arith) inside clean))
+    (omega arith) (omega arith)
+
+-- a clean vector was stored
+pub vector-clean : {N : ℕ} (mode : Mode) (slack : ℕ) (src : List ℕ) (old new : Target N) (at valid to ticks : ℕ) → at + valid ≤ length src → CleanFrom mode src at (at + valid)
+    → IsStored slack src old new at valid to → Escapes mode slack (at + valid) 1 1 src old new at (at + valid) to (to + valid) ticks ticks
+vector-clean mode slack src old new at valid to ticks inside clean s =
+    let same = ahead-runs mode src at (at + valid) (omega arith) clean in
+    record {
+      stretch = clean-stored mode slack src old new at valid to inside clean s;
+      passed = passed-to mode src (at + valid);
+      cost = record {
+        stored = omega (arith, s.stored, same);
+        covered = omega (arith, s.stored);
+        classified = omega (arith, same);
+      };
+    }
+
+-- one stretch of vectors, and then the next
+pub escapes-onward : {N : ℕ} {mode : Mode} {slack border border2 v1 v2 a1 a2 : ℕ} {src : List ℕ} {old mid new : Target N} {at i next to p end t0 t1 t2 : ℕ}
+    → Escapes mode slack border v1 a1 src old mid at i to p t0 t1 → Escapes mode slack border2 v2 a2 src mid new i next p end t1 t2 → Escapes mode slack border2 (v1 + v2) (a1 + a2) src old new at next to end t0 t2
+escapes-onward a b = record {
+  stretch = onward a.stretch b.stretch;
+  passed = b.passed;
+  cost = record {
+    stored = omega (arith, a.cost.stored, b.cost.stored);
+    covered = omega (arith, a.cost.covered, b.cost.covered);
+    classified = omega (arith, a.cost.classified, b.cost.classified);
+  };
+}
+
+-- the same from, to and past places that are equal
+pub escapes-begun : {N : ℕ} {mode : Mode} {slack border vectors asked : ℕ} {src : List ℕ} {old new : Target N} {at i next to p end t0 t1 : ℕ}
+    → at ≡ i → to ≡ p → Escapes mode slack border vectors asked src old new at next to end t0 t1 → Escapes mode slack border vectors asked src old new i next p end t0 t1
+escapes-begun {N} {mode} {slack} {border} {vectors} {asked} {src} {old} {new} {at} {i} {next} {to} {p} {end} {t0} {t1} e f s =
+    subst (λ k. Escapes mode slack border vectors asked src old new i next k end t0 t1) f (subst (λ k. Escapes mode slack border vectors asked src old new k next to end t0 t1) e s)
+
+pub escapes-bordered : {N : ℕ} {mode : Mode} {slack border b vectors asked : ℕ} {src : List ℕ} {old new : Target N} {at next to end t0 t1 : ℕ}
+    → border ≡ b → Escapes mode slack border vectors asked src old new at next to end t0 t1 → Escapes mode slack b vectors asked src old new at next to end t0 t1
+escapes-bordered {N} {mode} {slack} {border} {b} {vectors} {asked} {src} {old} {new} {at} {next} {to} {end} {t0} {t1} e s = subst (λ k. Escapes mode slack k vectors asked src old new at next to end t0 t1) e s
+
+pub escapes-ended : {N : ℕ} {mode : Mode} {slack border b vectors asked : ℕ} {src : List ℕ} {old new : Target N} {at next i to end p t0 t1 : ℕ}
+    → border ≡ b → next ≡ i → end ≡ p → Escapes mode slack border vectors asked src old new at next to end t0 t1 → Escapes mode slack b vectors asked src old new at i to p t0 t1
+escapes-ended {N} {mode} {slack} {border} {b} {vectors} {asked} {src} {old} {new} {at} {next} {i} {to} {end} {p} {t0} {t1} e f h s =
+    subst (λ k. Escapes mode slack b vectors asked src old new at i to k t0 t1) h (subst (λ k. Escapes mode slack b vectors asked src old new at k to end t0 t1) f (escapes-bordered e s))
+
+-- the vectors that were classified before, counted with them
+pub escapes-asked : {N : ℕ} {mode : Mode} {slack border vectors : ℕ} {src : List ℕ} {old new : Target N} {at next to end t1 t2 : ℕ} (t0 asked : ℕ)
+    → t1 ≡ t0 + asked → Escapes mode slack border vectors asked src old new at next to end t1 t2 → Escapes mode slack border vectors 0 src old new at next to end t0 t2
+escapes-asked t0 asked e s = record {
+  stretch = s.stretch;
+  passed = s.passed;
+  cost = record {
+    stored = s.cost.stored;
+    covered = omega (arith, e, s.cost.covered);
+    classified = omega (arith, e, s.cost.classified);
+  };
+}
+
+-- what escaped a text from a place on, as a text of its own
+pub escapes-later : {N : ℕ} {mode : Mode} {slack border vectors asked : ℕ} {old new : Target N} {next to end t0 t1 : ℕ} (src text : List ℕ) (at : ℕ) → text ≡ drop at src → at ≤ length src
+    → Escapes mode slack border vectors asked text old new 0 next to end t0 t1 → Escapes mode slack (at + border) vectors asked src old new at (at + next) to end t0 t1
+escapes-later {N} {mode} {slack} {border} {vectors} {asked} {old} {new} {next} {to} {end} {t0} {t1} src text at is inside given =
+    let e = subst (λ xs. Escapes mode slack border vectors asked xs old new 0 next to end t0 t1) is given in
+    let s = e.stretch in let p = e.passed in let count = length-drop at src in
+    let there : drop next (drop at src) ≡ drop (at + next) src = drop-drop next at src in
+    let r0 = rest-is mode (drop at src) 0 in let r1 = rest-is mode (drop at src) next ∙ ap (λ xs. length (inner mode xs)) there in
+    let q0 = rest-is mode src at in let q1 = rest-is mode src (at + next) in
+    let c = ap (escaped_count mode) there in let u = ap (run_count mode) there in
+    record {
+      stretch = record {
+        same_slice = s.same_slice;
+        forward = omega arith;
+        inside = omega (arith, s.inside, count, inside);
+        limit = omega (arith, s.limit, r0, r1, q0, q1);
+        bytes = ap (λ xs. take end (bytes_of new) ++ inner mode xs) (sym there) ∙ s.bytes;
+        kept = s.kept;
+        escaped = omega (arith, s.escaped, c);
+        quotes = s.quotes;
+        writes = s.writes;
+      };
+      passed = record {
+        whole = omega (arith, p.whole);
+        near = omega (arith, p.near);
+        exact = λ bytewise. ap (λ k. at + k) (p.exact bytewise);
+        clean = λ i late early.
+            let e2 : at + (i - at) ≡ i = omega (arith, late) in
+            ap (needs_escape mode) (ap (λ k. get_or src k 0) (sym e2) ∙ sym (get_or-drop at src (i - at) 0)) ∙ p.clean (i - at) (omega (arith, late)) (omega (arith, early, late));
+      };
+      cost = record {
+        stored = omega (arith, e.cost.stored, u);
+        covered = e.cost.covered;
+        classified = omega (arith, e.cost.classified, u);
+      };
+    }
+
+-- a mask of a text's bytes from a place on, as one of a text of their own
+pub holds-from : (mode : Mode) (src : List ℕ) (at i valid from start : ℕ) (bits : List Bool) → start ≡ at + from → HoldsFlags mode src (at + i) valid start bits → HoldsFlags mode (drop at src) i valid from bits
+holds-from mode src at i valid from start bits begins h = record {
+  set = λ k s.
+      let t = h.set k s in let e : at + (i + k) ≡ at + i + k = omega arith in
+      (t.0, ap (needs_escape mode) (get_or-drop at src (i + k) 0 ∙ ap (λ j. get_or src j 0) e) ∙ t.1);
+  unset = λ k s later few.
+      let e : at + (i + k) ≡ at + i + k = omega arith in
+      ap (needs_escape mode) (get_or-drop at src (i + k) 0 ∙ ap (λ j. get_or src j 0) e) ∙ h.unset k s (omega (arith, later, begins)) few;
+}
+
+-- a vector of a text, as the first of a text of its own
+pub vector-later : (mode : Mode) (n slack : ℕ) (src text : List ℕ) (at valid to size : ℕ) (bits : List Bool) → text ≡ drop at src → IsVectorAt mode n slack src at valid to size bits → IsVectorAt mode n slack text 0 valid to size bits
+vector-later mode n slack src text at valid to size bits is v =
+    let count = length-drop at src in let here : at ≡ at + 0 = omega arith in
+    subst (λ xs. IsVectorAt mode n slack xs 0 valid to size bits) (sym is) (record {
+      flags = holds-from mode src at 0 valid 0 at bits here (subst (λ i. HoldsFlags mode src i valid at bits) here v.flags);
+      few = v.few;
+      inside = omega (arith, v.inside, count);
+      room = v.room;
+    })
+
+-- a vector of which what came before it may have passed some bytes
+pub vector-left : (mode : Mode) (n : ℕ) (src : List ℕ) (at from to size : ℕ) (bits : List Bool) → 16 ≤ n → HoldsFlags mode src at n at bits → Passed mode src at from → HasVectors n 1 src at from to size
+    → IsVectorAt mode n n src from (n - (from - at)) to size (drop (from - at) bits ++ replicate (from - at) false)
+vector-left mode n src at from to size bits several held p v =
+    let there : at + (from - at) ≡ from = omega (arith, p.whole) in
+    record {
+      flags = subst (λ k. HoldsFlags mode src k (n - (from - at)) k (drop (from - at) bits ++ replicate (from - at) false)) there (held-shifted mode src at n at bits held (from - at) (omega (arith, p.near, several)) (omega arith));
+      few = omega arith;
+      inside = omega (arith, v.inside, p.whole, p.near, several);
+      room = omega (arith, v.room, p.whole, p.near, several);
+    }
+
+-- a vector's flags as a number
+pub mask-held : (mode : Mode) (n : ℕ) (src : List ℕ) (at : ℕ) (truths bits : List Bool) → n ≤ 64 → at + n ≤ length src → truths ≡ map (needs_escape mode) (take n (drop at src)) → bits ≡ truths ++ replicate (64 - n) false → HoldsFlags mode src at n at bits
+mask-held mode n src at truths bits narrow inside flagged is =
+    grind (arith, length-take-le {A = ℕ}, length-drop {A = ℕ}, held-whole, take-take)
+
+-- a vector with no flag is clean
+pub flags-clean : (mode : Mode) (n : ℕ) (src : List ℕ) (at : ℕ) (truths : List Bool) → at + n ≤ length src → truths ≡ map (needs_escape mode) (take n (drop at src)) → none_set truths ≡ true → CleanFrom mode src at (at + n)
+flags-clean mode n src at truths inside flagged none p after before =
+    let l = length-take-le n (drop at src) (omega (arith, length-drop at src, inside)) in
+    let e : at + (p - at) ≡ p = omega (arith, after) in
+    ap (needs_escape mode) (ap (λ k. get_or src k 0) (sym e) ∙ sym (get_or-drop at src (p - at) 0) ∙ sym (get_or-take n (drop at src) (p - at) 0 (omega (arith, after, before))))
+    ∙ none_clean mode (take n (drop at src)) (ap none_set (sym flagged) ∙ none) (p - at) (omega (arith, l, after, before))
+
+-- in script, e2 is one byte
+e2_count : length (replacement script 226) ≡ 1
+unfolding replacement
+e2_count = refl
+
+-- no separator begins with a byte for which two stand
+not_lead : (mode : Mode) (src : List ℕ) (p : ℕ) → length (replacement mode (get_or src p 0)) ≡ 2 → passed mode (drop p src) ≡ 1
+not_lead script src p two = grind (arith, passed-alone, other-byte, e2_count)
+not_lead mode src p two = refl
+
+-- a vector was escaped by blocks, whose stores its runs pay for
+pub vector-blocks : {N : ℕ} (mode : Mode) (slack : ℕ) (src : List ℕ) (old new : Target N) (at valid to end size : ℕ) (flags ticks_old ticks_new : ℕ) → IsVectorAt mode N slack src at valid to size (bits_of 64 flags) → AreShort mode N src at (bits_of 64 flags)
+    → N ≤ 64 → 16 ≤ N → 16 ≤ slack → N / 8 - 2 ≤ gaps false (take valid (bits_of 64 flags))
+    → Stretch mode 16 src old new at (at + valid) to end → stored_of new + 1 ≤ stored_of old + N / 8 → ticks_new ≡ ticks_old + (N / 8 - 2)
+    → Escapes mode slack (at + valid) 1 1 src old new at (at + valid) to end ticks_old ticks_new
+vector-blocks {N} mode slack src old new at valid to end size flags ticks_old ticks_new v short narrow several far paid s stored ticks =
+    let bits = bits_of 64 flags in
+    let told : (k : ℕ) → k < valid → get_or bits k false ≡ needs_escape mode (get_or src (at + k) 0) = λ k h.
+    elim (cases_Bool (get_or bits k false)) [
+      | inl set ↦ set ∙ sym (v.flags.set k set).1
+      | inr unset ↦ unset ∙ sym (v.flags.unset k unset (omega arith) h)
+    ] in
+    let alone : (p : ℕ) → at ≤ p → p < at + valid → passed mode (drop p src) ≡ 1 = λ p after before.
+    let e : at + (p - at) ≡ p = omega (arith, after) in
+    elim (cases_Bool (get_or bits (p - at) false)) [
+      | inl set ↦ not_lead mode src p (ap (λ k. length (replacement mode (get_or src k 0))) (sym e) ∙ short (p - at) (omega (arith, after, before, v.few)) set (v.flags.set (p - at) set).1)
+      | inr unset ↦ passed_clean-here mode src p (omega (arith, before, v.inside)) (ap (λ k. needs_escape mode (get_or src k 0)) (sym e) ∙ v.flags.unset (p - at) unset (omega (arith, after)) (omega (arith, after, before)))
+    ] in
+    let runs = gaps-paid_mask mode src bits at valid (omega (arith, v.inside)) (omega (arith, length-bits_of 64 flags, v.few, narrow)) told alone in
+    let eight : 2 ≤ N / 8 = omega (arith, several) in
+    record {
+      stretch = widened slack far s;
+      passed = passed-to mode src (at + valid);
+      cost = record {
+        stored = omega (arith, stored, paid, runs, eight);
+        covered = omega (arith, stored, ticks, eight);
+        classified = omega (arith, ticks, paid, runs, eight);
+      };
+    }

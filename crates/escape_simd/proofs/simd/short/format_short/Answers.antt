@@ -1,9 +1,0 @@
-use Rattle.std.proofs.Common.{rules}
-use Rattle.escape_simd.proofs.OutputLemmas.{IsOnlyOutput-output, IsOfOneText-output}
-use Rattle.escape_simd.proofs.simd.short.format_short.Goals as goal
-
-pub returns-clause-headline : goal.returns-clause-headline
-returns-clause-headline g c = IsOnlyOutput-output _ _ _ (search rules) c.utf8.value
-
-pub returns-clause-equal_texts : goal.returns-clause-equal_texts
-returns-clause-equal_texts g c = IsOfOneText-output _ _ _ (search rules) c.utf8.value

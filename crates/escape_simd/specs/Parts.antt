@@ -1,0 +1,28 @@
+-- A text that is escaped part by part, and what is told of it before it is written.
+use Rattle.std.specs.Prelude.{◌≡◌, ℕ, ◌+◌, ◌*◌, ◌<◌, ◌≤◌, Bool, true, false, List, ◌++◌, length, take, drop, slice_index}
+use Rattle.std.specs.List.{count_by}
+use Rattle.escape_lanes.specs.Mode.{Mode}
+use Rattle.escape_lanes.specs.Replacement.{needs_escape}
+use Rattle.escape_simd.specs.Output.{inner}
+
+-- The first `next` bytes of a text were escaped to the bytes from `to` up to `end`: what is written and what is yet to be written
+-- stay one text. What lies `slack` bytes past all of it is left alone.
+pub record IsPartAt (mode : Mode) (slack : ℕ) (text old new : List ℕ) (next to end : ℕ) : Type 0 where
+  pub forward : 0 < next
+  pub inside : next ≤ length text
+  pub most : end ≤ to + 6 * next
+  pub fits : end ≤ length new
+  pub limit : end + length (inner mode (drop next text)) ≡ to + length (inner mode text)
+  pub bytes : take end new ++ inner mode (drop next text) ≡ take to old ++ inner mode text
+  pub kept : drop (to + length (inner mode text) + slack) new ≡ drop (to + length (inner mode text) + slack) old
+
+-- the answer whether none of a text's bytes from one place up to another needs an escape
+pub record IsAnswer (mode : Mode) (text : List ℕ) (at next : ℕ) (answer : Bool) : Type 0 where
+  pub clean : answer ≡ true → (k : ℕ) → at ≤ k → k < next → needs_escape mode (slice_index text k) ≡ false
+  pub flagged : answer ≡ false → 0 < count_by (needs_escape mode) text
+
+-- A text's bytes up to a place were appended as they are, and none of them needs an escape.
+pub record IsFront (mode : Mode) (text old new : List ℕ) (end : ℕ) : Type 0 where
+  pub inside : end ≤ length text
+  pub clean : (k : ℕ) → k < end → needs_escape mode (slice_index text k) ≡ false
+  pub appended : new ≡ old ++ take end text

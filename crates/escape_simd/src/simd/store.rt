@@ -1,0 +1,84 @@
+//! Vectors of a text, stored as they are.
+ghost use Rattle.std.specs.Prelude.{◌≡◌, ◌+◌, ◌≤◌, length, take, drop};
+ghost use Rattle.escape_lanes.specs.Written.{bytes_of};
+ghost use Rattle.escape_simd.specs.Stretch.{CanStore, IsStored, reach};
+
+use crate::simd::vector::Vector;
+use escape_lanes::simd::target::{Target, Ticks};
+
+/// How far a vector's store may reach past a text: kernels of more lanes store a text's last bytes exactly.
+const WIDEST_REACH: usize = 32;
+
+/// Stores a vector at `to`, whose first lanes are the bytes of `text`.
+///
+/// Where `LAST`, these are a text's last bytes, and the store reaches at most 32 bytes past them.
+#[inline]
+pub(crate) fn store_lanes<V: Vector<N>, const N: usize, const LAST: bool>(
+    v: &V,
+    text: &[u8],
+    target: &mut Target<'_, N>,
+    to: usize,
+)
+    requires few { length text.now ≤ N }
+    requires loaded { take (length text.now) (V.lanes v.now) ≡ text.now }
+    requires room { to + length text.now + reach LAST N ≤ length (bytes_of target.old) }
+    ensures { IsStored (reach LAST N) text.now target.old target.new 0 (length text.now) to }
+{
+    if LAST && WIDEST_REACH < N {
+        return target.put_front(to, text);
+    }
+    let mut lanes = [0u8; N];
+    v.put(&mut lanes);
+    target.put(to, &lanes);
+}
+
+/// Stores a vector that was loaded from the text's bytes at `from`, the first `left` of which are to be written at
+/// `to`.
+///
+/// Where `LAST`, these may be the text's last bytes.
+#[inline]
+pub(crate) fn store_loaded<V: Vector<N>, const N: usize, const LAST: bool>(
+    v: &V,
+    src: &[u8],
+    from: usize,
+    left: usize,
+    target: &mut Target<'_, N>,
+    to: usize,
+)
+    requires loaded { V.lanes v.now ≡ take N (drop from src.now) }
+    requires room { CanStore N (reach LAST N) src.now from left to (length (bytes_of target.old)) }
+    ensures { IsStored (reach LAST N) src.now target.old target.new from left to }
+{
+    store_lanes::<V, N, LAST>(v, &src[from..from + left], target, to);
+}
+
+/// As [`store_loaded`], with the vector loaded here.
+#[inline]
+pub(crate) fn store<V: Vector<N>, const N: usize, const LAST: bool>(
+    src: &[u8],
+    from: usize,
+    left: usize,
+    target: &mut Target<'_, N>,
+    to: usize,
+)
+    requires { CanStore N (reach LAST N) src.now from left to (length (bytes_of target.old)) }
+    ensures { IsStored (reach LAST N) src.now target.old target.new from left to }
+{
+    let v = V::load(src, from);
+    store_loaded::<V, N, LAST>(&v, src, from, left, target, to);
+}
+
+/// Classifies the text's vector at `from` for the count alone: what it answers is known from the mask that is held.
+///
+/// Nothing is left of it where it is built.
+#[inline]
+pub(crate) fn tick<V: Vector<N>, const MODE: u8, const N: usize>(
+    src: &[u8],
+    from: usize,
+    ticks: &mut Ticks,
+)
+    requires { from + N ≤ length src.now }
+    ensures { ticks.new ≡ ticks.old + 1 }
+{
+    let _ = V::load(src, from).flags(MODE, ticks);
+}

@@ -1,0 +1,171 @@
+//! The escapes of a vector in blocks: eight bytes at a time, with no question about a single one.
+ghost use Rattle.std.specs.Prelude.{◌≡◌, ◌≢◌, ℕ, ◌+◌, ◌-◌, ◌*◌, ◌/◌, ◌<◌, ◌≤◌, ◌++◌, false, true, List, [], length, take, drop, map, replicate, slice_index, slice_index_or};
+ghost use Rattle.escape_lanes.specs.Bits.{bits_of};
+ghost use Rattle.escape_lanes.specs.Lanes.{AreBytes};
+ghost use Rattle.escape_lanes.specs.Replacement.{needs_escape, replacement};
+ghost use Rattle.escape_lanes.specs.Written.{bytes_of, stored_of};
+ghost use Rattle.escape_simd.specs.Blocks.{IsBlock, shortened};
+ghost use Rattle.escape_simd.specs.Modes.{mode_numbered};
+ghost use Rattle.escape_simd.specs.Stretch.{AreShort, HasBlocks, Stretch};
+
+use crate::simd::entry::SEPARATOR_LEAD;
+use crate::simd::vector::{HTML_MODE, SCRIPT_MODE};
+use escape_lanes::simd::lane_bits::{eight_lanes, shift_lanes};
+use escape_lanes::simd::target::Target;
+use escape_lanes::tables::spread_row;
+use std::simd::prelude::*;
+
+/// For each control character below 0x10 the letter of its short escape, and 0 where it has none.
+const LETTERS: [u8; 16] = [
+    0, 0, 0, 0, 0, 0, 0, 0, b'b', b't', b'n', 0, b'f', b'r', 0, 0,
+];
+
+/// The first eight lanes of a vector, and eight of another.
+const FIRST: [usize; 16] = [0, 1, 2, 3, 4, 5, 6, 7, 16, 17, 18, 19, 20, 21, 22, 23];
+
+/// The last eight lanes of a vector, and eight of another.
+const LAST: [usize; 16] = [8, 9, 10, 11, 12, 13, 14, 15, 24, 25, 26, 27, 28, 29, 30, 31];
+
+/// The text's 16 bytes at `at`.
+#[inline(always)]
+fn load(src: &[u8], at: usize) -> u8x16
+    requires { at + 16 ≤ length src.now }
+    ensures { result ≡ take 16 (drop at src.now) }
+{
+    u8x16::from_slice(&src[at..])
+}
+
+/// The bytes, with the letter of its short escape in place of each control character that has one.
+#[inline(always)]
+fn shorten(bytes: u8x16) -> u8x16
+    requires { AreBytes 16 bytes }
+    ensures { result ≡ map shortened bytes }
+{
+    // A byte below 0x10 is its own place. That of any other is at least 0x80, where the look-up reads 0.
+    let places = bytes.saturating_add(u8x16::splat(0x70)) ^ u8x16::splat(0x70);
+    // A letter is more than the byte that it stands for.
+    bytes.simd_max(u8x16::from_array(LETTERS).swizzle_dyn(places))
+}
+
+/// The text's vector at `at`, shortened, 16 bytes at a time.
+///
+/// All of it is loaded here, before the first block is written: so it is not loaded again after that.
+#[inline(always)]
+fn shorten_vector<const N: usize>(src: &[u8], at: usize) -> [u8x16; 4]
+    requires width { N ≡ 16 * (N / 16) }
+    requires most { N ≤ 64 }
+    requires inside { at + N ≤ length src.now }
+    ensures { (k : ℕ) → 16 * k < N → slice_index_or result k [] ≡ map shortened (take 16 (drop (at + 16 * k) src.now)) }
+{
+    let mut pieces = [u8x16::splat(0); 4];
+    let mut next = 0;
+    'pieces: while 16 * next < N {
+        pieces[next] = shorten(load(src, at + 16 * next));
+        next += 1;
+    }
+    pieces
+}
+
+/// The two halves of the bytes, each with eight reverse solidi behind it.
+#[inline(always)]
+fn halves(bytes: u8x16) -> (u8x16, u8x16)
+    requires { length bytes ≡ 16 }
+    ensures first { result.0 ≡ take 8 bytes ++ replicate 8 0x5c }
+    ensures second { result.1 ≡ drop 8 bytes ++ replicate 8 0x5c }
+{
+    let solidi = u8x16::splat(b'\\');
+    (bytes.shuffle(solidi, FIRST), bytes.shuffle(solidi, LAST))
+}
+
+/// Writes the block's first eight bytes at `to`, a reverse solidus before each that is flagged. Returns the
+/// place after them.
+#[inline(always)]
+fn put_block<const N: usize>(
+    block: u8x16,
+    flags: u8,
+    target: &mut Target<'_, N>,
+    to: usize,
+) -> usize
+    requires whole { length block ≡ 16 }
+    requires solidi { drop 8 block ≡ replicate 8 0x5c }
+    requires room { to + 16 ≤ length (bytes_of target.old) }
+    ensures { IsBlock (bits_of 8 flags) (take 8 block) target.old target.new to result }
+{
+    let places = u8x16::from_array(*spread_row(flags));
+    let escapes = flags.count_ones() as usize;
+    target.put_block(to, &block.swizzle_dyn(places).to_array(), escapes);
+    to + 8 + escapes
+}
+
+/// A bit for each of the text's 16 bytes at `at` that has no short escape. Of the bytes that need no escape
+/// it has some, and others not.
+#[inline(always)]
+fn long_lanes<const MODE: u8>(src: &[u8], at: usize) -> u64
+    requires mode { MODE ≢ 1 }
+    requires inside { at + 16 ≤ length src.now }
+    ensures { (k : ℕ) → k < 16 → slice_index_or (bits_of 64 result) k false ≡ false
+        → needs_escape (mode_numbered MODE) (slice_index src.now (at + k)) ≡ true
+        → length (replacement (mode_numbered MODE) (slice_index src.now (at + k))) ≡ 2 }
+{
+    let bytes = shorten(load(src, at));
+    let control = bytes.simd_le(u8x16::splat(0x1f));
+    if MODE < SCRIPT_MODE {
+        return control.to_bitmask();
+    }
+    let angle = (bytes | u8x16::splat(2)).simd_eq(u8x16::splat(b'>'));
+    let ampersand = bytes.simd_eq(u8x16::splat(b'&'));
+    let lead = bytes.simd_eq(u8x16::splat(SEPARATOR_LEAD));
+    (control | angle | ampersand | lead).to_bitmask()
+}
+
+/// Returns whether what stands for each flagged byte of the text's vector at `at` is two bytes.
+#[inline(always)]
+pub(crate) fn are_short<const MODE: u8, const N: usize>(src: &[u8], at: usize, flags: u64) -> bool
+    requires width { N ≡ 16 * (N / 16) }
+    requires most { N ≤ 64 }
+    requires inside { at + N ≤ length src.now }
+    ensures { result ≡ true → AreShort (mode_numbered MODE) N src.now at (bits_of 64 flags) }
+{
+    if MODE == HTML_MODE {
+        return false;
+    }
+    let mut long = 0;
+    let mut next = 0;
+    'pieces: while next < N {
+        long |= long_lanes::<MODE>(src, at + next) & shift_lanes(flags, next);
+        next += 16;
+    }
+    long == 0
+}
+
+/// Escapes the first `valid` bytes of the text's vector at `at` in blocks of eight. Returns the place after
+/// them.
+///
+/// The last block may have bytes past them, which are not flagged: what it has of these is stepped back over.
+#[inline(always)]
+pub(crate) fn escape_blocks<const MODE: u8, const N: usize>(
+    src: &[u8],
+    at: usize,
+    valid: usize,
+    flags: u64,
+    target: &mut Target<'_, N>,
+    to: usize,
+) -> usize
+    requires { HasBlocks (mode_numbered MODE) N src.now at valid to (length (bytes_of target.old)) (bits_of 64 flags) }
+    ensures stretch { Stretch (mode_numbered MODE) 16 src.now target.old target.new at (at + valid) to result }
+    ensures stored { stored_of target.new + 1 ≤ stored_of target.old + N / 8 }
+{
+    let pieces = shorten_vector::<N>(src, at);
+    let mut end = to;
+    let mut block = 0;
+    'pieces: while 8 * block < valid {
+        let (first, second) = halves(pieces[block / 2]);
+        end = put_block(first, eight_lanes(flags, block), target, end);
+        if valid <= 8 * block + 8 {
+            return end - (8 * block + 8 - valid);
+        }
+        end = put_block(second, eight_lanes(flags, block + 1), target, end);
+        block += 2;
+    }
+    end - (8 * block - valid)
+}

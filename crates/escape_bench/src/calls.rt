@@ -1,5 +1,5 @@
 //! The calls that append, beside those that make the output in an array.
-use crate::texts::{CORPORA, Corpus, pieces, text_of};
+use crate::texts::{CORPORA, Corpus, RANGES, Range, pieces, text_of};
 use escape_simd::html::escape_html_into;
 use escape_simd::json::escape_into;
 use escape_text::{html, json};
@@ -21,8 +21,6 @@ const CALLS: [Call; 4] = [Call::Into, Call::IntoString, Call::Display, Call::ToW
 /// The names of the calls, in their order.
 pub const CALL_COLUMNS: &str = "into  string display  writer";
 
-const LENGTHS: [usize; 5] = [24, 64, 256, 1024, 65536];
-
 /// The bytes that are escaped in a round.
 const BYTES: usize = 65536;
 
@@ -37,11 +35,11 @@ struct Targets {
 
 /// Measures the calls on each corpus, and prints how many times as fast as the appending call each is.
 pub fn each_call(rt: &(impl Clock + Print + AllocGlobal)) -> Result<(), Fail> {
-    println!(rt; "mode corpus      bytes    {CALL_COLUMNS}")?;
+    println!(rt; "mode corpus   bytes       {CALL_COLUMNS}")?;
     for corpus in CORPORA {
         let whole = text_of(rt.alloc(), corpus, BYTES)?;
-        for len in LENGTHS {
-            each_mode(rt, corpus, whole.as_str(), len)?;
+        for range in RANGES {
+            each_mode(rt, corpus, whole.as_str(), range)?;
         }
     }
     Ok(())
@@ -51,12 +49,13 @@ fn each_mode(
     rt: &(impl Clock + Print + AllocGlobal),
     corpus: Corpus,
     whole: &str,
-    len: usize,
+    range: Range,
 ) -> Result<(), Fail> {
-    let texts = pieces(rt.alloc(), whole, len, BYTES)?;
+    let texts = pieces(rt.alloc(), whole, range)?;
+    let (shortest, longest) = (range.shortest, range.longest);
     for is_html in [false, true] {
         let mode = if is_html { "Html" } else { "Json" };
-        print!(rt; "{mode} {corpus:<8?} {len:>8}")?;
+        print!(rt; "{mode} {corpus:<8?} {shortest:>4}-{longest:<4}")?;
         let best = best_of_rounds(rt, is_html, texts.as_slice())?;
         for nanos in best {
             let of_first = best[0] as f64 / nanos as f64;

@@ -15,16 +15,11 @@ use per_byte::table_of;
 use std::env;
 use std::test::Fail;
 use std::time::Clock;
-use texts::{CORPORA, Corpus, pieces, text_of};
-use timing::{COLUMNS, Escaping, LONGEST, ROOM, agree, best_of_rounds};
+use texts::{CORPORA, Corpus, RANGES, pieces, text_of};
+use timing::{COLUMNS, Escaping, LONGEST, PASSES, ROOM, agree, best_of_rounds};
 
-const SIZES: [usize; 7] = [8, 24, 64, 256, 1024, 65536, 1048576];
-
-/// The sizes up to this one are compared also where nothing is measured.
-const ALWAYS_COMPARED: usize = 1024;
-
-/// Shorter texts are so many different ones that they make these bytes.
-const SPREAD: usize = 65536;
+/// The bytes of the texts that are compared where nothing is measured.
+const ALWAYS_COMPARED: usize = 8192;
 
 fn main(rt: HostRuntime) -> Result<(), Fail> {
     let mut words = env::args(&rt)?;
@@ -35,7 +30,7 @@ fn main(rt: HostRuntime) -> Result<(), Fail> {
     }
     let measures = is_word(&word, "measure");
     if measures {
-        println!(rt; "mode corpus      bytes   GB/s    {COLUMNS}")?;
+        println!(rt; "mode corpus   bytes       GB/s    {COLUMNS}")?;
     }
     for corpus in CORPORA {
         each_mode(&rt, corpus, measures)?;
@@ -57,7 +52,7 @@ fn longest_of(measures: bool) -> usize
     if measures { LONGEST } else { ALWAYS_COMPARED }
 }
 
-/// Runs all modes and sizes on the corpus.
+/// Runs all modes and ranges on the corpus.
 fn each_mode(
     rt: &(impl Clock + Print + AllocGlobal),
     corpus: Corpus,
@@ -74,13 +69,13 @@ fn each_mode(
     };
     let wanted = wanted.as_mut_slice();
     for mode in MODES {
-        each_size(rt, mode, corpus, text, wanted, dst)?;
+        each_range(rt, mode, corpus, text, wanted, dst)?;
     }
     Ok(())
 }
 
-/// Compares what the ways write for texts of each size, and measures them where the text is the longest.
-fn each_size(
+/// Compares what the ways write for texts of each range, and measures them where the text is the longest.
+fn each_range(
     rt: &(impl Clock + Print + AllocGlobal),
     mode: Mode,
     corpus: Corpus,
@@ -97,17 +92,15 @@ fn each_size(
         appended: Vec::new(rt.alloc()),
         alloc: rt.alloc(),
     };
-    for len in SIZES {
-        if text.len() < len {
-            break;
-        }
-        let texts = pieces(rt.alloc(), text, len, SPREAD.min(text.len()))?;
+    for range in RANGES {
+        let texts = pieces(rt.alloc(), text, range)?;
         if !agree(&mut escaping, &texts, wanted, dst) {
             return Err(Fail::new("a kernel or a call writes other bytes than the loop"));
         }
         if text.len() == LONGEST {
-            print!(rt; "{mode:?} {corpus:<8?} {len:>8}")?;
-            report(rt, &mut escaping, &texts, len, dst)?;
+            let (shortest, longest) = (range.shortest, range.longest);
+            print!(rt; "{mode:<6?} {corpus:<8?} {shortest:>4}-{longest:<4}")?;
+            report(rt, &mut escaping, &texts, dst)?;
         }
     }
     Ok(())
@@ -128,13 +121,13 @@ fn report(
     rt: &(impl Clock + Print),
     escaping: &mut Escaping,
     texts: &[&str],
-    len: usize,
     dst: &mut [u8],
 ) -> Result<(), Fail>
     requires { ROOM ≤ length dst.old }
 {
-    let best = best_of_rounds(rt, escaping, texts, dst, LONGEST / SPREAD.max(len))?;
-    let gigabytes = LONGEST as f64 / best[0] as f64;
+    let best = best_of_rounds(rt, escaping, texts, dst)?;
+    let bytes = u32::try_from(bytes_of(texts))?;
+    let gigabytes = bytes as f64 * PASSES as f64 / best[0] as f64;
     print!(rt; " {gigabytes:>6.2}")?;
     for nanos in best {
         let of_loop = best[0] as f64 / nanos as f64;
@@ -142,4 +135,13 @@ fn report(
     }
     println!(rt)?;
     Ok(())
+}
+
+/// How many bytes the texts have together.
+fn bytes_of(texts: &[&str]) -> usize {
+    let mut bytes = 0usize;
+    for text in texts {
+        bytes = bytes.saturating_add(text.len());
+    }
+    bytes
 }

@@ -1,5 +1,7 @@
 //! The texts that are escaped.
 
+ghost use Rattle.std.specs.Prelude.{◌≤◌, ◌<◌};
+
 use std::alloc::{AllocError, Global};
 
 #[derive(Debug, Clone, Copy, PartialEq, Eq)]
@@ -55,7 +57,7 @@ pub fn text_of(alloc: Global, corpus: Corpus, len: usize) -> Result<String, Allo
         }
         for letter in line(corpus).chars() {
             if letter == '~' {
-                state = state.wrapping_mul(1664525).wrapping_add(1013904223);
+                state = next(state);
                 text.push_str(WORDS[(state >> 28) as usize])?;
             } else {
                 text.push(letter)?;
@@ -77,16 +79,48 @@ fn with_quotes(alloc: Global, text: &str) -> Result<String, AllocError> {
     Ok(quoted)
 }
 
-/// The text's first pieces of `len` bytes: as many as `of` bytes are, but at least one.
-pub fn pieces<'a>(
-    alloc: Global,
-    text: &'a str,
-    len: usize,
-    of: usize,
-) -> Result<Vec<&'a str>, AllocError> {
+/// Texts whose lengths are measured together: from the shortest to the longest, in bytes.
+#[derive(Clone, Copy)]
+pub struct Range {
+    pub shortest: usize,
+    pub longest: usize,
+    ghost ordered: { shortest ≤ longest },
+    ghost few: { longest < 65536 },
+}
+
+pub const RANGES: [Range; 5] = [
+    Range {
+        shortest: 1,
+        longest: 15,
+    },
+    Range {
+        shortest: 16,
+        longest: 63,
+    },
+    Range {
+        shortest: 64,
+        longest: 255,
+    },
+    Range {
+        shortest: 256,
+        longest: 1023,
+    },
+    Range {
+        shortest: 1024,
+        longest: 8191,
+    },
+];
+
+/// The text's pieces, one after another. Their lengths are those of the range, in an order that no branch
+/// predictor learns, the same in each run.
+pub fn pieces<'a>(alloc: Global, text: &'a str, range: Range) -> Result<Vec<&'a str>, AllocError> {
+    let lengths = range.longest - range.shortest + 1;
+    let mut state = 1u32;
     let mut pieces = Vec::new(alloc);
     let mut rest = text;
-    for _ in 0..(of / len.max(1)).max(1) {
+    for _ in 0..text.len() {
+        state = next(state);
+        let len = range.shortest + (state >> 16) as usize % lengths;
         let Some((piece, more)) = rest.split_at_checked(len) else {
             break;
         };
@@ -94,4 +128,9 @@ pub fn pieces<'a>(
         rest = more;
     }
     Ok(pieces)
+}
+
+/// The next number of a linear congruential generator. Its upper bits are used.
+fn next(state: u32) -> u32 {
+    state.wrapping_mul(1664525).wrapping_add(1013904223)
 }

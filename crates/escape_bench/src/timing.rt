@@ -34,13 +34,16 @@ const WAYS: [Way; 9] = [
 /// The names of the ways, in their order.
 pub const COLUMNS: &str = "loop    copy    v128    sse2    neon    avx2  avx512    into  string";
 
-/// The bytes of the longest text.
-pub const LONGEST: usize = 1 << 20;
+/// The bytes of all texts of a range together, and so of the longest text at most.
+pub const LONGEST: usize = 1 << 16;
 
 /// What the longest text becomes at most, and what a kernel needs past it.
 pub const ROOM: usize = 6 * LONGEST + 35;
 
 const ROUNDS: usize = 50;
+
+/// How often the texts are escaped in a round by each way: a mebibyte together.
+pub const PASSES: usize = 16;
 
 /// A mode, with the table of the loop and what the calls need.
 #[derive(Drop)]
@@ -81,13 +84,12 @@ pub fn agree(escaping: &mut Escaping, texts: &[&str], wanted: &mut [u8], dst: &m
     true
 }
 
-/// The nanoseconds that so many passes over the texts take in the best round, for each way.
+/// The nanoseconds that the texts take in the best round, for each way.
 pub fn best_of_rounds(
     rt: &impl Clock,
     escaping: &mut Escaping,
     texts: &[&str],
     dst: &mut [u8],
-    passes: usize,
 ) -> Result<[u32; 9], Fail>
     requires { ROOM ≤ length dst.old }
 {
@@ -95,7 +97,7 @@ pub fn best_of_rounds(
     for _ in 0..ROUNDS {
         for (place, way) in WAYS.iter().enumerate() {
             let start = Instant::now(rt)?;
-            for _ in 0..passes {
+            for _ in 0..PASSES {
                 pass(*way, escaping, texts, dst);
             }
             let nanos = u32::try_from(start.elapsed(rt)?.as_nanos())?;

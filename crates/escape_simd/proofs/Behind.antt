@@ -29,7 +29,7 @@ module _ (k : ℕ) where
   first-behind mode xs = ap (replacement mode) (get_or-behind xs 0)
 
   -- past the first of it they go on as before
-  drop-behind : (mode : Mode) (xs : List ℕ) → 0 < length xs → drop (passed mode (xs ++ replicate k 0)) (xs ++ replicate k 0) ≡ drop (passed mode xs) xs ++ replicate k 0
+  pub drop-behind : (mode : Mode) (xs : List ℕ) → 0 < length xs → drop (passed mode (xs ++ replicate k 0)) (xs ++ replicate k 0) ≡ drop (passed mode xs) xs ++ replicate k 0
   drop-behind mode xs some = grind (arith, passed-behind, drop-append-le, passed≤length)
 
 module _ (mode : Mode) where
@@ -39,7 +39,7 @@ module _ (mode : Mode) where
   runs-within (b ∷ bs) = grind (arith, runs-first, runs-next, runs-clean)
 
   -- and where the byte before the first one is marked or isn't, neither
-  runs-any : (before : Bool) (bs : List ℕ) → run_count_after mode before bs ≤ run_count mode bs
+  pub runs-any : (before : Bool) (bs : List ℕ) → run_count_after mode before bs ≤ run_count mode bs
   runs-any true bs = runs-within bs
   runs-any false bs = omega arith
 
@@ -57,13 +57,13 @@ module _ (mode : Mode) where
     escaped-front needed = escaped-here mode xs 0 some needed ∙ ap (λ ys. escaped_count mode ys + 1) front
 
   -- a byte that needs an escape, where the one before it is marked or isn't
-  runs-needed : (before : Bool) (xs : List ℕ) → 0 < length xs → needs_escape mode (get_or xs 0 0) ≡ true
+  pub runs-needed : (before : Bool) (xs : List ℕ) → 0 < length xs → needs_escape mode (get_or xs 0 0) ≡ true
       → run_count_after mode before xs ≡ run_count_after mode true (drop (passed mode xs) xs) + (if before then 0 else 1)
   runs-needed true xs some needed = let x = next-here mode xs 0 some needed in let f = ap (run_count_after mode true) (front xs some) in omega (arith, x, f)
   runs-needed false xs some needed = let x = first-here mode xs 0 some needed in let f = ap (run_count_after mode true) (front xs some) in omega (arith, x, f)
 
   -- one that needs none
-  runs-unmarked : (before : Bool) (xs : List ℕ) → 0 < length xs → needs_escape mode (get_or xs 0 0) ≡ false → run_count_after mode before xs ≡ run_count mode (drop 1 xs)
+  pub runs-unmarked : (before : Bool) (xs : List ℕ) → 0 < length xs → needs_escape mode (get_or xs 0 0) ≡ false → run_count_after mode before xs ≡ run_count mode (drop 1 xs)
   runs-unmarked true xs some clean = let s = runs_stop-here mode xs 0 some clean in let c = runs_clean-here mode xs 0 some clean in omega (arith, s, c)
   runs-unmarked false xs some clean = runs_clean-here mode xs 0 some clean
 

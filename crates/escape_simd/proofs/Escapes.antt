@@ -1,6 +1,6 @@
 -- What one escape writes, and how far a run of escapes goes.
-use Rattle.std.proofs.Common.{◌≡◌, ℕ, zero, suc, ◌+◌, ◌-◌, ◌<◌, ◌≤◌, true, false, ◌&&◌, ◌||◌, ◌==◌, List, length, length-append, take, drop, replicate, get_or, refl, sym, ap, ◌∙◌, arith}
-use Rattle.escape_simd.proofs.Words.{nat_tests, take-append_seam, get_or-drop, get_or_past, length-replicate, entry_count, entry_bytes, Mode, json, html, script, needs_escape, replacement, mode_numbered, begins_separator, passed, first_replacement, IsByteWise, run_reach}
+use Rattle.std.proofs.Common.{◌≡◌, ℕ, ◌+◌, ◌-◌, ◌<◌, ◌≤◌, true, false, ◌&&◌, ◌||◌, ◌==◌, List, length, length-append, take, drop, replicate, get_or, refl, ap, arith}
+use Rattle.escape_simd.proofs.Words.{nat_tests, take-append_seam, get_or-drop, get_or_past, length-replicate, entry_count, entry_bytes, Mode, script, needs_escape, replacement, mode_numbered, begins_separator, passed, first_replacement, IsByteWise, run_reach}
 use Rattle.escape_simd.proofs.ReplacementLemmas.{length-replacement}
 use Rattle.escape_simd.proofs.Texts.{passed-between}
 
@@ -15,7 +15,7 @@ third-inside src at begins = grind (arith, nat_tests, begins-at, get_or_past)
 
 -- none begins with another byte than e2
 pub other-byte : (src : List ℕ) (at : ℕ) → (get_or src at 0 ≡ 226 → ⊥) → begins_separator (drop at src) ≡ false
-other-byte src at other = let e = begins-at src at in grind (arith, nat_tests, e, other)
+other-byte src at other = grind (arith, nat_tests, begins-at)
 
 -- its third byte, told of the text
 pub third-at : (src : List ℕ) (at : ℕ) → get_or (drop at src) 2 0 ≡ get_or src (at + 2) 0
@@ -23,7 +23,7 @@ third-at src at = get_or-drop at src 2 0
 
 -- the byte there, told of the rest
 pub byte-at : (src : List ℕ) (at : ℕ) → get_or (drop at src) 0 0 ≡ get_or src at 0
-byte-at src at = let e : at + 0 ≡ at = omega arith in get_or-drop at src 0 0 ∙ ap (λ k. get_or src k 0) e
+byte-at src at = let e : at + 0 ≡ at = omega arith in rw e at (get_or-drop at src 0 0)
 
 -- where no separator begins, one byte's entry is written: it is passed alone
 pub passed-alone : (mode : Mode) (src : List ℕ) (at : ℕ) → (mode ≡ script → begins_separator (drop at src) ≡ false) → passed mode (drop at src) ≡ 1
@@ -57,21 +57,15 @@ module _ (mode : Mode) (b : ℕ) (needed : needs_escape mode b ≡ true) where
 
 -- a number that names the third mode
 pub is_script : (n : ℕ) → 2 ≤ n → mode_numbered n ≡ script
-is_script zero h = absurd (omega arith)
-is_script (suc zero) h = absurd (omega arith)
-is_script (suc (suc n)) h = refl
+is_script n h = grind arith
 
 -- and one that does not
 pub not_script : (n : ℕ) → n < 2 → (mode_numbered n ≡ script → ⊥)
-not_script zero h e = let other : json ≡ script = e in absurd (cc)
-not_script (suc zero) h e = let other : html ≡ script = e in absurd (cc)
-not_script (suc (suc n)) h e = absurd (omega arith)
+not_script n h e = grind arith
 
 -- the modes below it go byte by byte
 pub bytewise-below : (n : ℕ) → n < 2 → IsByteWise (mode_numbered n)
-bytewise-below zero h bytes = refl
-bytewise-below (suc zero) h bytes = refl
-bytewise-below (suc (suc n)) h bytes = absurd (omega arith)
+bytewise-below n h bytes = grind arith
 
 -- an entry reaches few bytes further
 pub reach-few : (mode : Mode) → run_reach mode ≤ 7
@@ -81,5 +75,5 @@ reach-few mode = omega arith
 -- the bytes that are passed with a flagged one are clean
 pub passed-after : (mode : Mode) (src : List ℕ) (f next q : ℕ) → next ≡ f + passed mode (drop f src) → f < q → q < next → needs_escape mode (get_or src q 0) ≡ false
 passed-after mode src f next q place after before =
-    let e : f + (q - f) ≡ q = omega (arith, after) in
-    ap (needs_escape mode) (ap (λ k. get_or src k 0) (sym e) ∙ sym (get_or-drop f src (q - f) 0)) ∙ passed-between mode (drop f src) (q - f) (omega (arith, after)) (omega (arith, after, before, place))
+    let e : f + (q - f) ≡ q = omega arith in
+    rw (get_or-drop f src (q - f) 0, e) at (passed-between mode (drop f src) (q - f) (omega arith) (omega arith))

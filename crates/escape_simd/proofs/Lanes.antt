@@ -1,6 +1,6 @@
 -- What a mask tells of the text that its vector holds.
-use Rattle.std.proofs.Common.{◌≡◌, ℕ, zero, suc, ◌+◌, ◌-◌, ◌<◌, ◌≤◌, Bool, true, false, true≢false, ◌||◌, List, [], ◌∷◌, ◌++◌, length, take, drop, get_or, map, replicate, refl, sym, ap, ◌∙◌, arith, length-append, length-take-le, length-drop, inl, inr}
-use Rattle.escape_simd.proofs.Words.{false_from_ne_true, leb_tells, length-take, length-map, get_or-take, get_or-drop, get_or-map, get_or_past, get_or_append_left, get_or-append_right, get_or-replicate, length-replicate, zip2, first_set, none_set, clear_first, clear_last, Mode, needs_escape, HoldsFlags}
+use Rattle.std.proofs.Common.{◌≡◌, ℕ, zero, suc, ◌+◌, ◌-◌, ◌<◌, ◌≤◌, Bool, true, false, true≢false, ◌||◌, List, [], ◌∷◌, ◌++◌, length, take, drop, get_or, map, replicate, refl, sym, ◌∙◌, arith, length-append, length-take-le, length-drop}
+use Rattle.escape_simd.proofs.Words.{false_from_ne_true, length-take, length-map, get_or-take, get_or-drop, get_or-map, get_or_past, get_or_append_left, get_or-append_right, get_or-replicate, length-replicate, zip2, first_set, none_set, clear_first, clear_last, Mode, needs_escape, HoldsFlags}
 use Rattle.escape_simd.proofs.Texts.{IsClean}
 
 -- no lane before the first set one is set
@@ -13,17 +13,16 @@ first_set-before xs k h = absurd (omega arith)
 -- where some lane is set, the first one is
 pub first_set-here : (bs : List Bool) → none_set bs ≡ false → get_or bs (first_set bs) false ≡ true
 unfolding first_set none_set
-first_set-here [] h = absurd (cc)
 first_set-here (true ∷ bs) h = refl
 first_set-here (false ∷ bs) h = first_set-here bs h
+first_set-here [] h = cc
 
 -- where none is set, no lane is
 pub none_set-at : (bs : List Bool) (k : ℕ) → none_set bs ≡ true → get_or bs k false ≡ false
 unfolding none_set
-none_set-at [] k h = get_or_past [] k false (omega arith)
-none_set-at (true ∷ bs) k h = absurd (cc)
-none_set-at (false ∷ bs) zero h = refl
 none_set-at (false ∷ bs) (suc k) h = none_set-at bs k h
+none_set-at (false ∷ bs) zero h = refl
+none_set-at bs k h = grind (arith, get_or_past)
 
 -- where a lane is set, some is
 pub some_from_set : (bs : List Bool) (k : ℕ) → get_or bs k false ≡ true → none_set bs ≡ false
@@ -38,9 +37,7 @@ pub none_set-joined : (xs ys : List Bool) → length xs ≡ length ys → none_s
 unfolding none_set
 none_set-joined [] [] l h = (refl, refl)
 none_set-joined (false ∷ xs) (false ∷ ys) l h = none_set-joined xs ys (omega arith) h
-none_set-joined (true ∷ xs) (y ∷ ys) l h = absurd (cc)
-none_set-joined (false ∷ xs) (true ∷ ys) l h = absurd (cc)
-none_set-joined xs ys l h = absurd (omega arith)
+none_set-joined xs ys l h = grind arith
 
 -- and so for four, joined two by two
 pub none_set-four : (n : ℕ) (a b c d ab cd all : List Bool) → length a ≡ n → length b ≡ n → length c ≡ n → length d ≡ n → length ab ≡ n → length cd ≡ n
@@ -49,31 +46,27 @@ pub none_set-four : (n : ℕ) (a b c d ab cd all : List Bool) → length a ≡ n
 none_set-four n a b c d ab cd all la lb lc ld lab lcd eab ecd e h = grind (arith, none_set-joined)
 
 -- cleared lanes are not set
-none_set-replicate : (n i : ℕ) → get_or (replicate n false) i false ≡ false
+pub none_set-replicate : (n i : ℕ) → get_or (replicate n false) i false ≡ false
 none_set-replicate n i = grind (arith, get_or_past, length-replicate, get_or-replicate)
 
 -- a lane of a mask whose last lanes were cleared
-get_or-clear_last : (n k : ℕ) (bs : List Bool) → k < length bs - n → get_or (clear_last n bs) k false ≡ get_or bs k false
-get_or-clear_last n k bs h =
-    let l = length-take-le (length bs - n) bs (omega arith) in
-    get_or_append_left (take (length bs - n) bs) (replicate n false) false k (omega (arith, l)) ∙ get_or-take (length bs - n) bs k false h
+pub get_or-clear_last : (n k : ℕ) (bs : List Bool) → k < length bs - n → get_or (clear_last n bs) k false ≡ get_or bs k false
+get_or-clear_last n k bs h = grind (arith, length-take-le {A = Bool}, get_or_append_left, get_or-take)
 
 -- one of those
-get_or-cleared_last : (n k : ℕ) (bs : List Bool) → length bs - n ≤ k → get_or (clear_last n bs) k false ≡ false
-get_or-cleared_last n k bs h =
-    let l = length-take-le (length bs - n) bs (omega arith) in
-    get_or-append_right (take (length bs - n) bs) (replicate n false) (length bs - n) k false l h ∙ none_set-replicate n (k - (length bs - n))
+pub get_or-cleared_last : (n k : ℕ) (bs : List Bool) → length bs - n ≤ k → get_or (clear_last n bs) k false ≡ false
+get_or-cleared_last n k bs h = grind (arith, length-take-le {A = Bool}, get_or-append_right, none_set-replicate)
 
 -- a lane of a mask whose first lanes were cleared
-get_or-clear_first : (n k : ℕ) (bs : List Bool) → n ≤ k → get_or (clear_first n bs) k false ≡ get_or bs k false
+pub get_or-clear_first : (n k : ℕ) (bs : List Bool) → n ≤ k → get_or (clear_first n bs) k false ≡ get_or bs k false
 get_or-clear_first n k bs h = grind (arith, get_or-append_right, length-replicate, get_or-drop)
 
 -- one of those
-get_or-cleared_first : (n k : ℕ) (bs : List Bool) → k < n → get_or (clear_first n bs) k false ≡ false
+pub get_or-cleared_first : (n k : ℕ) (bs : List Bool) → k < n → get_or (clear_first n bs) k false ≡ false
 get_or-cleared_first n k bs h = grind (arith, get_or_append_left, length-replicate, none_set-replicate)
 
 -- a lane of a mask that was moved down
-get_or-shifted : (c k : ℕ) (bs : List Bool) → get_or (drop c bs ++ replicate c false) k false ≡ get_or bs (c + k) false
+pub get_or-shifted : (c k : ℕ) (bs : List Bool) → get_or (drop c bs ++ replicate c false) k false ≡ get_or bs (c + k) false
 get_or-shifted c k bs =
     grind (arith, length-drop {A = ℕ}, get_or-append_right, none_set-replicate, get_or_past, get_or_append_left, get_or-drop)
 
@@ -90,14 +83,7 @@ clean-list mode src from n clean k h = grind (arith, length-take {A = ℕ}, get_
 -- a mask that is told lane by lane
 pub held-by : (mode : Mode) (src : List ℕ) (at valid from : ℕ) (bits : List Bool) → ((k : ℕ) → k < valid → get_or bits k false ≡ needs_escape mode (get_or src (at + k) 0)) → ((k : ℕ) → valid ≤ k → get_or bits k false ≡ false)
     → HoldsFlags mode src at valid from bits
-held-by mode src at valid from bits lane past = record {
-  set = λ k s.
-      elim (leb_tells valid k) [
-        | inl over ↦ absurd (true≢false (sym s ∙ past k over.1))
-        | inr within ↦ (within.1, sym (lane k within.1) ∙ s)
-      ];
-  unset = λ k s after h. sym (lane k h) ∙ s;
-}
+held-by mode src at valid from bits lane past = record { set = λ k s. grind (arith, lane, past); unset = λ k s after h. grind (arith, lane) }
 
 module _ (mode : Mode) (src : List ℕ) (at valid from : ℕ) (bits : List Bool) (held : HoldsFlags mode src at valid from bits) where
   -- the lanes, told from further on
@@ -106,9 +92,7 @@ module _ (mode : Mode) (src : List ℕ) (at valid from : ℕ) (bits : List Bool)
 
   -- bytes before a lane with none set before it are clean
   pub clean_to : at ≤ from → (f : ℕ) → f ≤ valid → ((k : ℕ) → k < f → get_or bits k false ≡ false) → CleanFrom mode src from (at + f)
-  clean_to start f few none p after before =
-      let e : at + (p - at) ≡ p = omega (arith, after, start) in
-      ap (λ i. needs_escape mode (get_or src i 0)) (sym e) ∙ held.unset (p - at) (none (p - at) (omega (arith, after, before, start))) (omega (arith, after, start)) (omega (arith, after, before, start, few))
+  clean_to start f few none p after before = let u = held.unset (p - at) in grind (arith, none)
 
   -- where no lane is set, all bytes are clean
   pub held-none : at ≤ from → none_set bits ≡ true → CleanFrom mode src from (at + valid)
@@ -126,23 +110,15 @@ module _ (mode : Mode) (src : List ℕ) (at valid from : ℕ) (bits : List Bool)
   -- the lanes from a place on
   pub held-cleared : (n : ℕ) → n ≤ from - at → HoldsFlags mode src at valid from (clear_first n bits)
   held-cleared n h = record {
-    set = λ k s.
-        elim (leb_tells n k) [
-          | inl past ↦ held.set k (sym (get_or-clear_first n k bits past.1) ∙ s)
-          | inr before ↦ absurd (true≢false (sym s ∙ get_or-cleared_first n k bits before.1))
-        ];
-    unset = λ k s later few. held.unset k (sym (get_or-clear_first n k bits (omega (arith, later, h))) ∙ s) later few;
+    set = λ k s. let t = held.set k in grind (arith, get_or-clear_first, get_or-cleared_first);
+    unset = λ k s later few. let t = held.unset k in grind (arith, get_or-clear_first);
   }
 
   -- moved down
   pub held-shifted : (c : ℕ) → c ≤ valid → from ≤ at + c → HoldsFlags mode src (at + c) (valid - c) (at + c) (drop c bits ++ replicate c false)
   held-shifted c few start = record {
-    set = λ k s.
-        let t = held.set (c + k) (sym (get_or-shifted c k bits) ∙ s) in let e : at + (c + k) ≡ at + c + k = omega arith in
-        (omega (arith, t.0), ap (λ i. needs_escape mode (get_or src i 0)) (sym e) ∙ t.1);
-    unset = λ k s later h.
-        let e : at + (c + k) ≡ at + c + k = omega arith in
-        ap (λ i. needs_escape mode (get_or src i 0)) (sym e) ∙ held.unset (c + k) (sym (get_or-shifted c k bits) ∙ s) (omega (arith, start)) (omega (arith, h));
+    set = λ k s. let t = held.set (c + k) in grind (arith, get_or-shifted);
+    unset = λ k s later h. let t = held.unset (c + k) in grind (arith, get_or-shifted);
   }
 
 -- a lane that is set after some were cleared
@@ -162,9 +138,7 @@ module _ (mode : Mode) (src lanes : List ℕ) (at n valid : ℕ) (long : length 
 
   -- there are 64
   length-flags : length flags ≡ 64
-  length-flags =
-      let m = length-map lanes (needs_escape mode) in
-      length-append (map (needs_escape mode) lanes) (replicate (64 - n) false) ∙ omega (arith, m, long, narrow, length-replicate (64 - n) false)
+  length-flags = grind (arith, length-map, length-append {A = Bool}, length-replicate)
 
   -- one of them
   lane : (k : ℕ) → k < valid → get_or flags k false ≡ needs_escape mode (get_or src (at + k) 0)

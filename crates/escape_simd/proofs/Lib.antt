@@ -24,5 +24,4 @@ pub mod OutputLemmas
 pub mod Pieces
 pub mod EscapingLemmas
 pub mod PlainLaws
-pub mod Examples
 pub mod JoinedLemmas

@@ -2,10 +2,10 @@
 use Rattle.std.proofs.Common.{ℕ, List, IsUtf8, chars, length, refl}
 use Rattle.escape_simd.proofs.Words.{Mode, json, html, script, IsOneLine, IsEscaping, IsMarkupFree, AmpersandsBeginEntities, JoinsTexts, IsOfOneText, HasOutputLength, plain, IsSafeInScript}
 use Rattle.escape_simd.specs.Headline.{IsOnlyOutput}
-use Rattle.escape_simd.proofs.EscapingLemmas.{IsEscaping-output, json_one_line, script_one_line}
+use Rattle.escape_simd.proofs.EscapingLemmas.{IsEscaping-output, json_one_line}
 use Rattle.escape_simd.proofs.HtmlLemmas.{plain_markup_free, plain_ampersands}
 use Rattle.escape_simd.proofs.OutputLemmas.{IsUtf8-output, IsOnlyOutput-output, IsOfOneText-output, HasOutputLength-output, JoinsTexts-output}
-use Rattle.escape_simd.proofs.ScriptLemmas.{IsSafeInScript-output}
+use Rattle.escape_simd.proofs.ScriptLemmas.{IsSafeInScript-output, script_one_line}
 
 -- Of any bytes
 

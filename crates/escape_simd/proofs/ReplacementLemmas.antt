@@ -1,5 +1,5 @@
 -- What stands for a byte, and for a character: its bytes' replacements, or the escape of a separator.
-use Rattle.std.proofs.Common.{◌≡◌, ◌≢◌, ℕ, zero, suc, ◌/◌, ◌%◌, ◌<◌, ◌≤◌, ◌⊎◌, true, false, List, [], ◌∷◌, ◌++◌, codes, length, drop, flat_map, encode_utf8_all, refl, sym, ap, ap₂, ◌∙◌, append-nil, arith, inl, inr, ltb-true, ltb, subst, if◌then◌else◌}
+use Rattle.std.proofs.Common.{◌≡◌, ◌≢◌, ℕ, zero, suc, ◌/◌, ◌%◌, ◌<◌, ◌≤◌, ◌⊎◌, true, false, List, [], ◌∷◌, ◌++◌, codes, length, drop, flat_map, encode_utf8_all, refl, append-nil, arith, inl, inr, ltb-true, ltb, if◌then◌else◌}
 use Rattle.escape_simd.proofs.Words.{encode_utf8, digit_char, AllByRecursion, encode_ascii, encode_same, cases_lt, cases_Bool, cond_both, nat_tests, flat_map-append, Mode, json, script, replacement, needs_escape, begins_separator, passed, script_inner_after, inner, is_script_marked}
 use Rattle.std.specs.Int.{IsInRange}
 
@@ -18,8 +18,8 @@ replacement-high mode b h = grind (arith, nat_tests)
 -- a byte is written by one to six bytes
 pub length-replacement : (mode : Mode) (b : ℕ) → (1 ≤ length (replacement mode b)) × (length (replacement mode b) ≤ 6)
 unfolding replacement
-length-replacement script b = (grind (arith, nat_tests), grind (arith, nat_tests))
-length-replacement mode b = (grind (arith, nat_tests), grind (arith, nat_tests))
+length-replacement script b = grind (arith, nat_tests)
+length-replacement mode b = grind (arith, nat_tests)
 
 -- Step by step
 
@@ -50,9 +50,7 @@ passed-one mode b bs other = refl
 
 -- a byte that needs no escape, before others
 pub inner-clean_byte : (mode : Mode) (b : ℕ) (bs : List ℕ) → needs_escape mode b ≡ false → inner mode (b ∷ bs) ≡ b ∷ inner mode bs
-inner-clean_byte script b bs clean =
-    inner-one script b bs (passed-one script b bs (grind (arith, nat_tests))) ∙ ap (λ xs. xs ++ inner script bs) (replacement-clean script b clean)
-inner-clean_byte mode b bs clean = ap (λ xs. xs ++ inner mode bs) (replacement-clean mode b clean)
+inner-clean_byte mode b bs clean = grind (arith, nat_tests, inner-one, passed-one, replacement-clean)
 
 -- Characters
 
@@ -80,9 +78,7 @@ IsWrittenAs mode c bytes = (rest : List ℕ) → inner mode (encode_utf8 c ++ re
 -- bytes after the first of a character stand for themselves
 inner-continued : (mode : Mode) (bytes rest : List ℕ) → AreContinued bytes → inner mode (bytes ++ rest) ≡ bytes ++ inner mode rest
 inner-continued mode [] rest h = refl
-inner-continued mode (b ∷ bs) rest h =
-    inner-one mode b (bs ++ rest) (passed-one mode b (bs ++ rest) (omega arith))
-    ∙ ap₂ (λ xs ys. xs ++ ys) (replacement-high mode b (omega arith)) (inner-continued mode bs rest h.1)
+inner-continued mode (b ∷ bs) rest h = grind (arith, inner-one, passed-one, replacement-high, inner-continued mode bs rest h.1)
 
 module _ (mode : Mode) (c : ℕ) where
   -- a character below U+0080 is a byte
@@ -93,11 +89,7 @@ module _ (mode : Mode) (c : ℕ) where
   pub written-high : 128 ≤ c → ((rest : List ℕ) → passed mode (encode_utf8 c ++ rest) ≡ 1) → IsWrittenAs mode c (encode_utf8 c)
   written-high high alone rest =
       let form = encode_utf8-high c high in
-      let one : passed mode (form.0 ∷ form.1 ++ rest) ≡ 1 = subst (λ bytes. passed mode (bytes ++ rest) ≡ 1) form.2 (alone rest) in
-      ap (λ bytes. inner mode (bytes ++ rest)) form.2
-      ∙ inner-one mode form.0 (form.1 ++ rest) one
-      ∙ ap₂ (λ xs ys. xs ++ ys) (replacement-high mode form.0 form.3) (inner-continued mode form.1 rest form.4)
-      ∙ ap (λ bytes. bytes ++ inner mode rest) (sym form.2)
+      rw form.2 (grind (arith, inner-one mode form.0 (form.1 ++ rest) (rw form.2 at (alone rest)), replacement-high, inner-continued mode form.1 rest form.4))
 
   -- what stands for the character alone
   pub inner-character : (bytes : List ℕ) → IsWrittenAs mode c bytes → inner mode (encode_utf8 c) ≡ bytes
@@ -123,11 +115,10 @@ needs_escape_low mode h c need = grind (arith, nat_tests)
 module _ (mode : Mode) (bytewise : IsBytewise mode) (c : ℕ) where
   -- a character that needs no escape stands for itself
   pub inner_clean : needs_escape mode c ≡ false → inner mode (encode_utf8 c) ≡ encode_utf8 c
-  inner_clean clean =
-      elim (cases_lt c 128) [
-        | inl low ↦ inner-character mode c (replacement mode c) (written-low mode c low) ∙ replacement-clean mode c clean ∙ sym (encode_ascii c low)
-        | inr high ↦ inner-character mode c (encode_utf8 c) (written-high mode c high (λ rest. passed-bytewise mode bytewise (encode_utf8 c ++ rest)))
-      ]
+  inner_clean clean = elim (cases_lt c 128) [
+    | inl low ↦ grind (arith, inner-character, written-low, replacement-clean, encode_ascii)
+    | inr high ↦ inner-character mode c (encode_utf8 c) (written-high mode c high (λ rest. passed-bytewise mode bytewise (encode_utf8 c ++ rest)))
+  ]
 
   -- a character that needs one is a byte, and has that byte's replacement
   pub inner_needed : needs_escape mode c ≡ true → inner mode (encode_utf8 c) ≡ replacement mode c
@@ -161,14 +152,10 @@ marked_cases c marked P p1 p2 p3 p4 p5 = grind (arith, nat_tests)
 pub begins_separator-form : (bytes : List ℕ) → begins_separator bytes ≡ true
     → (rest : List ℕ) × ((bytes ≡ encode_utf8 0x2028 ++ rest) ⊎ (bytes ≡ encode_utf8 0x2029 ++ rest))
 unfolding begins_separator encode_utf8
-begins_separator-form [] h = absurd (cc)
 begins_separator-form (a ∷ b ∷ c ∷ bs) h =
     let front : (a ≡ 0xe2) × (b ≡ 0x80) = grind (arith, nat_tests) in
     let last : (c ≡ 0xa8) ⊎ (c ≡ 0xa9) = grind (arith, nat_tests) in
-    elim last [
-      | inl e ↦ (bs, inl (cc))
-      | inr e ↦ (bs, inr (cc))
-    ]
+    elim last [ inl e ↦ (bs, inl (cc)) | inr e ↦ (bs, inr (cc)) ]
 begins_separator-form xs h = absurd (grind (arith, nat_tests))
 
 -- the character of an unmarked form is no separator
@@ -189,15 +176,11 @@ replacement-unmarked b other = grind (arith, nat_tests)
 written-script : (c : ℕ) → IsWrittenAs script c (script_replacement c)
 written-script c =
     elim (cases_Bool (is_script_marked c)) [
-      | inl marked ↦ subst (IsWrittenAs script c) (sym (script_replacement-marked c marked)) (written-marked c marked)
+      | inl marked ↦ rw (script_replacement-marked c marked) (written-marked c marked)
       | inr other ↦
           elim (cases_lt c 128) [
-            | inl low ↦
-                let same = replacement-unmarked c other ∙ sym (inner-character json c (replacement json c) (written-low json c low)) ∙ sym (script_replacement-other c other) in
-                subst (IsWrittenAs script c) same (written-low script c low)
-            | inr high ↦
-                let same = sym (inner-character json c (encode_utf8 c) (written-high json c high (λ rest. refl))) ∙ sym (script_replacement-other c other) in
-                subst (IsWrittenAs script c) same (written-high script c high (passed-unmarked c other))
+            | inl low ↦ rw (script_replacement-other c other, inner-character json c (replacement json c) (written-low json c low), ← replacement-unmarked c other) (written-low script c low)
+            | inr high ↦ rw (script_replacement-other c other, inner-character json c (encode_utf8 c) (written-high json c high (λ rest. refl))) (written-high script c high (passed-unmarked c other))
           ]
     ]
 
@@ -209,14 +192,14 @@ inner-script c = inner-character script c (script_replacement c) (written-script
 
 -- what stands for a character before others
 pub inner-past : (mode : Mode) (c : ℕ) (rest : List ℕ) → inner mode (encode_utf8 c ++ rest) ≡ inner mode (encode_utf8 c) ++ inner mode rest
-inner-past script c rest = written-script c rest ∙ ap (λ bytes. bytes ++ inner script rest) (sym (inner-script c))
+inner-past script c rest = rw (inner-script c) (written-script c rest)
 inner-past mode c rest = flat_map-append (replacement mode) (encode_utf8 c) rest
 
 -- what stands for the bytes of a text, where f is what stands for each character
 module _ (mode : Mode) (f : ℕ → List ℕ) (written : (c : ℕ) → IsWrittenAs mode c (f c)) where
   inner-flat_map : (text : List ℕ) → inner mode (encode_utf8_all text) ≡ flat_map f text
   inner-flat_map [] = inner-nil mode
-  inner-flat_map (c ∷ cs) = written c (encode_utf8_all cs) ∙ ap (λ rest. f c ++ rest) (inner-flat_map cs)
+  inner-flat_map (c ∷ cs) = rw (← inner-flat_map cs) (written c (encode_utf8_all cs))
 
 -- character by character
 pub inner-pieces : (mode : Mode) (text : List ℕ) → inner mode (encode_utf8_all text) ≡ flat_map (λ c. inner mode (encode_utf8 c)) text

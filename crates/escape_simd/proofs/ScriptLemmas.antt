@@ -1,242 +1,161 @@
 -- Laws of JSON literals for script elements.
-use Rattle.std.proofs.Common.{◌≡◌, ◌≢◌, ℕ, zero, suc, ◌<◌, ◌≤◌, true, false, List, [], ◌∷◌, ◌++◌, length, codes, slice_index_or, ◌⊎◌, encode_utf8_all, flat_map, Some, refl, sym, ap, subst, ◌∙◌, append_assoc, arith, inl, inr}
-use Rattle.escape_simd.proofs.Words.{IsScalar, encode_utf8, all_scalars, AllByRecursion, cases_Bool, cond_both, false_from_ne_true, true≢false, nat_tests, All-from_recursion, length-encode, len_utf8_bounds, json, script, replacement, begins_separator, script_inner_after, inner, plain, quoted, IsJsonItem, raw, short, hex, pair, IsLowerItem, IsLower, IsLiteral, JsonDenotes, short_escape, is_script_marked, HasNoRawMark, IsScriptItem, IsScriptFree, IsShortestScript, IsOnlyScript, IsSafeInScript}
-use Rattle.escape_simd.proofs.SpellingLemmas.{both_items}
-use Rattle.escape_simd.proofs.ReplacementLemmas.{hex_escape, script_replacement, script_replacement-marked, script_replacement-other, script_pieces, marked_cases, begins_separator-form, replacement-clean, replacement-high, replacement-unmarked, length-replacement, inner-nil}
+use Rattle.std.proofs.Common.{◌≡◌, ◌≢◌, ℕ, zero, suc, ◌<◌, ◌≤◌, true, false, List, [], ◌∷◌, ◌++◌, length, codes, slice_index_or, ◌⊎◌, encode_utf8_all, flat_map, refl, sym, ap, subst, ◌∙◌, append_assoc, arith, inl, inr}
+use Rattle.escape_simd.proofs.Words.{IsOneLine, IsScalar, encode_utf8, all_scalars, AllByRecursion, cases_Bool, cond_both, true≢false, nat_tests, All-from_recursion, json, script, replacement, begins_separator, script_inner_after, inner, plain, quoted, IsJsonItem, raw, short, hex, pair, digits, IsLowerItem, JsonDenotes, short_escape, is_script_marked, HasNoRawMark, IsScriptItem, IsOnlyScript, IsSafeInScript}
+use Rattle.escape_simd.proofs.ReplacementLemmas.{hex_escape, script_replacement, script_replacement-marked, script_replacement-other, script_pieces, marked_cases, replacement-clean, replacement-high, replacement-unmarked, length-replacement}
 use Rattle.escape_simd.proofs.JsonLemmas as Json
+use Rattle.std.proofs.lemmas.List.Elements.{All-weaker}
+use Rattle.std.specs.List.{All}
 
--- an item of a script literal in which no hex digit is one of `A` to `F`
-abbrev IsBoth : List ℕ → ℕ → Type 0
-IsBoth i c = IsScriptItem i c × IsLowerItem i c
-
--- a marked character is in the Basic Multilingual Plane, and no surrogate
-marked_low : (c : ℕ) → is_script_marked c ≡ true → c < 0xd800
-marked_low c marked = grind (arith, nat_tests)
-
--- no marked character has a short form
-marked_not_short : (b c : ℕ) → short_escape b ≡ Some c → is_script_marked c ≡ false
-marked_not_short b c s = Json.short_cases b c s (λ x y. is_script_marked y ≡ false) refl refl refl refl refl refl refl refl
+-- what stands for a character in a script literal is its hex escape where it is marked, and otherwise what JSON writes
+pub script_cases : (c : ℕ) (P : List ℕ → Type 0) → (is_script_marked c ≡ true → P (hex_escape c)) → (is_script_marked c ≡ false → P (inner json (encode_utf8 c))) → P (script_replacement c)
+script_cases c P marked other =
+    elim (cases_Bool (is_script_marked c)) [
+      | inl is ↦ subst P (sym (script_replacement-marked c is)) (marked is)
+      | inr isnt ↦ subst P (sym (script_replacement-other c isnt)) (other isnt)
+    ]
 
 -- an item of a character that isn't marked is no raw mark
 unmarked_item : (i : List ℕ) (c : ℕ) (item : IsJsonItem i c) → is_script_marked c ≡ false → HasNoRawMark item
 unmarked_item i c (raw _ _ _ _) other = other
-unmarked_item i c (short _) other = tt
-unmarked_item i c (hex _ _) other = tt
-unmarked_item i c (pair _ _ _ _) other = tt
+unmarked_item i c item other = tt
 
--- what stands for a character is such an item of it
-both_item : (c : ℕ) → IsScalar c → IsBoth (script_replacement c) c
+-- what stands for a character is an item of it that is no raw mark and has no upper-case hex digit
+both_item : (c : ℕ) → IsScalar c → IsScriptItem (script_replacement c) c × IsLowerItem (script_replacement c) c
 both_item c scalar =
-    elim (cases_Bool (is_script_marked c)) [
-      | inl marked ↦
-          let low = marked_low c marked in
-          let form = Json.hex_form c (omega arith) in
-          subst (λ i. IsBoth i c) (sym (script_replacement-marked c marked)) ((hex form.0 (inl low), tt), (hex form.0 (inl low), form.1))
-      | inr other ↦
-          let item = Json.lower_item c scalar in
-          subst (λ i. IsBoth i c) (sym (script_replacement-other c other)) ((item.0, unmarked_item (inner json (encode_utf8 c)) c item.0 other), item)
-    ]
+    script_cases c (λ p. IsScriptItem p c × IsLowerItem p c)
+    (λ marked.
+    let low : c < 0xd800 = grind (arith, nat_tests) in
+    let form = Json.hex_form c (omega arith) in
+    ((hex form.0 (inl low), tt), (hex form.0 (inl low), form.1)))
+    (λ other. let item = Json.lower_item c scalar in ((item.0, unmarked_item (inner json (encode_utf8 c)) c item.0 other), item))
 
--- an item of a marked character that isn't raw has six bytes at least
-marked_long : (i : List ℕ) (c : ℕ) → IsScriptItem i c → is_script_marked c ≡ true → 6 ≤ length i
-marked_long i c (raw _ _ _ _, other) marked = absurd (true≢false (sym marked ∙ other))
-marked_long i c (short {b = b} s, _) marked = absurd (true≢false (sym marked ∙ marked_not_short b c s))
-marked_long i c (hex form _, _) marked = omega (arith, Json.length-form i c form)
-marked_long i c (pair {first = f} {second = t} {high = h} {low = l} first second _ _, _) marked = omega (arith, Json.length-pair f t h l first second)
+-- what stands for a character is as short as it can be
+IsPiece-script : (c : ℕ) → Json.IsPiece (script_replacement c) c
+unfolding short_escape
+IsPiece-script c =
+    script_cases c (λ p. Json.IsPiece p c)
+    (λ marked. record {
+      itself = λ h k l small. absurd (omega arith);
+      letter = λ b s. absurd (grind (arith, nat_tests));
+      most = omega arith;
+      six = λ long. refl;
+    })
+    (λ other. Json.IsPiece-json c)
 
 -- no item is shorter than what stands for the character
-pub least : (i : List ℕ) (c : ℕ) → IsScriptItem i c → length (script_replacement c) ≤ length i
-least i c item =
-    elim (cases_Bool (is_script_marked c)) [
-      | inl marked ↦ omega (arith, ap length (script_replacement-marked c marked), marked_long i c item marked)
-      | inr other ↦ omega (arith, ap length (script_replacement-other c other), Json.least i c item.0)
-    ]
+least : (i : List ℕ) (c : ℕ) → IsScriptItem i c → length (script_replacement c) ≤ length i
+least i c (raw _ h k l, other) = omega (arith, ap length (script_replacement-other c other ∙ Json.piece-raw c h k l))
+least i c (short {b = b} s, _) = grind (arith, (IsPiece-script c).letter b s)
+least i c (hex (digits _ _ _ _) _, _) = (IsPiece-script c).most
+least i c (pair (digits _ _ _ _) (digits _ _ _ _) _ _, _) = omega (arith, (IsPiece-script c).most)
 
--- the only item of a marked character with six bytes and no upper-case hex digit
-marked_only : (i : List ℕ) (c : ℕ) → is_script_marked c ≡ true → 6 ≤ length i → length i ≤ 6 → IsLowerItem i c → i ≡ hex_escape c
-marked_only i c marked long small (hex form _, lower) = Json.hex_only i c form lower
-marked_only i c marked long small (raw _ _ _ _, lower) = absurd (omega (arith, length-encode c, (len_utf8_bounds c).1))
-marked_only i c marked long small (short s, lower) = absurd (omega arith)
-marked_only i c marked long small (pair {first = f} {second = t} {high = h} {low = l} first second _ _, lower) =
-    absurd (omega (arith, Json.length-pair f t h l first second))
+-- the output for the bytes of a text denotes it
+pub script_denotes : (text : List ℕ) → all_scalars text ≡ true → JsonDenotes (plain script (encode_utf8_all text)) text
+script_denotes text scalars = rw (script_pieces text) (Json.literal-pieces IsJsonItem script_replacement (λ c scalar. (both_item c scalar).1.0) text scalars)
 
--- an item with no upper-case digit that is as short as what stands for the character is that
-only : (i : List ℕ) (c : ℕ) → IsBoth i c → length i ≤ length (script_replacement c) → i ≡ script_replacement c
-only i c item small =
-    elim (cases_Bool (is_script_marked c)) [
-      | inl marked ↦ grind (arith, nat_tests, script_replacement-marked, marked_only, marked_long)
-      | inr other ↦ let written = script_replacement-other c other in Json.only i c item.1 (omega (arith, ap length written)) ∙ sym written
-    ]
-
--- The laws
-
--- the output, character by character
-plain_pieces : (text : List ℕ) → plain script (encode_utf8_all text) ≡ quoted (flat_map script_replacement text)
-plain_pieces text = ap quoted (script_pieces text)
-
--- what denotes the text by the items of a script literal denotes it
-pub denotes_from_free : (bytes text : List ℕ) → IsScriptFree bytes text → JsonDenotes bytes text
-denotes_from_free bytes text free = Json.literal-weaker IsScriptItem IsJsonItem (λ i c item. item.0) bytes text free
-
--- a literal by items of both kinds is one by items that are of both
-both_literal : (bytes text : List ℕ) → IsScriptFree bytes text → IsLower bytes text → IsLiteral IsBoth bytes text
-both_literal bytes text free lower =
-    let first = free.spelled in
-    let second = lower.spelled in
-    let same = Json.inside-quoted free.inside lower.inside (sym free.between ∙ lower.between) in
-    record {
-      inside = free.inside;
-      spelled = record {
-        items = first.items;
-        each = both_items IsJsonItem Json.apart Json.not_empty IsScriptItem IsLowerItem (λ i c item. item.0) (λ i c item. item.0)
-            first.items second.items text first.each second.each (sym first.joined ∙ same ∙ second.joined);
-        joined = first.joined;
-      };
-      between = free.between;
-    }
-
--- the output denotes the text by such items
-plain_both : (text : List ℕ) → all_scalars text ≡ true → IsLiteral IsBoth (plain script (encode_utf8_all text)) text
-plain_both text scalars =
-    subst (λ bytes. IsLiteral IsBoth bytes text) (sym (plain_pieces text)) (Json.literal-pieces IsBoth script_replacement both_item text scalars)
-
--- the output is a shortest literal of the text for a script
-plain_shortest : (text : List ℕ) → all_scalars text ≡ true → IsShortestScript (plain script (encode_utf8_all text)) text
-plain_shortest text scalars = record {
-  free = Json.literal-weaker IsBoth IsScriptItem (λ i c item. item.0) (plain script (encode_utf8_all text)) text (plain_both text scalars);
-  least = λ other free. omega (arith, ap length (plain_pieces text), Json.literal-least IsScriptItem script_replacement least other text free);
-}
-
--- a shortest one with no upper-case hex digit is the output
-only_plain : (bytes text : List ℕ) → all_scalars text ≡ true → IsShortestScript bytes text → IsLower bytes text → bytes ≡ plain script (encode_utf8_all text)
-only_plain bytes text scalars shortest lower =
-    let same = plain_pieces text in
-    let not_longer = shortest.least (plain script (encode_utf8_all text)) (plain_shortest text scalars).free in
-    Json.literal-only IsBoth script_replacement (λ i c item. least i c item.0) bytes text (both_literal bytes text shortest.free lower) only (omega (arith, ap length same)) ∙ sym same
-
--- the output for the bytes of a text
+-- and is the only one for it
 pub IsOnlyScript-plain : (text : List ℕ) → all_scalars text ≡ true → IsOnlyScript (plain script (encode_utf8_all text)) text
 IsOnlyScript-plain text scalars =
-    let output = plain script (encode_utf8_all text) in
-    record {
-      shortest = plain_shortest text scalars;
-      lower = Json.literal-weaker IsBoth IsLowerItem (λ i c item. item.1) output text (plain_both text scalars);
-      only = λ other shortest lower. only_plain other text scalars shortest lower;
-      one_text = λ other denotes. Json.one_text output other text denotes (denotes_from_free output text (plain_shortest text scalars).free);
-    }
+    let h = Json.IsOnly-pieces IsScriptItem script_replacement (λ i c item. item.0) IsPiece-script least both_item text scalars in
+    subst (λ bytes. IsOnlyScript bytes text) (ap quoted (sym (script_pieces text))) (record {
+      shortest = record { free = h.literal; least = h.least };
+      lower = h.lower;
+      only = λ other shortest lower. h.only other shortest.free lower (shortest.least (quoted (flat_map script_replacement text)) h.literal);
+      one_text = h.one_text;
+    })
 
 -- Script elements
 
--- ASCII, and no `<`, `>` or `&`
+-- no control character, and no `<`, `>` or `&`
+abbrev IsHarmlessByte : ℕ → Type 0
+IsHarmlessByte b = (0x20 ≤ b) × (b ≢ 0x3c) × (b ≢ 0x3e) × (b ≢ 0x26)
+
+-- such a byte below 128
 abbrev IsSafeByte : ℕ → Type 0
-IsSafeByte b = (b < 128) × (b ≢ 0x3c) × (b ≢ 0x3e) × (b ≢ 0x26)
+IsSafeByte b = (b < 128) × IsHarmlessByte b
 
--- such is what stands for an unmarked byte below 128 in JSON
-json_safe : (b : ℕ) → b < 128 → is_script_marked b ≡ false → AllByRecursion IsSafeByte (replacement json b)
-unfolding replacement
-json_safe b low other = grind (arith, nat_tests, replacement-clean)
-
--- and for each byte below 128 in a script literal
+-- such is what stands for each byte below 128
 replacement_safe : (b : ℕ) → b < 128 → AllByRecursion IsSafeByte (replacement script b)
 unfolding replacement
-replacement_safe b low = grind (arith, nat_tests, marked_cases, replacement-unmarked, json_safe)
+replacement_safe b low = grind (arith, nat_tests, marked_cases, replacement-unmarked, Json.needed_cases, replacement-clean)
 
--- no `<`, `>` or `&` is among the bytes, and no separator
+-- harmless bytes, of which none begins a separator
 abbrev IsSafe : List ℕ → Type 0
 IsSafe [] = Unit {0}
-IsSafe (b ∷ bs) = ((b ≢ 0x3c) × (b ≢ 0x3e) × (b ≢ 0x26)) × (begins_separator (b ∷ bs) ≡ false) × IsSafe bs
+IsSafe (b ∷ bs) = IsHarmlessByte b × (begins_separator (b ∷ bs) ≡ false) × IsSafe bs
 
 -- bytes that are safe each before safe bytes
 safe_before : (xs ys : List ℕ) → AllByRecursion IsSafeByte xs → IsSafe ys → IsSafe (xs ++ ys)
 unfolding begins_separator
 safe_before [] ys h safe = safe
-safe_before (x ∷ xs) ys h safe =
-    let first = h.0 in ((first.1, first.2, first.3), grind (arith, nat_tests), safe_before xs ys h.1 safe)
+safe_before (x ∷ xs) ys h safe = (h.0.1, grind (arith, nat_tests), safe_before xs ys h.1 safe)
 
--- What is written for bytes begins with safe bytes, the replacement of the first or of a separator,
-abbrev IsSafeStep : ℕ → List ℕ → Type 0
-IsSafeStep b bs = (xs : List ℕ) × (n : ℕ) × AllByRecursion IsSafeByte xs × (0 < length xs) × (inner script (b ∷ bs) ≡ xs ++ script_inner_after n bs)
+-- what stands for bytes, and the closing quotation mark
+abbrev closed : ℕ → List ℕ → List ℕ
+closed n bytes = script_inner_after n bytes ++ 0x22 ∷ []
 
--- or with a byte from 128 on that stands for itself and begins no separator.
-abbrev IsRawStep : ℕ → List ℕ → Type 0
-IsRawStep b bs = (128 ≤ b) × (begins_separator (b ∷ bs) ≡ false) × (inner script (b ∷ bs) ≡ b ∷ inner script bs)
-
--- one of these is so
-first_step : (b : ℕ) (bs : List ℕ) → IsSafeStep b bs ⊎ IsRawStep b bs
+-- What is written for bytes begins with safe bytes, the replacement of the first or of a separator, or with a byte from 128 on that
+-- stands for itself and begins no separator.
+first_step : (b : ℕ) (bs : List ℕ) → ((xs : List ℕ) × (n : ℕ) × AllByRecursion IsSafeByte xs × (0 < length xs) × (inner script (b ∷ bs) ≡ xs ++ script_inner_after n bs))
+    ⊎ ((128 ≤ b) × (begins_separator (b ∷ bs) ≡ false) × (inner script (b ∷ bs) ≡ b ∷ inner script bs))
 unfolding script_inner_after
-first_step b bs =
-    grind (arith, nat_tests, slice_index_or, codes, cond_both, replacement_safe, length-replacement, replacement-high)
+first_step b bs = grind (arith, nat_tests, slice_index_or, codes, cond_both, replacement_safe, length-replacement, replacement-high)
 
--- safe bytes don't begin with a byte from 128 on
-not_high : (xs rest ys : List ℕ) (y : ℕ) → AllByRecursion IsSafeByte xs → 0 < length xs → 128 ≤ y → xs ++ rest ≢ y ∷ ys
-not_high [] rest ys y safe some high same = absurd (omega arith)
-not_high (x ∷ xs) rest ys y safe some high same = let first = safe.0.0 in let e : x ≡ y = cc in omega arith
+-- safe bytes begin below 128
+low_first : (xs ys : List ℕ) → AllByRecursion IsSafeByte xs → 0 < length xs → slice_index_or (xs ++ ys) 0 0 < 128
+low_first [] ys safe some = absurd (omega arith)
+low_first (x ∷ xs) ys safe some = safe.0.0
 
--- before the closing quotation mark a byte from 128 on stands for itself
-first_high : (bytes ys : List ℕ) (y : ℕ) → 128 ≤ y → inner script bytes ++ 0x22 ∷ [] ≡ y ∷ ys
-    → (rest : List ℕ) × (bytes ≡ y ∷ rest) × (inner script rest ++ 0x22 ∷ [] ≡ ys)
-first_high [] ys y high same =
-    absurd (not_high (0x22 ∷ []) [] ys y (omega arith) (omega arith) high (ap (λ bytes. bytes ++ 0x22 ∷ []) (sym (inner-nil script)) ∙ same))
-first_high (b ∷ bs) ys y high same =
-    elim (first_step b bs) [
-      | inl step ↦ grind (arith, nat_tests, append_assoc, not_high)
-      | inr step ↦ grind (arith, nat_tests)
-    ]
+-- so this begins below 128, or as the bytes do
+first_of : (bytes : List ℕ) → (slice_index_or (closed 0 bytes) 0 0 < 128) ⊎ ((b : ℕ) × (bs : List ℕ) × (bytes ≡ b ∷ bs) × (closed 0 bytes ≡ b ∷ closed 0 bs))
+unfolding script_inner_after
+first_of [] = inl (omega arith)
+first_of (b ∷ bs) = grind (arith, first_step, low_first, append_assoc)
 
--- so what begins a separator there began it in the text
-separator_kept : (b : ℕ) (bs : List ℕ) → begins_separator (b ∷ bs) ≡ false → begins_separator (b ∷ (inner script bs ++ 0x22 ∷ [])) ≡ false
-unfolding begins_separator encode_utf8
-separator_kept b bs other = false_from_ne_true (begins_separator (b ∷ (inner script bs ++ 0x22 ∷ []))) (λ begins.
-    let form = begins_separator-form (b ∷ (inner script bs ++ 0x22 ∷ [])) begins in
-    elim form.1 [
-      | inl line ↦ from 0xa8 form.0 (omega arith) line refl
-      | inr paragraph ↦ from 0xa9 form.0 (omega arith) paragraph refl
-    ])
-  where
-    from : (x : ℕ) (rest : List ℕ) → 128 ≤ x → b ∷ (inner script bs ++ 0x22 ∷ []) ≡ 0xe2 ∷ 0x80 ∷ x ∷ rest → begins_separator (0xe2 ∷ 0x80 ∷ x ∷ []) ≡ true → ⊥
-    from x rest high same separator =
-        let second = first_high bs (x ∷ rest) 0x80 (omega arith) (cc same) in
-        let third = first_high second.0 rest x high second.2 in
-        let e : b ≡ 0xe2 = cc same in
-        let text : b ∷ bs ≡ 0xe2 ∷ 0x80 ∷ x ∷ third.0 = cc (second.1, third.1) in
-        let begins : begins_separator (b ∷ bs) ≡ begins_separator (0xe2 ∷ 0x80 ∷ x ∷ []) = ap begins_separator text in
-        true≢false (sym separator ∙ sym begins ∙ other)
+-- what begins a separator there began it in the text
+separator_kept : (b : ℕ) (bs : List ℕ) → begins_separator (b ∷ bs) ≡ false → begins_separator (b ∷ closed 0 bs) ≡ false
+unfolding begins_separator
+separator_kept b bs other = grind (arith, nat_tests, first_of)
 
 -- what stands for bytes is safe, with the closing quotation mark
-inner_safe : (n : ℕ) (bytes : List ℕ) → IsSafe (script_inner_after n bytes ++ 0x22 ∷ [])
+inner_safe : (n : ℕ) (bytes : List ℕ) → IsSafe (closed n bytes)
 unfolding script_inner_after
 inner_safe n [] = safe_before (0x22 ∷ []) [] (omega arith) tt
 inner_safe (suc n) (b ∷ bs) = inner_safe n bs
 inner_safe zero (b ∷ bs) =
     elim (first_step b bs) [
-      | inl step ↦
-          let rest = script_inner_after step.1 bs ++ 0x22 ∷ [] in
-          let written = ap (λ bytes. bytes ++ 0x22 ∷ []) step.4 ∙ append_assoc step.0 (script_inner_after step.1 bs) (0x22 ∷ []) in
-          subst IsSafe (sym written) (safe_before step.0 rest step.2 (inner_safe step.1 bs))
-      | inr step ↦
-          let high = step.0 in
-          subst (λ bytes. IsSafe (bytes ++ 0x22 ∷ [])) (sym step.2) (omega arith, separator_kept b bs step.1, inner_safe 0 bs)
+      | inl (xs, n, safe, some, written) ↦ rw (written, append_assoc) (safe_before xs (closed n bs) safe (inner_safe n bs))
+      | inr (high, other, written) ↦ rw written (omega arith, separator_kept b bs other, inner_safe 0 bs)
     ]
 
--- what is safe has no markup
-no_markup : (bytes : List ℕ) → IsSafe bytes → AllByRecursion (λ b. (b ≢ 0x3c) × (b ≢ 0x3e) × (b ≢ 0x26)) bytes
-no_markup [] safe = tt
-no_markup (b ∷ bs) safe = (safe.0, no_markup bs safe.2)
+-- safe bytes are harmless
+harmless : (bytes : List ℕ) → IsSafe bytes → AllByRecursion IsHarmlessByte bytes
+harmless [] safe = tt
+harmless (b ∷ bs) safe = (safe.0, harmless bs safe.2)
 
--- nor a separator anywhere
-no_separator : (front rest : List ℕ) → IsSafe (front ++ rest) → begins_separator rest ≡ true → ⊥
+-- and no separator is among them
+no_separator : (front rest : List ℕ) (x : ℕ) → begins_separator (0xe2 ∷ 0x80 ∷ x ∷ []) ≡ true → IsSafe (front ++ 0xe2 ∷ 0x80 ∷ x ∷ rest) → ⊥
 unfolding begins_separator
-no_separator [] [] safe begins = true≢false (sym begins)
-no_separator [] (r ∷ rest) safe begins = true≢false (sym begins ∙ safe.1)
-no_separator (x ∷ front) rest safe begins = no_separator front rest safe.2 begins
+no_separator [] rest x begins safe = true≢false (sym begins ∙ safe.1)
+no_separator (_ ∷ front) rest x begins safe = no_separator front rest x begins safe.2
 
--- the output for any bytes can stand in a script element
-pub IsSafeInScript-output : (bytes output : List ℕ) → output ≡ plain script bytes → IsSafeInScript output
-unfolding begins_separator
-IsSafeInScript-output bytes output same =
-    let safe : IsSafe output = subst IsSafe (sym same) (safe_before (0x22 ∷ []) (inner script bytes ++ 0x22 ∷ []) (omega arith) (inner_safe 0 bytes)) in
-    record {
-      no_markup = All-from_recursion (λ b. (b ≢ 0x3c) × (b ≢ 0x3e) × (b ≢ 0x26)) output (no_markup output safe);
-      no_line_separator = λ front rest is. no_separator front (0xe2 ∷ 0x80 ∷ 0xa8 ∷ rest) (subst IsSafe is safe) refl;
-      no_paragraph_separator = λ front rest is. no_separator front (0xe2 ∷ 0x80 ∷ 0xa9 ∷ rest) (subst IsSafe is safe) refl;
-    }
+module _ (bytes output : List ℕ) (same : output ≡ plain script bytes) where
+  -- the output for any bytes is safe
+  output_safe : IsSafe output
+  output_safe = rw same (safe_before (0x22 ∷ []) (closed 0 bytes) (omega arith) (inner_safe 0 bytes))
+
+  output_harmless : All IsHarmlessByte output
+  output_harmless = All-from_recursion IsHarmlessByte output (harmless output output_safe)
+
+  -- so it stands on one line
+  pub script_one_line : IsOneLine output
+  script_one_line = All-weaker IsHarmlessByte (λ b. 0x20 ≤ b) (λ b h. h.0) output output_harmless
+
+  -- and can stand in a script element
+  pub IsSafeInScript-output : IsSafeInScript output
+  unfolding begins_separator
+  IsSafeInScript-output = record {
+    no_markup = All-weaker IsHarmlessByte (λ b. (b ≢ 0x3c) × (b ≢ 0x3e) × (b ≢ 0x26)) (λ b h. (h.1, h.2, h.3)) output output_harmless;
+    no_line_separator = λ front rest is. no_separator front rest 0xa8 refl (rw is at output_safe);
+    no_paragraph_separator = λ front rest is. no_separator front rest 0xa9 refl (rw is at output_safe);
+  }

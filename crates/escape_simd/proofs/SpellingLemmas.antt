@@ -1,95 +1,103 @@
 -- Laws of texts that are spelled item by item.
-use Rattle.std.proofs.Common.{◌≡◌, ℕ, ◌<◌, ◌≤◌, true, List, [], ◌∷◌, ◌++◌, map, flat_map, length, refl, sym, ap, ap₂, subst, ◌∙◌, length-append, arith}
-use Rattle.escape_simd.proofs.Words.{all_scalars, IsScalar, and_parts, AllZip, concat, AllByRecursion, append_cancel_right, Spells}
+use Rattle.std.proofs.Common.{◌≡◌, ◌≢◌, ◌==◌, ℕ, ◌<◌, ◌≤◌, ◌⊎◌, true, false, List, [], ◌∷◌, ◌++◌, map, flat_map, length, get_or, Option, Some, None, refl, sym, ap, ap₂, subst, ◌∙◌, length-append, arith, inl, inr, encode_utf8}
+use Rattle.escape_simd.proofs.Words.{All-from_recursion, all_scalars, IsScalar, and_parts, cases_Bool, ne_eqb, AllZip, concat, AllByRecursion, append_cancel_right, char_from_byte, encode_same, length-encode, len_utf8_bounds, Spells, Mode, needs_escape, replacement, inner}
+use Rattle.escape_simd.proofs.ReplacementLemmas.{IsBytewise, inner_clean, inner_needed}
 use Rattle.std.proofs.Math.Utf8.{scalar}
+use Rattle.std.specs.List.{All}
+use Rattle.std.proofs.lemmas.List.Elements.{All-nil, All-append}
+use Rattle.std.proofs.lemmas.List.Concat.{concat_is}
+use Rattle.std.proofs.lemmas.List.Folds.{flat_map-map}
 
--- pieces joined, as a list of pieces
-concat-map : (f : ℕ → List ℕ) (text : List ℕ) → flat_map f text ≡ concat (map f text)
-concat-map f [] = refl
-concat-map f (c ∷ cs) = ap (λ rest. f c ++ rest) (concat-map f cs)
+-- what holds of each element of each piece holds of each that stands in the pieces
+pub each_flat_map : (P : ℕ → Type 0) (f : ℕ → List ℕ) → ((b : ℕ) → AllByRecursion P (f b)) → (bytes : List ℕ) → All P (flat_map f bytes)
+each_flat_map P f each [] = All-nil P
+each_flat_map P f each (b ∷ bs) = All-append P (f b) (flat_map f bs) (All-from_recursion P (f b) (each b)) (each_flat_map P f each bs)
 
--- what holds of each element of joined lists
-pub AllByRecursion-append : (P : ℕ → Type 0) (xs ys : List ℕ) → AllByRecursion P xs → AllByRecursion P ys → AllByRecursion P (xs ++ ys)
-AllByRecursion-append P [] ys h k = k
-AllByRecursion-append P (x ∷ xs) ys h k = (h.0, AllByRecursion-append P xs ys h.1 k)
+-- what stands for a character is its replacement where it needs an escape, and otherwise the character
+pub piece_cases : (mode : Mode) → IsBytewise mode → (c : ℕ) (P : List ℕ → Type 0) → (needs_escape mode c ≡ true → P (replacement mode c))
+    → (needs_escape mode c ≡ false → P (encode_utf8 c)) → P (inner mode (encode_utf8 c))
+piece_cases mode bytewise c P needed clean =
+    elim (cases_Bool (needs_escape mode c)) [
+      | inl need ↦ subst P (sym (inner_needed mode bytewise c need)) (needed need)
+      | inr none ↦ subst P (sym (inner_clean mode bytewise c none)) (clean none)
+    ]
 
--- and of each part of joined lists
-pub AllByRecursion-parts : (P : ℕ → Type 0) (xs ys : List ℕ) → AllByRecursion P (xs ++ ys) → AllByRecursion P xs × AllByRecursion P ys
-AllByRecursion-parts P [] ys h = (tt, h)
-AllByRecursion-parts P (x ∷ xs) ys h = let rest = AllByRecursion-parts P xs ys h.1 in ((h.0, rest.0), rest.1)
+-- a character begins with no other character's byte below 128
+pub not_begun : (c b : ℕ) (x : List ℕ) → b < 128 → c ≢ b → (get_or (encode_utf8 c ++ x) 0 0 == b) ≡ false
+not_begun c b x low other = ne_eqb _ _ (λ same.
+    other (char_from_byte (encode_utf8 c ++ x) x c refl (omega arith) (omega (arith, length-append (encode_utf8 c) x, length-encode c, (len_utf8_bounds c).0)) ∙ same))
 
--- items of one kind, where each is one of another
-pub AllZip-weaker : (P Q : List ℕ → ℕ → Type 0) → ((i : List ℕ) (c : ℕ) → P i c → Q i c) → (items : List (List ℕ)) (text : List ℕ) → AllZip P items text → AllZip Q items text
-AllZip-weaker P Q weaker [] [] h = tt
-AllZip-weaker P Q weaker (i ∷ is) (c ∷ cs) h = (weaker i c h.0, AllZip-weaker P Q weaker is cs h.1)
-AllZip-weaker P Q weaker xs ys h = absurd h
+-- the bytes are items of the characters, told along the text
+abbrev pub Reads : (List ℕ → ℕ → Type 0) → List ℕ → List ℕ → Type 0
+Reads Item bytes [] = bytes ≡ []
+Reads Item bytes (c ∷ cs) = (i rest : List ℕ) × Item i c × (bytes ≡ i ++ rest) × Reads Item rest cs
 
-module _ (Item : List ℕ → ℕ → Type 0) where
-  module _ (f : ℕ → List ℕ) where
-    -- the pieces are items of the characters
-    each_of : ((c : ℕ) → IsScalar c → Item (f c) c) → (text : List ℕ) → all_scalars text ≡ true → AllZip Item (map f text) text
-    each_of item [] h = tt
-    each_of item (c ∷ cs) h = let parts = and_parts (scalar c) (all_scalars cs) h in (item c parts.0, each_of item cs parts.1)
+-- items in a list, told so
+reads_items : (Item : List ℕ → ℕ → Type 0) (items : List (List ℕ)) (text : List ℕ) → AllZip Item items text → Reads Item (concat items) text
+reads_items Item [] [] h = refl
+reads_items Item (i ∷ is) (c ∷ cs) h = (i, concat is, h.0, refl, reads_items Item is cs h.1)
+reads_items Item xs ys h = absurd h
 
-    -- the pieces of a text, where each is an item of its character
-    pub Spells-flat_map : ((c : ℕ) → IsScalar c → Item (f c) c) → (text : List ℕ) → all_scalars text ≡ true → Spells Item (flat_map f text) text
-    Spells-flat_map item text h = record { items = map f text; each = each_of item text h; joined = concat-map f text }
+-- what is spelled, told so
+pub Reads-Spells : (Item : List ℕ → ℕ → Type 0) (bytes text : List ℕ) → Spells Item bytes text → Reads Item bytes text
+Reads-Spells Item bytes text h = subst (λ xs. Reads Item xs text) (sym h.joined) (reads_items Item h.items text h.each)
 
-    -- items that are the pieces of f
-    pub concat_of_pieces : (items : List (List ℕ)) (text : List ℕ) → AllZip (λ i c. i ≡ f c) items text → concat items ≡ flat_map f text
-    concat_of_pieces [] [] h = refl
-    concat_of_pieces (i ∷ is) (c ∷ cs) h = ap₂ (λ a b. a ++ b) h.0 (concat_of_pieces is cs h.1)
-    concat_of_pieces xs ys h = absurd h
+-- each piece of a text is an item of its character
+each_of : (Item : List ℕ → ℕ → Type 0) (f : ℕ → List ℕ) → ((c : ℕ) → IsScalar c → Item (f c) c) → (text : List ℕ) → all_scalars text ≡ true → AllZip Item (map f text) text
+each_of Item f item [] h = tt
+each_of Item f item (c ∷ cs) h = let parts = and_parts (scalar c) (all_scalars cs) h in (item c parts.0, each_of Item f item cs parts.1)
 
-    -- where no item is shorter than the piece, the pieces are shortest
-    pub pieces_le : ((i : List ℕ) (c : ℕ) → Item i c → length (f c) ≤ length i) → (items : List (List ℕ)) (text : List ℕ) → AllZip Item items text → length (flat_map f text) ≤ length (concat items)
-    pieces_le least [] [] h = omega arith
-    pieces_le least (i ∷ is) (c ∷ cs) h =
-        omega (arith, length-append (f c) (flat_map f cs), length-append i (concat is), least i c h.0, pieces_le least is cs h.1)
-    pieces_le least xs ys h = absurd h
+-- the pieces of a text, where each is an item of its character
+pub Spells-flat_map : (Item : List ℕ → ℕ → Type 0) (f : ℕ → List ℕ) → ((c : ℕ) → IsScalar c → Item (f c) c) → (text : List ℕ) → all_scalars text ≡ true → Spells Item (flat_map f text) text
+Spells-flat_map Item f item text h =
+    record { items = map f text; each = each_of Item f item text h; joined = sym (concat_is (map f text) ∙ flat_map-map (λ x. x) f text) }
 
-    -- where moreover an item as short as the piece is the piece, items as short as the pieces are the pieces
-    pub only_pieces : ((i : List ℕ) (c : ℕ) → Item i c → length (f c) ≤ length i) → ((i : List ℕ) (c : ℕ) → Item i c → length i ≤ length (f c) → i ≡ f c)
-        → (items : List (List ℕ)) (text : List ℕ) → AllZip Item items text → length (concat items) ≤ length (flat_map f text) → concat items ≡ flat_map f text
-    only_pieces least only [] [] h short = refl
-    only_pieces least only (i ∷ is) (c ∷ cs) h short =
-        let first = length-append (f c) (flat_map f cs) in
-        let second = length-append i (concat is) in
-        let head = least i c h.0 in
-        let tail = pieces_le least is cs h.1 in
-        ap₂ (λ a b. a ++ b) (only i c h.0 (omega arith)) (only_pieces least only is cs h.1 (omega arith))
-    only_pieces least only xs ys h short = absurd h
+-- where no item is shorter than the piece, the pieces are shortest
+pub pieces_le : (Item : List ℕ → ℕ → Type 0) (f : ℕ → List ℕ) → ((i : List ℕ) (c : ℕ) → Item i c → length (f c) ≤ length i)
+    → (bytes text : List ℕ) → Reads Item bytes text → length (flat_map f text) ≤ length bytes
+pieces_le Item f least bytes [] h = omega arith
+pieces_le Item f least bytes (c ∷ cs) (i, rest, item, e, h) =
+    omega (arith, length-append {A = ℕ}, ap length e, least i c item, pieces_le Item f least rest cs h)
 
-  -- where no item is empty or begins another, one byte list spells one text
-  module _ (apart : (i j x y : List ℕ) (c d : ℕ) → Item i c → Item j d → i ++ x ≡ j ++ y → (c ≡ d) × (x ≡ y))
-      (not_empty : (i : List ℕ) (c : ℕ) → Item i c → 0 < length i) where
-    -- items that join to one byte list are of one text
-    same_text : (is js : List (List ℕ)) (t u : List ℕ) → AllZip Item is t → AllZip Item js u → concat is ≡ concat js → t ≡ u
-    same_text [] [] [] [] h k e = refl
-    same_text (i ∷ is) [] (c ∷ cs) [] h k e =
-        let some = not_empty i c h.0 in absurd (omega (arith, length-append i (concat is), ap length e))
-    same_text [] (j ∷ js) [] (d ∷ ds) h k e =
-        let some = not_empty j d k.0 in absurd (omega (arith, length-append j (concat js), ap length e))
-    same_text (i ∷ is) (j ∷ js) (c ∷ cs) (d ∷ ds) h k e =
-        let both = apart i j (concat is) (concat js) c d h.0 k.0 e in
-        ap₂ (λ a b. a ∷ b) both.0 (same_text is js cs ds h.1 k.1 both.1)
-    same_text [] js (c ∷ cs) u h k e = absurd h
-    same_text (i ∷ is) js [] u h k e = absurd h
-    same_text is [] t (d ∷ ds) h k e = absurd k
-    same_text is (j ∷ js) t [] h k e = absurd k
+-- A reader's first step tells the character of an item that isn't raw, and what comes after the item.
+abbrev pub Tells : (List ℕ → ℕ → Type 0) → (List ℕ → Option ℕ × List ℕ) → Type 0
+Tells Item read = (i x : List ℕ) (c : ℕ) → Item i c → ((i ≡ encode_utf8 c) × ((read (i ++ x)).0 ≡ None)) ⊎ (read (i ++ x) ≡ (Some c, x))
 
-    -- one byte list spells one text at most
-    pub Spells-one_text : (h t u : List ℕ) → Spells Item h t → Spells Item h u → t ≡ u
-    Spells-one_text h t u p q = same_text p.items q.items t u p.each q.each (sym p.joined ∙ q.joined)
+module _ (Item : List ℕ → ℕ → Type 0) (read : List ℕ → Option ℕ × List ℕ) (tells : Tells Item read) where
+  -- no item begins another, and an item is of one character alone
+  pub apart : (i j x y : List ℕ) (c d : ℕ) → Item i c → Item j d → i ++ x ≡ j ++ y → (c ≡ d) × (x ≡ y)
+  apart i j x y c d p q same =
+      grind (arith, tells i x c p, tells j y d q, encode_same)
 
-    -- two spellings of one text by one byte list have the same items
-    pub both_items : (P Q : List ℕ → ℕ → Type 0) → ((i : List ℕ) (c : ℕ) → P i c → Item i c) → ((i : List ℕ) (c : ℕ) → Q i c → Item i c)
-        → (is js : List (List ℕ)) (t : List ℕ) → AllZip P is t → AllZip Q js t → concat is ≡ concat js → AllZip (λ i c. P i c × Q i c) is t
-    both_items P Q p q [] js [] h k e = tt
-    both_items P Q p q (i ∷ is) (j ∷ js) (c ∷ cs) h k e =
-        let rest = (apart i j (concat is) (concat js) c c (p i c h.0) (q j c k.0) e).1 in
-        let same : i ≡ j = append_cancel_right i j (concat is) (e ∙ ap (λ x. j ++ x) (sym rest)) in
-        ((h.0, subst (λ x. Q x c) (sym same) k.0), both_items P Q p q is js cs h.1 k.1 rest)
-    both_items P Q p q (i ∷ is) [] (c ∷ cs) h k e = absurd k
-    both_items P Q p q [] js (c ∷ cs) h k e = absurd h
-    both_items P Q p q (i ∷ is) js [] h k e = absurd h
+  -- an item has a byte
+  no_item : (i x : List ℕ) (c : ℕ) → (read []).0 ≡ None → Item i c → i ++ x ≢ []
+  no_item i x c none p empty = grind (arith, tells i x c p, length-append i x, length-encode c, len_utf8_bounds c)
+
+  -- so bytes read as one text at most
+  same_text : (read []).0 ≡ None → (bytes t u : List ℕ) → Reads Item bytes t → Reads Item bytes u → t ≡ u
+  same_text none bytes [] [] h k = refl
+  same_text none bytes [] (d ∷ ds) h (j, y, q, same, k) = absurd (no_item j y d none q (sym same ∙ h))
+  same_text none bytes (c ∷ cs) [] (i, x, p, same, h) k = absurd (no_item i x c none p (sym same ∙ k))
+  same_text none bytes (c ∷ cs) (d ∷ ds) (i, x, p, is, h) (j, y, q, also, k) =
+      let both = apart i j x y c d p q (sym is ∙ also) in
+      ap₂ (λ a b. a ∷ b) both.0 (same_text none x cs ds h (subst (λ z. Reads Item z ds) (sym both.1) k))
+
+  -- one byte list spells one text at most
+  pub Spells-one_text : (read []).0 ≡ None → (bytes t u : List ℕ) → Spells Item bytes t → Spells Item bytes u → t ≡ u
+  Spells-one_text none bytes t u p q = same_text none bytes t u (Reads-Spells Item bytes t p) (Reads-Spells Item bytes u q)
+
+  -- What items of two kinds spell, and is no longer than the pieces, is the pieces: where no item of the one kind is shorter than the
+  -- piece, and one of the other that is as long is the piece.
+  pub only_pieces : (P Q : List ℕ → ℕ → Type 0) → ((i : List ℕ) (c : ℕ) → P i c → Item i c) → ((i : List ℕ) (c : ℕ) → Q i c → Item i c)
+      → (f : ℕ → List ℕ) → ((i : List ℕ) (c : ℕ) → P i c → length (f c) ≤ length i) → ((i : List ℕ) (c : ℕ) → Q i c → length i ≡ length (f c) → i ≡ f c)
+      → (bytes text : List ℕ) → Reads P bytes text → Reads Q bytes text → length bytes ≤ length (flat_map f text) → bytes ≡ flat_map f text
+  only_pieces P Q p q f least only bytes [] h k small = h
+  only_pieces P Q p q f least only bytes (c ∷ cs) (i, x, a, is, h) (j, y, b, also, k) small =
+      let rest = (apart i j x y c c (p i c a) (q j c b) (sym is ∙ also)).1 in
+      let same : i ≡ j = append_cancel_right i j y (cc) in
+      let long = pieces_le P f least x cs h in
+      let sizes : (length i ≡ length (f c)) × (length x ≤ length (flat_map f cs)) =
+      (omega (arith, length-append {A = ℕ}, ap length is, least i c a), omega (arith, length-append {A = ℕ}, ap length is, least i c a)) in
+      let tail = only_pieces P Q p q f least only x cs h (subst (λ z. Reads Q z cs) (sym rest) k) sizes.1 in
+      let head = only j c b (sym (ap length same) ∙ sizes.0) in
+      cc

@@ -1,35 +1,19 @@
 -- What a text still needs from a place on: its escaping, its escapes and its runs.
-use Rattle.std.proofs.Common.{◌≡◌, ℕ, zero, suc, ◌+◌, ◌-◌, ◌<◌, ◌≤◌, Bool, true, false, cond, List, [], ◌∷◌, ◌++◌, length, length-append, drop, get_or, length-drop, ◌*◌, refl, sym, ap, ◌∙◌, arith, inl, inr, add-one}
-use Rattle.escape_simd.proofs.Words.{cases_Bool, nat_tests, drop-drop, drop_all, sum_by-append, prefix_len-drop_yes, prefix_len-drop_no, drop-cons, Mode, script, needs_escape, inner, begins_separator, passed, first_replacement, script_inner_after, escaped_count, runs_after, run_count_after, run_count, script_escapes_after, script_runs_after, run_end}
+use Rattle.std.proofs.Common.{◌≡◌, ℕ, zero, suc, ◌+◌, ◌-◌, ◌<◌, ◌≤◌, Bool, true, false, cond, List, [], ◌∷◌, ◌++◌, length, length-append, drop, get_or, length-drop, ◌*◌, refl, ap, ◌∙◌, arith, add-one}
+use Rattle.escape_simd.proofs.Words.{get_or_past, nat_tests, drop-drop, drop_all, sum_by-append, prefix_len-drop_yes, prefix_len-drop_no, drop-cons, Mode, script, needs_escape, inner, begins_separator, passed, first_replacement, script_inner_after, escaped_count, runs_after, run_count_after, run_count, script_escapes_after, script_runs_after, run_end}
 use Rattle.escape_simd.proofs.ReplacementLemmas.{script_inner_after-drop, inner-clean_byte, inner-nil, length-replacement}
 
 -- Separators
 
--- a separator begins with e2, which is flagged
-separator-flagged : (b : ℕ) (bs : List ℕ) → begins_separator (b ∷ bs) ≡ true → needs_escape script b ≡ true
-unfolding begins_separator
-separator-flagged b bs h = grind (arith, nat_tests)
-
 -- where a byte is not flagged no separator begins
 pub no_separator : (b : ℕ) (bs : List ℕ) → needs_escape script b ≡ false → begins_separator (b ∷ bs) ≡ false
-no_separator b bs clean = grind (arith, nat_tests, separator-flagged)
-
--- the second byte of a separator is 80
-second_byte : (bytes : List ℕ) → begins_separator bytes ≡ true → get_or bytes 1 0 ≡ 0x80
 unfolding begins_separator
-second_byte bytes h = grind (arith, nat_tests)
-
--- the third byte is a8 or a9
-third_byte : (bytes : List ℕ) → begins_separator bytes ≡ true → (0xa8 ≤ get_or bytes 2 0) × (get_or bytes 2 0 ≤ 0xa9)
-unfolding begins_separator
-third_byte bytes h = (grind (arith, nat_tests), grind (arith, nat_tests))
+no_separator b bs clean = grind (arith, nat_tests)
 
 -- a separator has three bytes
 separator-long : (bytes : List ℕ) → begins_separator bytes ≡ true → 3 ≤ length bytes
-separator-long [] h = absurd (let e = second_byte [] h in omega (arith, e))
-separator-long (a ∷ []) h = absurd (let e = second_byte (a ∷ []) h in omega (arith, e))
-separator-long (a ∷ b ∷ []) h = absurd (let e = (third_byte (a ∷ b ∷ []) h).0 in omega (arith, e))
-separator-long (a ∷ b ∷ c ∷ rest) h = omega arith
+unfolding begins_separator
+separator-long bytes h = grind (arith, nat_tests, get_or_past bytes 2 0)
 
 -- How far the first of what stands for bytes goes
 
@@ -45,21 +29,15 @@ passed≤length mode bytes some = omega arith
 
 -- where no escape is needed, one
 passed-clean : (mode : Mode) (b : ℕ) (bs : List ℕ) → needs_escape mode b ≡ false → passed mode (b ∷ bs) ≡ 1
-passed-clean script b bs clean = rw (no_separator b bs clean) refl
+passed-clean script b bs clean = grind (arith, nat_tests, no_separator)
 passed-clean mode b bs clean = refl
 
 -- a byte that is passed with the one before it needs no escape
 pub passed-between : (mode : Mode) (bytes : List ℕ) (k : ℕ) → 0 < k → k < passed mode bytes → needs_escape mode (get_or bytes k 0) ≡ false
-passed-between script bytes k some h = elim (cases_Bool (begins_separator bytes)) [
-  | inl begins ↦ between begins k some (rw begins at h)
-  | inr none ↦ absurd (let e = rw none at h in omega (arith, e))
-]
-  where
-    between : begins_separator bytes ≡ true → (k : ℕ) → 0 < k → k < 3 → needs_escape script (get_or bytes k 0) ≡ false
-    between begins zero some h = absurd (omega arith)
-    between begins (suc zero) some h = let e = second_byte bytes begins in rw e refl
-    between begins (suc (suc zero)) some h = let e = third_byte bytes begins in grind (arith, nat_tests)
-    between begins (suc (suc (suc k))) some h = absurd (omega arith)
+unfolding begins_separator
+passed-between script bytes (suc zero) some h = grind (arith, nat_tests)
+passed-between script bytes (suc (suc zero)) some h = grind (arith, nat_tests)
+passed-between script bytes k some h = absurd (grind (arith, nat_tests))
 passed-between mode bytes k some h = absurd (omega arith)
 
 -- What stands for bytes, and its counts, one step on
@@ -93,8 +71,8 @@ module _ (b : ℕ) (bs : List ℕ) where
   -- one byte more, by whether it needs an escape
   escaped-step : (mode : Mode) → escaped_count mode (b ∷ bs) ≡ escaped_count mode (drop (passed mode (b ∷ bs) - 1) bs) + cond (needs_escape mode b) 1 0
   unfolding script_escapes_after
-  escaped-step script = let a = escapes_after (passed script (b ∷ bs) - 1) bs in omega (arith, a)
-  escaped-step mode = let a = sum_by-append (λ x. cond (needs_escape mode x) 1 0) (b ∷ []) bs in omega (arith, a)
+  escaped-step script = omega (arith, escapes_after (passed script (b ∷ bs) - 1) bs)
+  escaped-step mode = omega (arith, sum_by-append (λ x. cond (needs_escape mode x) 1 0) (b ∷ []) bs)
 
   -- a clean byte begins no run, and ends one
   pub runs-clean : (mode : Mode) (before : Bool) → needs_escape mode b ≡ false → run_count_after mode before (b ∷ bs) ≡ run_count mode bs
@@ -105,13 +83,13 @@ module _ (b : ℕ) (bs : List ℕ) where
   -- a byte that needs an escape begins a run after a clean one
   pub runs-first : (mode : Mode) → needs_escape mode b ≡ true → run_count mode (b ∷ bs) ≡ run_count_after mode true (drop (passed mode (b ∷ bs) - 1) bs) + 1
   unfolding runs_after script_runs_after
-  runs-first script h = rw h (let a = marked_after (passed script (b ∷ bs) - 1) bs in omega (arith, a))
+  runs-first script h = rw h (omega (arith, marked_after (passed script (b ∷ bs) - 1) bs))
   runs-first mode h = rw h (omega arith)
 
   -- and none within a run
   pub runs-next : (mode : Mode) → needs_escape mode b ≡ true → run_count_after mode true (b ∷ bs) ≡ run_count_after mode true (drop (passed mode (b ∷ bs) - 1) bs)
   unfolding runs_after script_runs_after
-  runs-next script h = rw h (let a = marked_after (passed script (b ∷ bs) - 1) bs in omega (arith, a))
+  runs-next script h = rw h (omega (arith, marked_after (passed script (b ∷ bs) - 1) bs))
   runs-next mode h = rw h (omega arith)
 
 -- no byte, no run
@@ -139,14 +117,10 @@ module _ (mode : Mode) where
     inner-clean [] h = refl
     inner-clean (x ∷ xs) h = inner-clean_byte mode x (xs ++ ys) (h 0 (omega arith)) ∙ ap (λ zs. x ∷ zs) (inner-clean xs (λ k l. h (suc k) (omega arith)))
 
-    -- one is not escaped
-    escaped_one : (x : ℕ) (xs : List ℕ) → needs_escape mode x ≡ false → escaped_count mode (x ∷ xs) ≡ escaped_count mode xs
-    escaped_one x xs clean = grind (arith, nat_tests, escaped-step, passed-clean)
-
     -- none of them is escaped
     pub escaped_count-clean : (xs : List ℕ) → IsClean mode xs → escaped_count mode (xs ++ ys) ≡ escaped_count mode ys
     escaped_count-clean [] h = refl
-    escaped_count-clean (x ∷ xs) h = escaped_one x (xs ++ ys) (h 0 (omega arith)) ∙ escaped_count-clean xs (λ k l. h (suc k) (omega arith))
+    escaped_count-clean (x ∷ xs) h = grind (arith, nat_tests, escaped-step, passed-clean, h 0 (omega arith), escaped_count-clean xs (λ k l. h (suc k) (omega arith)))
 
     -- none of them begins a run
     pub run_count-clean : (xs : List ℕ) → IsClean mode xs → run_count mode (xs ++ ys) ≡ run_count mode ys
@@ -159,34 +133,26 @@ module _ (mode : Mode) where
     here : drop i src ≡ get_or src i 0 ∷ drop (i + 1) src
     here = rw add-one (drop-cons src i 0 inside)
 
-    -- past what the first replacement stands for
-    after : drop (passed mode (drop i src) - 1) (drop (i + 1) src) ≡ drop (i + passed mode (drop i src)) src
-    after = grind (arith, nat_tests, one≤passed, drop-drop)
-
-    -- the same, told of the byte and the rest
-    after_here : drop (passed mode (get_or src i 0 ∷ drop (i + 1) src) - 1) (drop (i + 1) src) ≡ drop (i + passed mode (drop i src)) src
-    after_here = ap (λ xs. drop (passed mode xs - 1) (drop (i + 1) src)) (sym here) ∙ after
-
     -- what stands there, and for the rest
     pub inner-here : inner mode (drop i src) ≡ first_replacement mode (drop i src) ++ inner mode (drop (i + passed mode (drop i src)) src)
-    inner-here = grind (arith, nat_tests, here, inner-step, after_here)
+    inner-here = grind (arith, here, inner-step, one≤passed, drop-drop)
 
     module _ (needed : needs_escape mode (get_or src i 0) ≡ true) where
       -- one more that is escaped
       pub escaped-here : escaped_count mode (drop i src) ≡ escaped_count mode (drop (i + passed mode (drop i src)) src) + 1
-      escaped-here = grind (arith, nat_tests, escaped-step, here, after_here)
+      escaped-here = grind (arith, nat_tests, escaped-step, here, one≤passed, drop-drop)
 
       -- it begins a run where none is open
       pub first-here : run_count mode (drop i src) ≡ run_count_after mode true (drop (i + passed mode (drop i src)) src) + 1
-      first-here = grind (arith, nat_tests, runs-first, here, after_here)
+      first-here = grind (arith, nat_tests, runs-first, here, one≤passed, drop-drop)
 
       -- it goes on with an open run
       pub next-here : run_count_after mode true (drop i src) ≡ run_count_after mode true (drop (i + passed mode (drop i src)) src)
-      next-here = grind (arith, nat_tests, runs-next, here, after_here)
+      next-here = grind (arith, nat_tests, runs-next, here, one≤passed, drop-drop)
 
       -- the run goes on past it
       pub run_end-here : run_end mode src i ≡ run_end mode src (i + 1)
-      run_end-here = let e = prefix_len-drop_yes (needs_escape mode) src i 0 inside needed in omega (arith, e)
+      run_end-here = omega (arith, prefix_len-drop_yes (needs_escape mode) src i 0 inside needed)
 
     module _ (clean : needs_escape mode (get_or src i 0) ≡ false) where
       -- it ends an open run
@@ -195,29 +161,25 @@ module _ (mode : Mode) where
 
       -- it is passed alone
       pub passed_clean-here : passed mode (drop i src) ≡ 1
-      passed_clean-here = ap (passed mode) here ∙ passed-clean mode (get_or src i 0) (drop (i + 1) src) clean
+      passed_clean-here = rw here (passed-clean mode (get_or src i 0) (drop (i + 1) src) clean)
 
       -- it is not escaped
       pub escaped_clean-here : escaped_count mode (drop i src) ≡ escaped_count mode (drop (i + 1) src)
-      escaped_clean-here = ap (escaped_count mode) here ∙ escaped_one [] (get_or src i 0) (drop (i + 1) src) clean
+      escaped_clean-here = grind (arith, nat_tests, escaped-step, passed_clean-here, here)
 
       -- it begins no run
       pub runs_clean-here : run_count mode (drop i src) ≡ run_count mode (drop (i + 1) src)
-      runs_clean-here = ap (run_count mode) here ∙ runs-clean (get_or src i 0) (drop (i + 1) src) mode false clean
+      runs_clean-here = grind (arith, runs-clean, here)
 
       -- a run ends there
       pub run_end-stop : run_end mode src i ≡ i
-      run_end-stop = let e = prefix_len-drop_no (needs_escape mode) src i 0 inside clean in omega (arith, e)
-
-    -- one step on no more runs begin
-    pub runs-step : run_count mode (drop (i + passed mode (drop i src)) src) ≤ run_count mode (drop i src)
-    runs-step = grind (arith, nat_tests, first-here, runs_after-≤, passed_clean-here, runs_clean-here)
+      run_end-stop = omega (arith, prefix_len-drop_no (needs_escape mode) src i 0 inside clean)
 
   -- the same at the end
   module _ (src : List ℕ) (i : ℕ) (over : length src ≤ i) where
     -- the end ends an open run
     pub runs_stop-end : run_count_after mode true (drop i src) ≡ run_count mode (drop i src)
-    runs_stop-end = let d = drop_all i src over in ap (run_count_after mode true) d ∙ runs-empty mode true ∙ sym (runs-empty mode false) ∙ ap (run_count mode) (sym d)
+    runs_stop-end = rw (drop_all i src over, runs-empty mode true, runs-empty mode false) refl
 
     -- and it is the end of a run
     pub run_end-end : run_end mode src i ≡ i
@@ -239,14 +201,8 @@ pub length-inner : (mode : Mode) (bytes : List ℕ) → (length bytes ≤ length
 length-inner mode bytes = by_steps (length bytes) bytes (omega arith)
   where
     by_steps : (n : ℕ) (bs : List ℕ) → length bs ≤ n → (length bs ≤ length (inner mode bs)) × (length (inner mode bs) ≤ 6 * length bs)
-    by_steps n [] h = let e = ap length (inner-nil mode) in (omega (arith, e), omega (arith, e))
+    by_steps n [] h = grind (arith, inner-nil)
     by_steps zero (b ∷ bs) h = absurd (omega arith)
     by_steps (suc n) (b ∷ bs) h =
-        let u : ℕ = passed mode (b ∷ bs) in
-        let one = one≤passed mode (b ∷ bs) in
-        let fits = passed≤length mode (b ∷ bs) (omega arith) in
-        let first = length-first mode (b ∷ bs) in
-        let left = length-drop (u - 1) bs in
-        let rest = by_steps n (drop (u - 1) bs) (omega (arith, left)) in
-        let step = ap length (inner-step b bs mode) ∙ length-append (first_replacement mode (b ∷ bs)) (inner mode (drop (u - 1) bs)) in
-        (omega (arith, step, first, rest, left, one, fits), omega (arith, step, first, rest, left, one, fits))
+        let rest = by_steps n (drop (passed mode (b ∷ bs) - 1) bs) (omega (arith, length-drop (passed mode (b ∷ bs) - 1) bs)) in
+        grind (arith, one≤passed, passed≤length mode (b ∷ bs), length-first, inner-step, length-append {A = ℕ}, length-drop {A = ℕ})

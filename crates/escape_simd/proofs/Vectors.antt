@@ -1,11 +1,11 @@
 -- A vector of a text as a whole: stored where it is clean, and what blocks cost.
-use Rattle.std.proofs.Common.{◌≡◌, ℕ, ◌+◌, ◌-◌, ◌/◌, ◌<◌, ◌≤◌, Bool, true, false, List, ◌++◌, length, length-drop, length-take-le, map, replicate, take, drop, get_or, refl, sym, ap, subst, ◌∙◌, arith, inl, inr}
+use Rattle.std.proofs.Common.{◌≡◌, ℕ, ◌+◌, ◌-◌, ◌/◌, ◌<◌, ◌≤◌, Bool, true, false, List, ◌++◌, length, length-drop, length-take-le, map, replicate, take, drop, get_or, refl, sym, ap, subst, ◌∙◌, arith}
 use Rattle.escape_simd.proofs.Words.{cases_Bool, drop-drop, get_or-drop, get_or-take, take-take, bits_of, gaps, length-bits_of, none_set, Mode, script, needs_escape, replacement, bytes_of, stored_of, Target, inner, passed, escaped_count, run_count, AreShort, Escapes, HasVectors, HoldsFlags, IsStored, IsVectorAt, Passed, Stretch}
 use Rattle.escape_simd.proofs.Escapes.{other-byte, passed-alone}
 use Rattle.escape_simd.proofs.Gaps.{gaps-paid_mask}
 use Rattle.escape_simd.proofs.Lanes.{CleanFrom, held-shifted, held-whole, none_clean}
 use Rattle.escape_simd.proofs.RestSteps.{rest-is}
-use Rattle.escape_simd.proofs.Stretches.{onward, onward_to, stored_ahead, widened}
+use Rattle.escape_simd.proofs.Stretches.{ended, onward, onward_to, stored_ahead, widened}
 use Rattle.escape_simd.proofs.Texts.{passed_clean-here}
 use Rattle.escape_simd.proofs.Turns.{ahead-front, ahead-passed, ahead-runs}
 
@@ -22,11 +22,8 @@ passed-to mode src border = record {
 pub clean-stored : {N : ℕ} (mode : Mode) (slack : ℕ) (src : List ℕ) (old new : Target N) (at valid to : ℕ) → at + valid ≤ length src → CleanFrom mode src at (at + valid) → IsStored slack src old new at valid to
     → Stretch mode slack src old new at (at + valid) to (to + valid)
 clean-stored mode slack src old new at valid to inside clean s =
-    let ahead = ahead-front mode src new at (at + valid) to valid (omega arith) s.ahead in
-    let all : at + valid - at ≡ valid = omega arith in
-    onward_to slack (stored_ahead mode slack src old new at valid to s (omega (arith, inside)))
-    (subst (λ k. Stretch mode slack src new new at (at + valid) to (to + k)) all (ahead-passed mode slack src new at (at + valid) (at + valid) to ahead (omega arith) (omega arith) inside clean))
-    (omega arith) (omega arith)
+    let p = ahead-passed mode slack src new at (at + valid) (at + valid) to (ahead-front mode src new at (at + valid) to valid (omega arith) s.ahead) (omega arith) (omega arith) inside clean in
+    onward_to slack (stored_ahead mode slack src old new at valid to s (omega (arith, inside))) (ended p refl (omega arith)) (omega arith) (omega arith)
 
 -- a clean vector was stored
 pub vector-clean : {N : ℕ} (mode : Mode) (slack : ℕ) (src : List ℕ) (old new : Target N) (at valid to ticks : ℕ) → at + valid ≤ length src → CleanFrom mode src at (at + valid)
@@ -124,36 +121,21 @@ escapes-later {N} {mode} {slack} {border} {vectors} {asked} {old} {new} {next} {
 -- a mask of a text's bytes from a place on, as one of a text of their own
 pub holds-from : (mode : Mode) (src : List ℕ) (at i valid from start : ℕ) (bits : List Bool) → start ≡ at + from → HoldsFlags mode src (at + i) valid start bits → HoldsFlags mode (drop at src) i valid from bits
 holds-from mode src at i valid from start bits begins h = record {
-  set = λ k s.
-      let t = h.set k s in let e : at + (i + k) ≡ at + i + k = omega arith in
-      (t.0, ap (needs_escape mode) (get_or-drop at src (i + k) 0 ∙ ap (λ j. get_or src j 0) e) ∙ t.1);
-  unset = λ k s later few.
-      let e : at + (i + k) ≡ at + i + k = omega arith in
-      ap (needs_escape mode) (get_or-drop at src (i + k) 0 ∙ ap (λ j. get_or src j 0) e) ∙ h.unset k s (omega (arith, later, begins)) few;
+  set = λ k s. let t = h.set k s in grind (arith, get_or-drop);
+  unset = λ k s later few. let t = h.unset k s in grind (arith, get_or-drop);
 }
 
 -- a vector of a text, as the first of a text of its own
 pub vector-later : (mode : Mode) (n slack : ℕ) (src text : List ℕ) (at valid to size : ℕ) (bits : List Bool) → text ≡ drop at src → IsVectorAt mode n slack src at valid to size bits → IsVectorAt mode n slack text 0 valid to size bits
 vector-later mode n slack src text at valid to size bits is v =
-    let count = length-drop at src in let here : at ≡ at + 0 = omega arith in
-    subst (λ xs. IsVectorAt mode n slack xs 0 valid to size bits) (sym is) (record {
-      flags = holds-from mode src at 0 valid 0 at bits here (subst (λ i. HoldsFlags mode src i valid at bits) here v.flags);
-      few = v.few;
-      inside = omega (arith, v.inside, count);
-      room = v.room;
-    })
+    record { flags = grind (arith, holds-from, v.flags); few = v.few; inside = grind (arith, length-drop {A = ℕ}, v.inside); room = v.room }
 
 -- a vector of which what came before it may have passed some bytes
 pub vector-left : (mode : Mode) (n : ℕ) (src : List ℕ) (at from to size : ℕ) (bits : List Bool) → 16 ≤ n → HoldsFlags mode src at n at bits → Passed mode src at from → HasVectors n 1 src at from to size
     → IsVectorAt mode n n src from (n - (from - at)) to size (drop (from - at) bits ++ replicate (from - at) false)
 vector-left mode n src at from to size bits several held p v =
-    let there : at + (from - at) ≡ from = omega (arith, p.whole) in
-    record {
-      flags = subst (λ k. HoldsFlags mode src k (n - (from - at)) k (drop (from - at) bits ++ replicate (from - at) false)) there (held-shifted mode src at n at bits held (from - at) (omega (arith, p.near, several)) (omega arith));
-      few = omega arith;
-      inside = omega (arith, v.inside, p.whole, p.near, several);
-      room = omega (arith, v.room, p.whole, p.near, several);
-    }
+    let h = held-shifted mode src at n at bits held (from - at) in
+    record { flags = grind arith; few = omega arith; inside = omega (arith, v.inside, p.whole, p.near, several); room = omega (arith, v.room, p.whole, p.near, several) }
 
 -- a vector's flags as a number
 pub mask-held : (mode : Mode) (n : ℕ) (src : List ℕ) (at : ℕ) (truths bits : List Bool) → n ≤ 64 → at + n ≤ length src → truths ≡ map (needs_escape mode) (take n (drop at src)) → bits ≡ truths ++ replicate (64 - n) false → HoldsFlags mode src at n at bits
@@ -163,10 +145,8 @@ mask-held mode n src at truths bits narrow inside flagged is =
 -- a vector with no flag is clean
 pub flags-clean : (mode : Mode) (n : ℕ) (src : List ℕ) (at : ℕ) (truths : List Bool) → at + n ≤ length src → truths ≡ map (needs_escape mode) (take n (drop at src)) → none_set truths ≡ true → CleanFrom mode src at (at + n)
 flags-clean mode n src at truths inside flagged none p after before =
-    let l = length-take-le n (drop at src) (omega (arith, length-drop at src, inside)) in
-    let e : at + (p - at) ≡ p = omega (arith, after) in
-    ap (needs_escape mode) (ap (λ k. get_or src k 0) (sym e) ∙ sym (get_or-drop at src (p - at) 0) ∙ sym (get_or-take n (drop at src) (p - at) 0 (omega (arith, after, before))))
-    ∙ none_clean mode (take n (drop at src)) (ap none_set (sym flagged) ∙ none) (p - at) (omega (arith, l, after, before))
+    let c = none_clean mode (take n (drop at src)) (ap none_set (sym flagged) ∙ none) (p - at) in
+    grind (arith, length-drop {A = ℕ}, length-take-le {A = ℕ}, get_or-drop, get_or-take)
 
 -- in script, e2 is one byte
 e2_count : length (replacement script 226) ≡ 1
@@ -174,9 +154,18 @@ unfolding replacement
 e2_count = refl
 
 -- no separator begins with a byte for which two stand
-not_lead : (mode : Mode) (src : List ℕ) (p : ℕ) → length (replacement mode (get_or src p 0)) ≡ 2 → passed mode (drop p src) ≡ 1
+pub not_lead : (mode : Mode) (src : List ℕ) (p : ℕ) → length (replacement mode (get_or src p 0)) ≡ 2 → passed mode (drop p src) ≡ 1
 not_lead script src p two = grind (arith, passed-alone, other-byte, e2_count)
 not_lead mode src p two = refl
+
+-- a mask tells of each byte whether it needs an escape
+told-held : (mode : Mode) (src : List ℕ) (at valid : ℕ) (bits : List Bool) → HoldsFlags mode src at valid at bits → (k : ℕ) → k < valid → get_or bits k false ≡ needs_escape mode (get_or src (at + k) 0)
+told-held mode src at valid bits h k few = let t = h.set k in let u = h.unset k in grind (arith, cases_Bool)
+
+-- where each flagged byte has a short escape, each byte is passed alone
+alone-short : (mode : Mode) (n : ℕ) (src : List ℕ) (at valid : ℕ) (bits : List Bool) → HoldsFlags mode src at valid at bits → AreShort mode n src at bits → at + valid ≤ length src → valid ≤ n → (p : ℕ) → at ≤ p → p < at + valid → passed mode (drop p src) ≡ 1
+alone-short mode n src at valid bits h short inside few p after before =
+    let t = h.set (p - at) in let u = h.unset (p - at) in let s = short (p - at) in grind (arith, cases_Bool, not_lead, passed_clean-here)
 
 -- a vector was escaped by blocks, whose stores its runs pay for
 pub vector-blocks : {N : ℕ} (mode : Mode) (slack : ℕ) (src : List ℕ) (old new : Target N) (at valid to end size : ℕ) (flags ticks_old ticks_new : ℕ) → IsVectorAt mode N slack src at valid to size (bits_of 64 flags) → AreShort mode N src at (bits_of 64 flags)
@@ -185,17 +174,8 @@ pub vector-blocks : {N : ℕ} (mode : Mode) (slack : ℕ) (src : List ℕ) (old 
     → Escapes mode slack (at + valid) 1 1 src old new at (at + valid) to end ticks_old ticks_new
 vector-blocks {N} mode slack src old new at valid to end size flags ticks_old ticks_new v short narrow several far paid s stored ticks =
     let bits = bits_of 64 flags in
-    let told : (k : ℕ) → k < valid → get_or bits k false ≡ needs_escape mode (get_or src (at + k) 0) = λ k h.
-    elim (cases_Bool (get_or bits k false)) [
-      | inl set ↦ set ∙ sym (v.flags.set k set).1
-      | inr unset ↦ unset ∙ sym (v.flags.unset k unset (omega arith) h)
-    ] in
-    let alone : (p : ℕ) → at ≤ p → p < at + valid → passed mode (drop p src) ≡ 1 = λ p after before.
-    let e : at + (p - at) ≡ p = omega (arith, after) in
-    elim (cases_Bool (get_or bits (p - at) false)) [
-      | inl set ↦ not_lead mode src p (ap (λ k. length (replacement mode (get_or src k 0))) (sym e) ∙ short (p - at) (omega (arith, after, before, v.few)) set (v.flags.set (p - at) set).1)
-      | inr unset ↦ passed_clean-here mode src p (omega (arith, before, v.inside)) (ap (λ k. needs_escape mode (get_or src k 0)) (sym e) ∙ v.flags.unset (p - at) unset (omega (arith, after)) (omega (arith, after, before)))
-    ] in
+    let told : (k : ℕ) → k < valid → get_or bits k false ≡ needs_escape mode (get_or src (at + k) 0) = told-held mode src at valid bits v.flags in
+    let alone : (p : ℕ) → at ≤ p → p < at + valid → passed mode (drop p src) ≡ 1 = alone-short mode N src at valid bits v.flags short (omega (arith, v.inside)) v.few in
     let runs = gaps-paid_mask mode src bits at valid (omega (arith, v.inside)) (omega (arith, length-bits_of 64 flags, v.few, narrow)) told alone in
     let eight : 2 ≤ N / 8 = omega (arith, several) in
     record {

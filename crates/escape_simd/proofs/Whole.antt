@@ -20,16 +20,14 @@ plain-parts html text = sym (append-nil (inner html text))
 plain-parts script text = refl
 
 -- both quotes together
-two_quotes : (mode : Mode) → length (quote_of mode) + length (quote_of mode) ≡ quote_count mode
+pub two_quotes : (mode : Mode) → length (quote_of mode) + length (quote_of mode) ≡ quote_count mode
 two_quotes json = refl
 two_quotes html = refl
 two_quotes script = refl
 
 -- the bound has room for three of them
 pub bound-quotes : (mode : Mode) (n : ℕ) → bound mode n ≡ 6 * n + 32 + 3 * length (quote_of mode)
-bound-quotes json n = omega arith
-bound-quotes html n = omega arith
-bound-quotes script n = omega arith
+bound-quotes mode n = grind arith
 
 -- a quote is one byte or none
 pub quote-short : (mode : Mode) → length (quote_of mode) ≤ 1
@@ -37,28 +35,19 @@ quote-short json = omega arith
 quote-short html = omega arith
 quote-short script = omega arith
 
--- all bytes of a text were passed
-module _ {N : ℕ} {mode : Mode} {slack : ℕ} {text : List ℕ} {old new : Target N} {to end : ℕ} (s : Stretch mode slack text old new 0 (length text) to end) where
-  -- nothing is left
-  nothing-left : inner mode (drop (length text) text) ≡ inner mode []
-  nothing-left = ap (inner mode) (drop_all (length text) text (le_refl (length text)))
+-- all bytes of a text were passed: what stands for it is there
+pub all-inner : {N : ℕ} {mode : Mode} {slack : ℕ} {text : List ℕ} {old new : Target N} {to end : ℕ} → Stretch mode slack text old new 0 (length text) to end → IsInnerAt mode slack text (bytes_of old) (bytes_of new) to end
+all-inner {N} {mode} {slack} {text} {old} {new} {to} {end} s =
+    let none : inner mode (drop (length text) text) ≡ [] = ap (inner mode) (drop_all (length text) text (omega arith)) ∙ inner-nil mode in
+    record { ends = grind (arith, s.limit, rest-is); written = grind (arith, s.bytes, append-nil); kept = s.kept }
 
-  -- what is written after what stood before
-  pub all-written : take end (bytes_of new) ≡ take to (bytes_of old) ++ inner mode text
-  all-written =
-      sym (append-nil (take end (bytes_of new)))
-      ∙ ap (λ xs. take end (bytes_of new) ++ xs) (sym (nothing-left ∙ inner-nil mode))
-      ∙ s.bytes
-
-  -- as many bytes further
-  pub all-end : end ≡ to + length (inner mode text)
-  all-end =
-      let l = s.limit in let r = rest-is mode text 0 in let q = rest-is mode text (length text) ∙ ap length (nothing-left ∙ inner-nil mode) in
-      omega (arith, l, r, q)
-
-  -- so what stands for it is there
-  pub all-inner : IsInnerAt mode slack text (bytes_of old) (bytes_of new) to end
-  all-inner = record { ends = all-end; written = all-written; kept = s.kept }
+-- a quote that stands there needs no writing
+pub quoted-before : (mode : Mode) (bytes : List ℕ) (opened : ℕ) → opened ≡ length (quote_of mode) → take (length (quote_of mode)) bytes ≡ quote_of mode → IsQuotedAt mode bytes bytes 0 opened
+quoted-before mode bytes opened ends there = record {
+  ends = omega (arith, ends);
+  written = rw ends there;
+  kept = refl;
+}
 
 -- a text's bytes, and quotes around them
 pub whole_written : {lanes : ℕ} {mode : Mode} {text old first second new : List ℕ} {opened close count : ℕ} → IsQuotedAt mode old first 0 opened → IsInnerAt mode (reach true lanes) text first second opened close → IsQuotedAt mode second new close count
@@ -131,13 +120,12 @@ written-over lanes mode text old mid new count several same w =
 -- what stands for a text with no quotation marks, at the front of the bytes
 pub inner_written : (lanes : ℕ) (mode : Mode) (text old new : List ℕ) (count : ℕ) → IsInnerAt mode (reach true lanes) text old new 0 count → IsInnerWritten lanes mode text old new count
 inner_written lanes mode text old new count at =
-    let most = length-inner mode text in
-    let further : (k : ℕ) → count + reach true lanes ≤ k → drop k new ≡ drop k old = λ k h. drop_further new old (count + reach true lanes) k h at.kept in
+    let most = length-inner mode text in let further = drop_further new old (count + reach true lanes) in
     record {
       exact = at.written;
       ends = omega (arith, at.ends);
       least = omega (arith, at.ends, most);
       most = omega (arith, at.ends, most);
-      kept_bound = further (6 * length text + 32) (omega (arith, at.ends, most));
-      kept_past = further (count + lanes) (omega arith);
+      kept_bound = further (6 * length text + 32) (omega (arith, at.ends, most)) at.kept;
+      kept_past = further (count + lanes) (omega arith) at.kept;
     }

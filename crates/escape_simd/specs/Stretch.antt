@@ -168,11 +168,11 @@ pub record HasRest (N : ℕ) (src : List ℕ) (at to size : ℕ) : Type 0 where
   pub few : length src < at + 2 * N
   pub room : to + 6 * (length src - at) + reach true N ≤ size
 
--- A short text, with the flags of its first vector, and where it has more bytes than one has, those of its last one.
+-- A short text, with the flags of its last vector, and where it has as many bytes as one, those of its first one.
 pub record AreLast (mode : Mode) (N : ℕ) (text : List ℕ) (first last : List Bool) : Type 0 where
   pub few : length text < 2 * N
-  pub front : HoldsFlags mode text 0 (min (length text) N) 0 first
-  pub back : N ≤ length text → HoldsFlags mode text (length text - N) N (length text - N) last
+  pub front : N ≤ length text → HoldsFlags mode text 0 N 0 first
+  pub back : HoldsFlags mode text (length text - N) (min (length text) N) (length text - N) last
 
 -- so many bytes of a text were classified, by vectors of N, and nothing was written
 pub record IsAsked {n : ℕ} (N count : ℕ) (old new : Target n) (ticks_old ticks_new : ℕ) : Type 0 where

@@ -19,6 +19,6 @@ mod whole;
 pub(crate) use body::{escape_at, escape_chunks};
 pub(crate) use chunk::flags_at;
 pub use escape_lanes::simd::{BitMask, Flags, LoadLast, Mask, Simd, bits, target};
-pub(crate) use rest::escape_last;
+pub(crate) use rest::escape_flagged;
 pub(crate) use vector::Vector;
 pub use vector::{HTML_MODE, JSON_MODE, SCRIPT_MODE};

@@ -28,7 +28,7 @@ fn append_one<const MODE: u8, A: Allocator>(text: &[u8], dst: &mut Vec<u8, A>)
     let mut ticks = Ticks::new();
     let flags = v.flags(MODE, &mut ticks).bits().clear_high_bits(64 - count);
     if !flags.all_zero() {
-        return append_flagged::<MODE, A>(text, flags, 0, dst);
+        return append_flagged::<MODE, A>(text, 0, flags, dst);
     }
     let len = dst.len();
     push_vector(dst, len, &v);
@@ -64,14 +64,15 @@ fn append_two<const MODE: u8, A: Allocator>(text: &[u8], dst: &mut Vec<u8, A>)
 /// place.
 #[inline(never)]
 fn append_many<const MODE: u8, A: Allocator>(text: &[u8], dst: &mut Vec<u8, A>)
-    requires { vec_len dst.old + 6 * length text.now + N ≤ vec_capacity dst.old }
+    requires some { N ≤ length text.now }
+    requires room { vec_len dst.old + 6 * length text.now + N ≤ vec_capacity dst.old }
     ensures { dst.new.items ≡ dst.old.items
         ++ (inner (mode_numbered MODE) text.now ++ quote_of (mode_numbered MODE)) }
 {
     let at = append_front::<MODE, A>(text, dst);
     let rest = &text[at..];
-    if rest.len() < N {
-        return append_one::<MODE, A>(rest, dst);
+    if rest.len() < 2 * N {
+        return append_two::<MODE, A>(rest, dst);
     }
     append_in_place::<MODE, A>(rest, dst);
 }

@@ -1,41 +1,20 @@
 //! Escaping in place: a vector is filled with zeros some way ahead of what is written in them.
 ghost use Rattle.std.specs.Prelude.{◌≡◌, ◌+◌, ◌*◌, ◌≤◌, ◌++◌, length, take, drop, vec_len, vec_capacity};
 ghost use Rattle.escape_lanes.specs.Bits.{bits_of};
-ghost use Rattle.escape_simd.specs.Formatted.{IsInnerAt};
 ghost use Rattle.escape_simd.specs.Modes.{mode_numbered};
 ghost use Rattle.escape_simd.specs.Output.{inner, quote_of};
 ghost use Rattle.escape_simd.specs.Stretch.{AreLast};
 
 use crate::output::push::{fill, push_quote};
 use crate::output::{N, V};
-use crate::simd::{escape_at, escape_chunks, escape_last};
-use escape_lanes::simd::target::{Target, Ticks};
+use crate::simd::{escape_at, escape_chunks, escape_flagged};
 use std::alloc::Allocator;
 
 /// What may stand for a chunk of four vectors, and a vector more.
 const CHUNK_ROOM: usize = 25 * N;
 
-/// Escapes a text of fewer bytes than two vectors have, whose flags are known, to `dst` from `to` on. Returns
-/// the place after it.
-#[inline(always)]
-fn escape_flagged<const MODE: u8>(
-    text: &[u8],
-    first: u64,
-    last: u64,
-    dst: &mut [u8],
-    to: usize,
-) -> usize
-    requires flagged { AreLast (mode_numbered MODE) N text.now (bits_of 64 first) (bits_of 64 last) }
-    requires room { to + 6 * length text.now + N ≤ length dst.old }
-    ensures { IsInnerAt (mode_numbered MODE) N text.now dst.old dst.new to result }
-{
-    let mut target = Target::<N>::new(dst);
-    let mut ticks = Ticks::new();
-    escape_last::<V, MODE, N>(text, first, last, &mut target, to, &mut ticks)
-}
-
 /// Appends what stands for a text of fewer bytes than two vectors have, and the last quotation mark. Its flags are
-/// known: `first` has those of its first vector, and `last` those of its last one.
+/// known: `last` has those of its last vector, and `first` those of its first one, where it has as many bytes as one.
 #[inline(never)]
 pub(super) fn append_flagged<const MODE: u8, A: Allocator>(
     text: &[u8],
@@ -50,7 +29,7 @@ pub(super) fn append_flagged<const MODE: u8, A: Allocator>(
 {
     let old = dst.len();
     fill(dst, old + 6 * text.len() + N);
-    let end = escape_flagged::<MODE>(text, first, last, dst, old);
+    let end = escape_flagged::<V, MODE, N>(text, first, last, dst, old);
     dst.truncate(end);
     push_quote::<MODE, A>(dst);
 }

@@ -24,8 +24,7 @@ fn pay_for_blocks<const N: usize>(flags: u64, valid: usize) -> bool
     requires few { valid ≤ 64 }
     ensures { result ≡ true → N / 8 - 2 ≤ gaps false (take valid (bits_of 64 flags)) }
 {
-    let stores = count_gaps(flags, valid);
-    RUNS <= stores && N / 8 - 2 <= stores
+    RUNS.max(N / 8 - 2) <= count_gaps(flags, valid)
 }
 
 /// Classifies the text's vector at `at` for the count alone, as often as its blocks may count as stores, less

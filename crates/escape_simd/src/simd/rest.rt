@@ -3,8 +3,9 @@ ghost use Rattle.std.specs.Prelude.{min, ◌≡◌, ◌+◌, ◌-◌, ◌*◌, �
 ghost use Rattle.std.specs.List.{flat_map};
 ghost use Rattle.escape_lanes.specs.Bits.{bits_of};
 ghost use Rattle.escape_lanes.specs.Written.{bytes_of};
+ghost use Rattle.escape_simd.specs.Formatted.{IsInnerAt};
 ghost use Rattle.escape_simd.specs.Modes.{mode_numbered};
-ghost use Rattle.escape_simd.specs.Stretch.{AreLast, Escapes, HasRest, IsAsked, reach};
+ghost use Rattle.escape_simd.specs.Stretch.{AreLast, Escapes, HasRest, HoldsFlags, IsAsked, reach};
 
 use crate::simd::by_mask::escape_by_mask;
 use crate::simd::chunk::flags_at;
@@ -14,26 +15,73 @@ use escape_lanes::simd::lane_bits::shift_lanes;
 use escape_lanes::simd::target::{Target, Ticks};
 use escape_lanes::simd::{BitMask, Flags};
 
-/// Returns the bytes of a short text, and zeros after them: further vectors can be loaded there.
+/// Returns the lanes, and zeros after them: further vectors can be loaded there.
 #[inline(always)]
-fn hold<V: Vector<N>, const N: usize>(text: &[u8]) -> [[u8; N]; 3]
-    requires { length text.now < 2 * N }
-    ensures { flat_map (λ row. row) result ≡ text.now ++ replicate (3 * N - length text.now) 0 }
+fn hold<V: Vector<N>, const N: usize>(v: &V) -> [[u8; N]; 2]
+    ensures { flat_map (λ row. row) result ≡ V.lanes v.now ++ replicate N 0 }
 {
-    let mut held = [[0u8; N]; 3];
-    if text.len() < N {
-        V::load_last(text, text.len()).put(&mut held[0]);
-    } else {
-        V::load(text, 0).put(&mut held[0]);
-        V::load_last(text, text.len() - N).put(&mut held[1]);
-    }
+    let mut held = [[0u8; N]; 2];
+    v.put(&mut held[0]);
     held
 }
 
-/// Escapes a short text, whose flags are known: `first` has those of its first vector, and `last` those of its last
-/// one, which may have some of the same bytes. Returns the place after it.
+/// Escapes a text shorter than a vector, whose flags are known. Returns the place after it.
 #[inline(always)]
-pub(crate) fn escape_last<V: Vector<N>, const MODE: u8, const N: usize>(
+fn escape_one<V: Vector<N>, const MODE: u8, const N: usize>(
+    text: &[u8],
+    flags: u64,
+    target: &mut Target<'_, N>,
+    to: usize,
+    ticks: &mut Ticks,
+) -> usize
+    requires few { length text.now < N }
+    requires flagged { HoldsFlags (mode_numbered MODE) text.now 0 (length text.now) 0 (bits_of 64 flags) }
+    requires room { to + 6 * length text.now + reach true N ≤ length (bytes_of target.old) }
+    ensures { Escapes (mode_numbered MODE) (reach true N) (length text.now) 1 1 text.now target.old target.new 0 (length text.now) to result ticks.old ticks.new }
+{
+    let count = text.len();
+    let held = hold::<V, N>(&V::load_last(text, count));
+    escape_by_mask::<V, MODE, N, true>(held.as_flattened(), 0, count, flags, target, to, ticks).1
+}
+
+/// Escapes a text of one vector or more, and fewer than two, whose flags are known: those of its first vector, and of
+/// its last one, which may have some of the same bytes. Returns the place after it.
+#[inline(always)]
+fn escape_two<V: Vector<N>, const MODE: u8, const N: usize>(
+    text: &[u8],
+    first: u64,
+    last: u64,
+    target: &mut Target<'_, N>,
+    to: usize,
+    ticks: &mut Ticks,
+) -> usize
+    requires some { N ≤ length text.now }
+    requires flagged { AreLast (mode_numbered MODE) N text.now (bits_of 64 first) (bits_of 64 last) }
+    requires room { to + 6 * length text.now + reach true N ≤ length (bytes_of target.old) }
+    ensures { Escapes (mode_numbered MODE) (reach true N) (length text.now) 2 2 text.now target.old target.new 0 (length text.now) to result ticks.old ticks.new }
+{
+    let border = text.len() - N;
+    let front = first.clear_high_bits(64 - border);
+    let (next, end) = escape_by_mask::<V, MODE, N, true>(text, 0, border, front, target, to, ticks);
+    let held = hold::<V, N>(&V::load(text, border));
+    let passed = next - border;
+    let left = shift_lanes(last, passed);
+    escape_by_mask::<V, MODE, N, true>(
+        &held.as_flattened()[passed..],
+        0,
+        N - passed,
+        left,
+        target,
+        end,
+        ticks,
+    )
+    .1
+}
+
+/// Escapes a short text, whose flags are known: `last` has those of its last vector, and `first` those of its first
+/// one, where it has as many bytes as one. Returns the place after it.
+#[inline(always)]
+fn escape_last<V: Vector<N>, const MODE: u8, const N: usize>(
     text: &[u8],
     first: u64,
     last: u64,
@@ -45,27 +93,32 @@ pub(crate) fn escape_last<V: Vector<N>, const MODE: u8, const N: usize>(
     requires room { to + 6 * length text.now + reach true N ≤ length (bytes_of target.old) }
     ensures { Escapes (mode_numbered MODE) (reach true N) (length text.now) (length text.now / N + 1) (length text.now / N + 1) text.now target.old target.new 0 (length text.now) to result ticks.old ticks.new }
 {
-    let count = text.len();
-    let rows = hold::<V, N>(text);
-    let held = rows.as_flattened();
-    let (next, end) = escape_by_mask::<V, MODE, N, true>(
-        held,
-        0,
-        count.min(N),
-        first,
-        target,
-        to,
-        ticks,
-    );
-    if count <= next {
-        return end;
+    if text.len() < N {
+        return escape_one::<V, MODE, N>(text, last, target, to, ticks);
     }
-    let left = shift_lanes(last, next + N - count);
-    escape_by_mask::<V, MODE, N, true>(held, next, count - next, left, target, end, ticks).1
+    escape_two::<V, MODE, N>(text, first, last, target, to, ticks)
 }
 
-/// The flags of a text's last bytes, fewer than two vectors have: of their first vector, and where they are more than
-/// one has, of their last one.
+/// As [`escape_last`], to `dst`, and with no count.
+#[inline(always)]
+pub(crate) fn escape_flagged<V: Vector<N>, const MODE: u8, const N: usize>(
+    text: &[u8],
+    first: u64,
+    last: u64,
+    dst: &mut [u8],
+    to: usize,
+) -> usize
+    requires flagged { AreLast (mode_numbered MODE) N text.now (bits_of 64 first) (bits_of 64 last) }
+    requires room { to + 6 * length text.now + reach true N ≤ length dst.old }
+    ensures { IsInnerAt (mode_numbered MODE) (reach true N) text.now dst.old dst.new to result }
+{
+    let mut target = Target::<N>::new(dst);
+    let mut ticks = Ticks::new();
+    escape_last::<V, MODE, N>(text, first, last, &mut target, to, &mut ticks)
+}
+
+/// The flags of a text's last bytes, fewer than two vectors have: of their last vector, and where they are as many as
+/// one has, of their first one.
 #[derive(Drop)]
 pub(crate) struct LastFlags {
     pub first: u64,
@@ -90,9 +143,9 @@ pub(crate) fn store_last<V: Vector<N>, const MODE: u8, const N: usize>(
     let count = src.len() - at;
     if count < N {
         let v = V::load_last(src, count);
-        let first = v.flags(MODE, ticks).bits().clear_high_bits(64 - count);
-        if !first.all_zero() {
-            return Err(LastFlags { first, last: 0 });
+        let last = v.flags(MODE, ticks).bits().clear_high_bits(64 - count);
+        if !last.all_zero() {
+            return Err(LastFlags { first: 0, last });
         }
         store_lanes::<V, N, true>(&v, &src[at..], target, to);
         return Ok(to + count);

@@ -2,7 +2,7 @@
 ghost use Rattle.std.specs.Prelude.{◌≡◌, ℕ, ◌+◌, ◌-◌, ◌*◌, ◌<◌, ◌≤◌, ◌++◌, true, IsTrue, length, take, drop, slice_index, slice_range};
 ghost use Rattle.escape_lanes.specs.Mode.{mode_of};
 ghost use Rattle.escape_lanes.specs.Replacement.{needs_escape};
-ghost use Rattle.escape_lanes.specs.Written.{bytes_of, stored_of, escaped_of, quotes_of, IsSameSlice};
+ghost use Rattle.escape_lanes.specs.Written.{bytes_of, stored_of, escaped_of, quotes_of, writes_of, IsSameSlice};
 ghost use Rattle.escape_simd.specs.Modes.{mode_numbered};
 ghost use Rattle.escape_simd.specs.Output.{inner};
 ghost use Rattle.escape_simd.specs.Stretch.{Escaped, Stretch, IsFlaggedAt, IsRun, run_end};
@@ -32,8 +32,10 @@ pub(crate) fn escape<const MODE: u8, const N: usize>(
         return (at + 3, to + 6);
     }
     let entry = entry::<MODE>(src[at]);
+    // The length is read first: a load after the write would wait for it.
+    let end = to + entry.0 as usize;
     target.escape(to, &entry.1);
-    (at + 1, to + entry.0 as usize)
+    (at + 1, end)
 }
 
 /// Escapes the run of bytes at `at` that need an escape, up to the first byte that needs none or the
@@ -89,6 +91,7 @@ pub fn escape_unchecked<const HTML: bool, const N: usize>(
     ensures escaped { escaped_of target.new ≡ escaped_of target.old + (result.0 - at) }
     ensures stored { stored_of target.new ≡ stored_of target.old }
     ensures quotes { quotes_of target.new ≡ quotes_of target.old }
+    ensures writes { writes_of target.new ≤ writes_of target.old + (result.0 - at) }
 {
     if HTML {
         return run::<{ HTML_MODE }, N>(src, at, target, to);

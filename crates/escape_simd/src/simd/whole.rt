@@ -7,11 +7,11 @@ ghost use Rattle.escape_simd.specs.Formatted.{IsFormatted, IsInnerWritten, IsQuo
 ghost use Rattle.escape_simd.specs.Headline.{IsOnlyOutput};
 ghost use Rattle.escape_simd.specs.Laws.{IsOfOneText};
 ghost use Rattle.escape_simd.specs.Modes.{mode_numbered};
-ghost use Rattle.escape_simd.specs.Output.{bound};
+ghost use Rattle.escape_simd.specs.Output.{bound, quote_of};
 ghost use Rattle.escape_simd.specs.Stretch.{AreLast};
 
 use crate::simd::body::{escape_at, escape_bytes};
-use crate::simd::rest::{escape_last, store_last};
+use crate::simd::rest::{escape_flagged, store_last};
 use crate::simd::vector::{HTML_MODE, JSON_MODE, Vector};
 use escape_lanes::simd::target::{Target, Ticks};
 
@@ -82,7 +82,18 @@ fn format_long<V: Vector<N>, const MODE: u8, const N: usize>(value: &str, dst: &
     quote_at::<MODE, N>(dst, close)
 }
 
-/// As [`format_long`], of a short text whose flags are known: so a clean one waits for no frame.
+/// How many bytes a quotation mark takes: one in JSON, also in script mode, and none in HTML.
+#[inline(always)]
+const fn quote_length<const MODE: u8>() -> usize
+    ensures { result ≡ length (quote_of (mode_numbered MODE)) }
+{
+    if MODE == HTML_MODE {
+        return 0;
+    }
+    1
+}
+
+/// As [`format_long`], of a short text whose flags are known, and whose first quotation mark is written.
 #[inline(never)]
 fn format_flagged<V: Vector<N>, const MODE: u8, const N: usize>(
     text: &[u8],
@@ -92,25 +103,24 @@ fn format_flagged<V: Vector<N>, const MODE: u8, const N: usize>(
 ) -> usize
     requires flagged { AreLast (mode_numbered MODE) N text.now (bits_of 64 first) (bits_of 64 last) }
     requires room { bound (mode_numbered MODE) (length text.now) ≤ length dst.old }
+    requires quoted { take (length (quote_of (mode_numbered MODE))) dst.old ≡ quote_of (mode_numbered MODE) }
     ensures { IsWritten N (mode_numbered MODE) text.now dst.old dst.new result }
 {
-    let mut target = Target::<N>::new(dst);
-    let mut ticks = Ticks::new();
-    let open = quote::<MODE, N>(&mut target, 0);
-    let close = escape_last::<V, MODE, N>(text, first, last, &mut target, open, &mut ticks);
-    quote::<MODE, N>(&mut target, close)
+    let open = quote_length::<MODE>();
+    let close = escape_flagged::<V, MODE, N>(text, first, last, dst, open);
+    quote_at::<MODE, N>(dst, close)
 }
 
-/// As [`format_long`], of a short text.
+/// As [`format_long`], of a short text: a clean one needs no frame.
 #[inline(always)]
 fn format_short<V: Vector<N>, const MODE: u8, const N: usize>(text: &[u8], dst: &mut [u8]) -> usize
     requires few { length text.now < 2 * N }
     requires room { bound (mode_numbered MODE) (length text.now) ≤ length dst.old }
     ensures { IsWritten N (mode_numbered MODE) text.now dst.old dst.new result }
 {
+    let open = quote_at::<MODE, N>(dst, 0);
     let asked = {
         let mut target = Target::<N>::new(dst);
-        let open = quote::<MODE, N>(&mut target, 0);
         match store_last::<V, MODE, N>(text, 0, &mut target, open, &mut Ticks::new()) {
             Ok(close) => return quote::<MODE, N>(&mut target, close),
             Err(flags) => flags,

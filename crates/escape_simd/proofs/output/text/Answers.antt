@@ -1,4 +1,4 @@
-use Rattle.std.proofs.Common.{ap, ◌∙◌, arith}
+use Rattle.std.proofs.Common.{ap, ◌∙◌}
 use Rattle.escape_simd.proofs.OutputLemmas.{IsTextOf-chars, IsUtf8-output, IsOnlyOutput-output, IsOfOneText-output, HasOutputLength-output, JoinsTexts-output}
 use Rattle.escape_simd.proofs.output.text.Goals as goal
 
@@ -28,6 +28,3 @@ pub returns-clause-len : goal.returns-clause-len
 returns-clause-len g c =
     let bytes = rw c.in_ok-bytes.ensures.items at c.append_output.ensures in
     HasOutputLength-output _ _ _ (ap (λ v. v.items) c.from_utf8_unchecked.ensures.value ∙ bytes)
-
-pub returns-in_default-clause-too_large : goal.returns-in_default-clause-too_large
-returns-in_default-clause-too_large g c = grind arith

@@ -1,5 +1,5 @@
 //! The escapes of a vector in blocks: eight bytes at a time, with no question about a single one.
-ghost use Rattle.std.specs.Prelude.{◌≡◌, ◌≢◌, ℕ, ◌+◌, ◌-◌, ◌*◌, ◌/◌, ◌<◌, ◌≤◌, ◌++◌, false, true, List, [], length, take, drop, map, replicate, slice_index, slice_index_or};
+ghost use Rattle.std.specs.Prelude.{◌≡◌, ◌≢◌, ℕ, ◌+◌, ◌-◌, ◌*◌, ◌/◌, ◌%◌, ◌<◌, ◌≤◌, ◌++◌, false, true, List, [], length, take, drop, map, replicate, slice_index, slice_index_or};
 ghost use Rattle.escape_lanes.specs.Bits.{bits_of};
 ghost use Rattle.escape_lanes.specs.Lanes.{AreBytes};
 ghost use Rattle.escape_lanes.specs.Replacement.{needs_escape, replacement};
@@ -66,15 +66,17 @@ fn shorten_vector<const N: usize>(src: &[u8], at: usize) -> [u8x16; 4]
     pieces
 }
 
-/// The two halves of the bytes, each with eight reverse solidi behind it.
+/// The half of the bytes that is the vector's block of that number, with eight reverse solidi behind it.
 #[inline(always)]
-fn halves(bytes: u8x16) -> (u8x16, u8x16)
+fn half(bytes: u8x16, block: usize) -> u8x16
     requires { length bytes ≡ 16 }
-    ensures first { result.0 ≡ take 8 bytes ++ replicate 8 0x5c }
-    ensures second { result.1 ≡ drop 8 bytes ++ replicate 8 0x5c }
+    ensures { result ≡ take 8 (drop (8 * (block % 2)) bytes) ++ replicate 8 0x5c }
 {
     let solidi = u8x16::splat(b'\\');
-    (bytes.shuffle(solidi, FIRST), bytes.shuffle(solidi, LAST))
+    if block % 2 == 0 {
+        return bytes.shuffle(solidi, FIRST);
+    }
+    bytes.shuffle(solidi, LAST)
 }
 
 /// Writes the block's first eight bytes at `to`, a reverse solidus before each that is flagged. Returns the
@@ -158,14 +160,13 @@ pub(crate) fn escape_blocks<const MODE: u8, const N: usize>(
     let pieces = shorten_vector::<N>(src, at);
     let mut end = to;
     let mut block = 0;
-    'pieces: while 8 * block < valid {
-        let (first, second) = halves(pieces[block / 2]);
-        end = put_block(first, eight_lanes(flags, block), target, end);
-        if valid <= 8 * block + 8 {
-            return end - (8 * block + 8 - valid);
+    'blocks: while 8 * block < N {
+        let bytes = half(pieces[block / 2], block);
+        end = put_block(bytes, eight_lanes(flags, block), target, end);
+        block += 1;
+        if valid <= 8 * block {
+            break;
         }
-        end = put_block(second, eight_lanes(flags, block + 1), target, end);
-        block += 2;
     }
     end - (8 * block - valid)
 }

@@ -1,11 +1,8 @@
 use Rattle.std.proofs.Common.{length, sym, arith}
 use Rattle.escape_lanes.specs.Written.{bytes_of}
 use Rattle.escape_simd.specs.Modes.{mode_numbered}
-use Rattle.escape_simd.proofs.Costs.{body-begin, body-later, body-left, body-on, body-vectors}
+use Rattle.escape_simd.proofs.Costs.{body-later, body-left, body-on, body-vectors}
 use Rattle.escape_simd.proofs.simd.body.escape_bytes.Goals as goal
-
-pub chunks-init : goal.chunks-init
-chunks-init g c = body-begin (mode_numbered g.row.MODE) c.args.src.now c.args.target.now c.args.to c.args.ticks.now
 
 pub chunk-requires : goal.chunk-requires
 chunk-requires g c =

@@ -1,12 +1,9 @@
 use Rattle.std.proofs.Common.{length, sym, arith}
 use Rattle.escape_lanes.specs.Written.{bytes_of}
 use Rattle.escape_simd.specs.Modes.{mode_numbered}
-use Rattle.escape_simd.proofs.Costs.{body-all, body-begin, body-on, body-rest, body-vectors}
+use Rattle.escape_simd.proofs.Costs.{body-all, body-on, body-rest, body-vectors}
 use Rattle.escape_simd.proofs.Vectors.{escapes-bordered}
 use Rattle.escape_simd.proofs.simd.body.escape_vectors.Goals as goal
-
-pub vectors-init : goal.vectors-init
-vectors-init g c = body-begin (mode_numbered g.row.MODE) c.args.src.now c.args.target.now c.args.to c.args.ticks.now
 
 pub whole_vector-requires : goal.whole_vector-requires
 whole_vector-requires g c =

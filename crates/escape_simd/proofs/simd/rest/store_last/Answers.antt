@@ -10,19 +10,19 @@ returns-then-not-all_zero-clause-flagged g c =
     let mode = mode_numbered g.row.MODE in let n : ℕ = g.row.N in let src : List ℕ = c.args.src.now in let at : ℕ = c.args.at in let r = c.requires in let t = g.V.Flags.Flags.truths in
     let text : List ℕ = take (length src - at) (drop at src) in let count = length-drop at src in
     let is : text ≡ drop at src = take_all (length src - at) (drop at src) (omega (arith, count)) in
-    let bits = bits_of 64 c.clear_high_bits-first.result in
+    let bits = bits_of 64 c.clear_high_bits-last.result in
     let held = last-mask mode n src (g.V.Vector.lanes c.load_last-v.result) at (t c.flags.result) (bits_of 64 c.bits.result) bits g.met.V.Vector.few r.inside (omega (arith, c.if-count.true)) (g.met.V.Vector.width c.load_last-v.result)
-    c.load_last-v.ensures c.flags.ensures.lanes (c.bits.ensures ∙ ap (λ m. t c.flags.result ++ replicate (64 - m) false) g.met.V.Vector.flag_width) c.clear_high_bits-first.ensures in
-    last-short mode n src (drop at src) at bits (bits_of 64 0) refl r.inside c.if-count.true held
+    c.load_last-v.ensures c.flags.ensures.lanes (c.bits.ensures ∙ ap (λ m. t c.flags.result ++ replicate (64 - m) false) g.met.V.Vector.flag_width) c.clear_high_bits-last.ensures in
+    last-short mode n src (drop at src) at (bits_of 64 0) bits refl r.inside c.if-count.true held
 
 pub returns-then-count-clause-clean : goal.returns-then-count-clause-clean
 returns-then-count-clause-clean g c =
     let mode = mode_numbered g.row.MODE in let n : ℕ = g.row.N in let src : List ℕ = c.args.src.now in let at : ℕ = c.args.at in let r = c.requires in let t = g.V.Flags.Flags.truths in
     let text : List ℕ = take (length src - at) (drop at src) in let count = length-drop at src in
     let is : text ≡ drop at src = take_all (length src - at) (drop at src) (omega (arith, count)) in
-    let bits = bits_of 64 c.clear_high_bits-first.result in
+    let bits = bits_of 64 c.clear_high_bits-last.result in
     let held = last-mask mode n src (g.V.Vector.lanes c.load_last-v.result) at (t c.flags.result) (bits_of 64 c.bits.result) bits g.met.V.Vector.few r.inside (omega (arith, c.if-count.true)) (g.met.V.Vector.width c.load_last-v.result)
-    c.load_last-v.ensures c.flags.ensures.lanes (c.bits.ensures ∙ ap (λ m. t c.flags.result ++ replicate (64 - m) false) g.met.V.Vector.flag_width) c.clear_high_bits-first.ensures in
+    c.load_last-v.ensures c.flags.ensures.lanes (c.bits.ensures ∙ ap (λ m. t c.flags.result ++ replicate (64 - m) false) g.met.V.Vector.flag_width) c.clear_high_bits-last.ensures in
     let all : length src - at ≡ length text = sym (ap length is ∙ count) in
     let clean = held-none mode text 0 (length text) 0 bits (subst (λ k. HoldsFlags mode text 0 k 0 bits) all (subst (λ xs. HoldsFlags mode xs 0 (length src - at) 0 bits) (sym is) held)) (omega arith) (sym c.all_zero.ensures ∙ c.if-not-all_zero.false) in
     let e = vector-clean mode (reach true n) text c.args.target.now c.store_lanes.new.target 0 (length text) c.args.to c.flags.new.ticks (omega arith) clean c.store_lanes.ensures in

@@ -4,7 +4,7 @@ use Rattle.escape_simd.proofs.Turns.{TurnsSoFar}
 use Rattle.escape_simd.proofs.simd.turns.turns.Given as goal
 
 abbrev pub invariant-turns : goal.invariant-turns
-invariant-turns g l = TurnsSoFar (mode_numbered g.row.MODE) (reach (not (nat_eq (value_of (number g.row.LAST)) 0)) g.row.N) l.text l.fn.target l.target 0 l.valid l.next l.to l.end (bits_of 64 l.rest) l.fn.ticks l.ticks
+invariant-turns g l = TurnsSoFar (mode_numbered g.row.MODE) (reach (not (nat_eq (value_of (number g.row.LAST)) 0)) g.row.N) l.text l.fn.target l.target l.valid l.next l.to l.end (bits_of 64 l.rest) l.fn.ticks l.ticks
 
 abbrev pub decreases-turns : goal.decreases-turns
 decreases-turns g l = l.valid - l.next

@@ -7,12 +7,6 @@ use Rattle.escape_simd.proofs.Stretches.{stretch-on}
 use Rattle.escape_simd.proofs.Whole.{whole_formatted, bound-quotes, quote-short}
 use Rattle.escape_simd.proofs.simd.whole.format.Goals as goal
 
-pub escape_bytes-close-requires : goal.escape_bytes-close-requires
-escape_bytes-close-requires g c =
-    let mode = mode_numbered g.row.MODE in
-    let b = bound-quotes mode (length c.args.value.now) in let q = quote-short mode in let l = ap length c.as_bytes.ensures.value in let o = c.quote-open.ensures in
-    (omega arith, omega (arith, b, q, l, o.quoted.ends, o.same_slice.len, c.requires))
-
 pub quote-requires : goal.quote-requires
 quote-requires g c =
     let mode = mode_numbered g.row.MODE in

@@ -6,18 +6,8 @@ use Rattle.escape_simd.proofs.Texts.{length-inner}
 use Rattle.escape_simd.proofs.Whole.{whole_written, bound-quotes, quote-short}
 use Rattle.escape_simd.proofs.simd.whole.format_long.Goals as goal
 
-pub escape_at-close-requires : goal.escape_at-close-requires
-escape_at-close-requires g c =
-    let mode = mode_numbered g.row.MODE in let b = bound-quotes mode (length c.args.value.now) in let q = quote-short mode in
-    let l = ap length c.as_bytes.ensures.value in let o = c.quote_at-open in
-    omega (arith, b, q, l, o.ensures.ends, o.auto.dst, c.requires)
-
 pub quote_at-requires : goal.quote_at-requires
-quote_at-requires g c =
-    let mode = mode_numbered g.row.MODE in let b = bound-quotes mode (length c.args.value.now) in let q = quote-short mode in
-    let l = ap length c.as_bytes.ensures.value in let o = c.quote_at-open in let e = c.escape_at-close in
-    let most = length-inner mode c.as_bytes.result.now in
-    omega (arith, b, q, l, most, o.ensures.ends, o.auto.dst, e.ensures.ends, e.auto.dst, c.requires)
+quote_at-requires g c = grind (arith, length-inner, bound-quotes, quote-short)
 
 pub returns : goal.returns
 returns g c =

@@ -1,8 +1,9 @@
-use Rattle.escape_simd.proofs.Shortened.{places_ok, shortened-lanes}
+use Rattle.std.proofs.Common.{refl}
+use Rattle.escape_simd.proofs.Shortened.{shortened-lanes}
 use Rattle.escape_simd.proofs.simd.util.blocks.shorten.Goals as goal
 
 pub swizzle : goal.swizzle
-swizzle c = places_ok c.args.bytes c.requires
+swizzle c = (shortened-lanes c.args.bytes c.requires _ refl).0
 
 pub returns : goal.returns
-returns c = shortened-lanes c.args.bytes c.requires
+returns c = (shortened-lanes c.args.bytes c.requires _ refl).1

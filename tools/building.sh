@@ -6,6 +6,7 @@
 set_level() {
   local name flags= feature
   level=x86-64-v2
+  [ -r /proc/cpuinfo ] || return 0
   while read -r name flags; do
     [ "$name" != flags ] || break
   done </proc/cpuinfo

@@ -52,9 +52,6 @@ fn json_by(kernel: Kernel, value: &str, dst: &mut [u8]) -> usize
     requires { bound json (length value.now) ≤ length dst.old }
     ensures { IsWritten (lanes_of kernel) json value.now dst.old dst.new result }
 {
-    if let Kernel::Avx2 = kernel {
-        return avx2::format_string::<false>(value, dst);
-    }
     match kernel {
         Kernel::V128 => v128::format_string::<false>(value, dst),
         Kernel::Sse2 => sse2::format_string::<false>(value, dst),
@@ -104,9 +101,6 @@ fn html_by(kernel: Kernel, value: &str, dst: &mut [u8]) -> usize
     requires { bound html (length value.now) ≤ length dst.old }
     ensures { IsWritten (lanes_of kernel) html value.now dst.old dst.new result }
 {
-    if let Kernel::Avx2 = kernel {
-        return avx2::format_string::<true>(value, dst);
-    }
     match kernel {
         Kernel::V128 => v128::format_string::<true>(value, dst),
         Kernel::Sse2 => sse2::format_string::<true>(value, dst),
@@ -156,9 +150,6 @@ fn script_by(kernel: Kernel, value: &str, dst: &mut [u8]) -> usize
     requires { bound script (length value.now) ≤ length dst.old }
     ensures { IsWritten (lanes_of kernel) script value.now dst.old dst.new result }
 {
-    if let Kernel::Avx2 = kernel {
-        return avx2::format_script_string(value, dst);
-    }
     match kernel {
         Kernel::V128 => v128::format_script_string(value, dst),
         Kernel::Sse2 => sse2::format_script_string(value, dst),

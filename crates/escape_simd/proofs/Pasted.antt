@@ -137,8 +137,8 @@ module _ {N : ℕ} {mode : Mode} {src : List ℕ} (f : ℕ) {at valid to size : 
     done-stretch = grind (arith, nat_tests, ended)
 
     -- one of the blocks has an escape
-    pub done-stored : 8 * blocks ≤ N → stored_of new + 1 ≤ stored_of old + N / 8
-    done-stored fits =
+    pub done-stored : blocks ≤ (valid + 7) / 8 → stored_of new + 1 ≤ stored_of old + (valid + 7) / 8
+    done-stored few =
         let some = get_or-le-sum_by (λ b. cond b 1 0) (take (8 * blocks) bits) (first_set bits) false (omega (arith, length-take-le (8 * blocks) bits (omega (arith, length-bits_of 64 f, h.most)), first-valid)) in
         let set : get_or (take (8 * blocks) bits) (first_set bits) false ≡ true = get_or-take (8 * blocks) bits (first_set bits) false (omega (arith, first-valid)) ∙ first in
         omega (arith, d.stored, rw set at some)

@@ -1,6 +1,6 @@
 -- Bytes with a short escape: what stands for them, and how a vector of them is shortened and asked.
 use Rattle.std.proofs.Common.{◌≡◌, ℕ, suc, ◌+◌, ◌-◌, ◌*◌, ◌/◌, ◌%◌, ◌^◌, ◌<◌, ◌≤◌, Bool, true, false, not, cond, ◌&&◌, ◌||◌, List, [], ◌∷◌, ◌++◌, length, take, take_all, drop, replicate, map, nat_eq, nat_le, nat_lt, ltb, bit_and, bit_or, bit_xor, get_or, set, refl, sym, subst, ap, ap₂, ◌∙◌, arith, inl, inr}
-use Rattle.escape_simd.proofs.Words.{agree_below, agree_below_at, cases_lt, leb_tells, nat_tests, length-map, length-take-le, length-drop, drop-map, drop-take, drop-drop, take-map, take-take, get_or-map, get_or-take, get_or-drop, get_or-replicate, pick_l-range_with_len, mask_l-lt, mask_l-mod, get_or-zip2, Each1-from_get_or, swz_l, SwzOk, and_le_l, and_le_r, range_with_len, zip2, sel_l, top, mask_l, pick_l, w8, bits_of, length-bits_of, Mode, json, html, script, needs_escape, replacement, shortened, passed, AreShort}
+use Rattle.escape_simd.proofs.Words.{agree_below, agree_below_at, cases_lt, leb_tells, nat_tests, length-map, length-take-le, length-drop, drop-map, drop-take, drop-drop, take-map, take-take, get_or-map, get_or-take, get_or-drop, get_or-replicate, pick_l-range_with_len, mask_l-lt, mask_l-mod, get_or-zip2, Each1-from_get_or, swz_l, SwzOk, and_le_l, and_le_r, range_with_len, zip2, sel_l, top, mask_l, pick_l, w8, bits_of, length-bits_of, Mode, json, html, script, needs_escape, replacement, short_letter, shortened, passed, AreShort}
 use Rattle.std.proofs.Math.ListN.{get_or-append}
 use Rattle.std.proofs.Math.Nat.{lt_irrefl}
 use Rattle.std.proofs.lemmas.Grind.{get_or-set_at}
@@ -55,7 +55,7 @@ keeps-clean mode b two = λ x clean. grind (arith, nat_tests)
 
 -- the letters of short escapes, by the control character
 abbrev pub letters : List ℕ
-letters = 0 ∷ 0 ∷ 0 ∷ 0 ∷ 0 ∷ 0 ∷ 0 ∷ 0 ∷ 0x62 ∷ 0x74 ∷ 0x6e ∷ 0 ∷ 0x66 ∷ 0x72 ∷ 0 ∷ 0 ∷ []
+letters = map short_letter (range_with_len 0 16)
 
 -- where the letter of a byte is looked up
 abbrev place : ℕ → ℕ
@@ -75,7 +75,7 @@ is_found b = nat_eq (cond (top 7 (cond (nat_lt b (found b)) 255 0)) (found b) b)
 
 -- by computation for each of the 256
 all-found : (agree_below can_look (λ b. true) 256 ≡ true) × (agree_below is_found (λ b. true) 256 ≡ true)
-unfolding shortened
+unfolding shortened replacement
 all-found = (refl, refl)
 
 -- the places of lanes, lane by lane

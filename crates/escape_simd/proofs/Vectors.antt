@@ -169,8 +169,8 @@ alone-short mode n src at valid bits h short inside few p after before =
 
 -- a vector was escaped by blocks, whose stores its runs pay for
 pub vector-blocks : {N : ℕ} (mode : Mode) (slack : ℕ) (src : List ℕ) (old new : Target N) (at valid to end size : ℕ) (flags ticks_old ticks_new : ℕ) → IsVectorAt mode N slack src at valid to size (bits_of 64 flags) → AreShort mode N src at (bits_of 64 flags)
-    → N ≤ 64 → 16 ≤ N → 16 ≤ slack → N / 8 - 2 ≤ gaps false (take valid (bits_of 64 flags))
-    → Stretch mode 16 src old new at (at + valid) to end → stored_of new + 1 ≤ stored_of old + N / 8 → ticks_new ≡ ticks_old + (N / 8 - 2)
+    → N ≤ 64 → 16 ≤ N → 16 ≤ slack → (valid + 7) / 8 - 2 ≤ gaps false (take valid (bits_of 64 flags))
+    → Stretch mode 16 src old new at (at + valid) to end → stored_of new + 1 ≤ stored_of old + (valid + 7) / 8 → ticks_new ≡ ticks_old + ((valid + 7) / 8 - 2)
     → Escapes mode slack (at + valid) 1 1 src old new at (at + valid) to end ticks_old ticks_new
 vector-blocks {N} mode slack src old new at valid to end size flags ticks_old ticks_new v short narrow several far paid s stored ticks =
     let bits = bits_of 64 flags in

@@ -24,7 +24,7 @@ pub use Rattle.escape_lanes.specs.Replacement.{control_escape, needs_escape}
 pub use Rattle.escape_lanes.specs.Written.{IsSameSlice, Writes, bytes_of, escaped_of, quotes_of, stored_of, writes_of}
 pub use Rattle.escape_lanes.specs.declared.simd.target.Target.{Target}
 unfoldable pub use Rattle.escape_simd.specs.Blocks.{put_apart, shortened}
-pub use Rattle.escape_simd.specs.Blocks.{IsBlock, flag_count}
+pub use Rattle.escape_simd.specs.Blocks.{IsBlock, flag_count, short_letter}
 pub use Rattle.escape_simd.specs.Escaping.{IsEscaping, IsHarmless, IsOneLine}
 pub use Rattle.escape_simd.specs.Formatted.{IsFormatted, IsInnerAt, IsInnerWritten, IsQuoted, IsWritten}
 unfoldable pub use Rattle.escape_simd.specs.Html.{entity_of}

@@ -1,5 +1,7 @@
 -- How a vector is escaped in blocks of eight bytes.
-use Rattle.std.specs.Prelude.{◌≡◌, ℕ, ◌+◌, ◌-◌, ◌==◌, Bool, nat_eq, List, [], ◌∷◌, ◌++◌, replicate, count_by, if◌then◌else◌}
+use Rattle.std.specs.Prelude.{◌≡◌, ℕ, ◌+◌, ◌-◌, ◌==◌, Bool, nat_eq, List, [], ◌∷◌, ◌++◌, length, replicate, slice_index, count_by, if◌then◌else◌}
+use Rattle.escape_lanes.specs.Mode.{json}
+use Rattle.escape_lanes.specs.Replacement.{replacement}
 use Rattle.escape_lanes.specs.Written.{Writes}
 use Rattle.escape_lanes.specs.declared.simd.target.Target.{Target}
 
@@ -11,6 +13,10 @@ shortened b =
     (if b == 0x0a then 0x6e else
     (if b == 0x0c then 0x66 else
     (if b == 0x0d then 0x72 else b))))
+
+-- the letter of a byte's short escape in JSON, and 0 where it has none
+abbrev pub short_letter : ℕ → ℕ
+short_letter b = if length (replacement json b) == 2 then slice_index (replacement json b) 1 else 0
 
 -- how many lanes are flagged
 abbrev pub flag_count : List Bool → ℕ

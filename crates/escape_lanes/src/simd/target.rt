@@ -1,5 +1,5 @@
 //! The bytes that a kernel writes to, and how often it did.
-ghost use Rattle.std.specs.Prelude.{◌≡◌, ℕ, ◌+◌, ◌<◌, ◌≤◌, length, nat_eq, slice_set, if◌then◌else◌};
+ghost use Rattle.std.specs.Prelude.{◌≡◌, ℕ, ◌+◌, ◌<◌, ◌≤◌, length, max, nat_eq, slice_set, if◌then◌else◌};
 ghost use Rattle.std.proofs.Math.Seq.{paste};
 ghost use Rattle.escape_lanes.specs.Written.{bytes_of, stored_of, escaped_of, quotes_of, writes_of, IsOver, IsSameSlice, Writes};
 
@@ -57,14 +57,19 @@ impl<'a, const N: usize> Target<'a, N> {
         self.slice.len()
     }
 
-    /// Writes the bytes at `at`, at most 64. No other function writes to the slice.
+    /// Writes the bytes at `at`, at most a vector's `N` or a block's 16. No other function writes to the slice.
     #[inline(always)]
     fn write(&mut self, at: usize, bytes: &[u8])
-        requires few { length bytes.now ≤ 64 }
+        requires few { length bytes.now ≤ max N 16 }
         requires room { at + length bytes.now ≤ length (bytes_of self.old) }
         ensures { Writes 0 0 0 self.old self.new at bytes.now }
     {
-        copy_front(&mut self.slice[at..at + bytes.len()], bytes);
+        let place = &mut self.slice[at..at + bytes.len()];
+        if N <= 64 {
+            copy_front(place, bytes);
+        } else {
+            place.copy_from_slice(bytes);
+        }
         self.writes.raise();
     }
 
@@ -109,10 +114,9 @@ impl<'a, const N: usize> Target<'a, N> {
 
     /// Writes the `N` lanes of a vector at `at`, as [`store`](Target::store) does.
     ///
-    /// A vector has at most 64 lanes, and the target has `N` bytes from `at` on.
+    /// The target has `N` bytes from `at` on.
     #[inline(always)]
     pub fn put(&mut self, at: usize, lanes: &[u8; N])
-        requires few { N ≤ 64 }
         requires room { at + N ≤ length (bytes_of self.old) }
         ensures { Writes 1 0 0 self.old self.new at lanes.now }
     {
@@ -124,7 +128,6 @@ impl<'a, const N: usize> Target<'a, N> {
     /// There are at most `N` of them, and the target has as many bytes from `at` on.
     #[inline(always)]
     pub fn put_front(&mut self, at: usize, lanes: &[u8])
-        requires few { N ≤ 64 }
         requires count { length lanes.now ≤ N }
         requires room { at + length lanes.now ≤ length (bytes_of self.old) }
         ensures { Writes 1 0 0 self.old self.new at lanes.now }

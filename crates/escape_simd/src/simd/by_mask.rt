@@ -13,32 +13,40 @@ use escape_lanes::simd::BitMask;
 use escape_lanes::simd::lane_bits::count_gaps;
 use escape_lanes::simd::target::{Target, Ticks};
 
-/// How many runs must end in a vector for blocks to be faster than turns.
-const RUNS: usize = 2;
-
-/// Returns whether the stores that turns would need after the vector's runs pay for those of its blocks: all
-/// but two of the blocks, since one has an escape, and the vector pays for one.
+/// How many blocks of eight a vector's first `valid` bytes take, but for the two that need no run to pay for their
+/// stores: one of them has an escape, and the vector itself pays for the other.
 #[inline(always)]
-fn pay_for_blocks<const N: usize>(flags: u64, valid: usize) -> bool
-    requires several { 16 ≤ N }
-    requires few { valid ≤ 64 }
-    ensures { result ≡ true → N / 8 - 2 ≤ gaps false (take valid (bits_of 64 flags)) }
+fn further_blocks(valid: usize) -> usize
+    requires { valid ≤ 64 }
+    ensures { result ≡ (valid + 7) / 8 - 2 }
 {
-    RUNS.max(N / 8 - 2) <= count_gaps(flags, valid)
+    ((valid + 7) / 8).saturating_sub(2)
 }
 
-/// Classifies the text's vector at `at` for the count alone, as often as its blocks may count as stores, less
-/// the one time that it was classified.
+/// Returns whether the stores that turns would need after the vector's runs pay for those of its blocks. Of two blocks
+/// that is always so: then nothing has to be guessed of the flags.
+#[inline(always)]
+fn pay_for_blocks(flags: u64, valid: usize) -> bool
+    requires { valid ≤ 64 }
+    ensures { result ≡ true → (valid + 7) / 8 - 2 ≤ gaps false (take valid (bits_of 64 flags)) }
+{
+    further_blocks(valid) <= count_gaps(flags, valid)
+}
+
+/// Classifies the text's vector at `at` for the count alone, as often as the blocks of its first `valid` bytes may count
+/// as stores, less the one time that it was classified.
 #[inline(always)]
 fn tick_for_blocks<V: Vector<N>, const MODE: u8, const N: usize>(
     src: &[u8],
     at: usize,
+    valid: usize,
     ticks: &mut Ticks,
 )
-    requires { at + N ≤ length src.now }
-    ensures { ticks.new ≡ ticks.old + (N / 8 - 2) }
+    requires inside { at + N ≤ length src.now }
+    requires few { valid ≤ 64 }
+    ensures { ticks.new ≡ ticks.old + ((valid + 7) / 8 - 2) }
 {
-    'blocks: for _ in 2..N / 8 {
+    'blocks: for _ in 0..further_blocks(valid) {
         tick::<V, MODE, N>(src, at, ticks);
     }
 }
@@ -64,8 +72,8 @@ pub(crate) fn escape_by_mask<V: Vector<N>, const MODE: u8, const N: usize, const
         store::<V, N, LAST>(src, at, valid, target, to);
         return (at + valid, to + valid);
     }
-    if V::LOOKS_UP && pay_for_blocks::<N>(flags, valid) && are_short::<MODE, N>(src, at, flags) {
-        tick_for_blocks::<V, MODE, N>(src, at, ticks);
+    if V::LOOKS_UP && pay_for_blocks(flags, valid) && are_short::<MODE, N>(src, at, flags) {
+        tick_for_blocks::<V, MODE, N>(src, at, valid, ticks);
         let end = escape_blocks::<MODE, N>(src, at, valid, flags, target, to);
         return (at + valid, end);
     }

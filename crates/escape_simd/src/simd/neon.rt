@@ -21,7 +21,7 @@ use escape_lanes::simd::{LoadLast, Simd};
 impl Vector<16> for Simd128u {
     type Flags = Flags128;
 
-    const LOOKS_UP: bool = false;
+    const LOOKS_UP: bool = true;
 
     ghost lanes = { λ v. ⟦<Simd128u as Simd>⟧.lanes v };
 

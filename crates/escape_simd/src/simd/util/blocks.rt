@@ -1,10 +1,13 @@
 //! The escapes of a vector in blocks: eight bytes at a time, with no question about a single one.
 ghost use Rattle.std.specs.Prelude.{◌≡◌, ◌≢◌, ℕ, ◌+◌, ◌-◌, ◌*◌, ◌/◌, ◌%◌, ◌<◌, ◌≤◌, ◌++◌, false, true, List, [], length, take, drop, map, replicate, slice_index, slice_index_or};
+ghost use Rattle.std.specs.List.{range_with_len};
 ghost use Rattle.escape_lanes.specs.Bits.{bits_of};
+ghost use Rattle.escape_lanes.specs.Entry.{entry_bytes};
 ghost use Rattle.escape_lanes.specs.Lanes.{AreBytes};
 ghost use Rattle.escape_lanes.specs.Replacement.{needs_escape, replacement};
 ghost use Rattle.escape_lanes.specs.Written.{bytes_of, stored_of};
-ghost use Rattle.escape_simd.specs.Blocks.{IsBlock, shortened};
+ghost use Rattle.escape_lanes.specs.Mode.{json};
+ghost use Rattle.escape_simd.specs.Blocks.{IsBlock, short_letter, shortened};
 ghost use Rattle.escape_simd.specs.Modes.{mode_numbered};
 ghost use Rattle.escape_simd.specs.Stretch.{AreShort, HasBlocks, Stretch};
 
@@ -12,13 +15,8 @@ use crate::simd::entry::SEPARATOR_LEAD;
 use crate::simd::vector::{HTML_MODE, SCRIPT_MODE};
 use escape_lanes::simd::lane_bits::{eight_lanes, shift_lanes};
 use escape_lanes::simd::target::Target;
-use escape_lanes::tables::spread_row;
+use escape_lanes::tables::{json_entry, spread_row};
 use std::simd::prelude::*;
-
-/// For each control character below 0x10 the letter of its short escape, and 0 where it has none.
-const LETTERS: [u8; 16] = [
-    0, 0, 0, 0, 0, 0, 0, 0, b'b', b't', b'n', 0, b'f', b'r', 0, 0,
-];
 
 /// The first eight lanes of a vector, and eight of another.
 const FIRST: [usize; 16] = [0, 1, 2, 3, 4, 5, 6, 7, 16, 17, 18, 19, 20, 21, 22, 23];
@@ -35,6 +33,28 @@ fn load(src: &[u8], at: usize) -> u8x16
     u8x16::from_slice(&src[at..])
 }
 
+/// The letter of the control character's short escape, from its entry in the table, and 0 where it has none.
+#[inline(always)]
+fn letter(control: u8) -> u8
+    requires { control < 0x20 }
+    ensures { result ≡ short_letter control }
+{
+    let (length, escape) = json_entry(control);
+    if *length == 2 { escape[1] } else { 0 }
+}
+
+/// The letters of the control characters below 0x10.
+#[rattlefmt::skip]
+#[inline(always)]
+fn letters() -> u8x16
+    ensures { result ≡ map short_letter (range_with_len 0 16) }
+{
+    u8x16::from_array([
+        letter(0x00), letter(0x01), letter(0x02), letter(0x03), letter(0x04), letter(0x05), letter(0x06), letter(0x07),
+        letter(0x08), letter(0x09), letter(0x0a), letter(0x0b), letter(0x0c), letter(0x0d), letter(0x0e), letter(0x0f),
+    ])
+}
+
 /// The bytes, with the letter of its short escape in place of each control character that has one.
 #[inline(always)]
 fn shorten(bytes: u8x16) -> u8x16
@@ -44,12 +64,11 @@ fn shorten(bytes: u8x16) -> u8x16
     // A byte below 0x10 is its own place. That of any other is at least 0x80, where the look-up reads 0.
     let places = bytes.saturating_add(u8x16::splat(0x70)) ^ u8x16::splat(0x70);
     // A letter is more than the byte that it stands for.
-    bytes.simd_max(u8x16::from_array(LETTERS).swizzle_dyn(places))
+    bytes.simd_max(letters().swizzle_dyn(places))
 }
 
-/// The text's vector at `at`, shortened, 16 bytes at a time.
-///
-/// All of it is loaded here, before the first block is written: so it is not loaded again after that.
+/// The text's vector at `at`, shortened, 16 bytes at a time. All of it is loaded before the first block is written: so it
+/// is not loaded again after that.
 #[inline(always)]
 fn shorten_vector<const N: usize>(src: &[u8], at: usize) -> [u8x16; 4]
     requires width { N ≡ 16 * (N / 16) }
@@ -66,13 +85,21 @@ fn shorten_vector<const N: usize>(src: &[u8], at: usize) -> [u8x16; 4]
     pieces
 }
 
+/// The reverse solidus that each short escape begins with, from an entry of the table.
+#[inline(always)]
+fn solidus() -> u8
+    ensures { result ≡ 0x5c }
+{
+    json_entry(b'\\').1[0]
+}
+
 /// The half of the bytes that is the vector's block of that number, with eight reverse solidi behind it.
 #[inline(always)]
 fn half(bytes: u8x16, block: usize) -> u8x16
     requires { length bytes ≡ 16 }
     ensures { result ≡ take 8 (drop (8 * (block % 2)) bytes) ++ replicate 8 0x5c }
 {
-    let solidi = u8x16::splat(b'\\');
+    let solidi = u8x16::splat(solidus());
     if block % 2 == 0 {
         return bytes.shuffle(solidi, FIRST);
     }
@@ -155,7 +182,7 @@ pub(crate) fn escape_blocks<const MODE: u8, const N: usize>(
 ) -> usize
     requires { HasBlocks (mode_numbered MODE) N src.now at valid to (length (bytes_of target.old)) (bits_of 64 flags) }
     ensures stretch { Stretch (mode_numbered MODE) 16 src.now target.old target.new at (at + valid) to result }
-    ensures stored { stored_of target.new + 1 ≤ stored_of target.old + N / 8 }
+    ensures stored { stored_of target.new + 1 ≤ stored_of target.old + (valid + 7) / 8 }
 {
     let pieces = shorten_vector::<N>(src, at);
     let mut end = to;

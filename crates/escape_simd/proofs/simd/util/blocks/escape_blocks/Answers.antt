@@ -32,5 +32,5 @@ returns g c = elim c.blocks-2-test.branch [
       let d = done-block c.args.flags c.requires (λ i. (c.type_inv.src i).fits) refl c.blocks-2.invariant.done c.blocks-2.invariant.more c.shorten_vector-pieces.result c.shorten_vector-pieces.ensures w.half-bytes.ensures w.eight_lanes.ensures w.put_block-end.ensures in
       let over : c.args.valid ≤ 8 * (c.blocks-2.block + 1) = omega (arith, w.if-valid-block.true) in
       rw (w.target-is, w.end-is, w.block-is)
-      (record { stretch = done-stretch c.args.flags c.requires d over; stored = done-stored c.args.flags c.requires d over (omega (arith, c.requires.sixteens, w.blocks-2-test.true)) })
+      (record { stretch = done-stretch c.args.flags c.requires d over; stored = done-stored c.args.flags c.requires d over (omega (arith, c.blocks-2.invariant.more)) })
 ]

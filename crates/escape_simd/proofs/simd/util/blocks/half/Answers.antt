@@ -5,9 +5,9 @@ use Rattle.escape_simd.proofs.simd.util.blocks.half.Goals as goal
 pub returns-then-block-eq0 : goal.returns-then-block-eq0
 returns-then-block-eq0 c =
     let e : c.args.block % 2 ≡ 0 = omega (arith, c.if-block-eq0.true) in
-    rw e (first-half c.args.bytes c.requires)
+    rw (c.solidus-solidi.ensures, e) (first-half c.args.bytes c.requires)
 
 pub returns : goal.returns
 returns c =
     let e : c.args.block % 2 ≡ 1 = omega (arith, c.if-block-eq0.false) in
-    rw e (last-half c.args.bytes c.requires)
+    rw (c.solidus-solidi.ensures, e) (last-half c.args.bytes c.requires)

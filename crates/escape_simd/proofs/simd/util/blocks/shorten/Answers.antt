@@ -6,4 +6,4 @@ pub swizzle : goal.swizzle
 swizzle c = (shortened-lanes c.args.bytes c.requires _ refl).0
 
 pub returns : goal.returns
-returns c = (shortened-lanes c.args.bytes c.requires _ refl).1
+returns c = rw c.letters.ensures (shortened-lanes c.args.bytes c.requires _ refl).1

@@ -1,7 +1,6 @@
 -- How far the body has come in a text, and at what cost.
-use Rattle.std.proofs.Common.{◌≡◌, ℕ, ◌+◌, ◌-◌, ◌*◌, ◌/◌, ◌<◌, ◌≤◌, true, List, length, length-drop, take, drop, refl, ap, subst, arith}
+use Rattle.std.proofs.Common.{◌≡◌, ℕ, ◌+◌, ◌-◌, ◌*◌, ◌/◌, ◌<◌, ◌≤◌, true, List, length, arith}
 use Rattle.std.proofs.Math.Nat.{div-mul-le_self}
-use Rattle.std.proofs.lemmas.List.{take_all}
 use Rattle.std.proofs.lemmas.Nat.{le-div}
 use Rattle.escape_lanes.specs.Mode.{Mode}
 use Rattle.escape_lanes.specs.Written.{bytes_of}
@@ -9,7 +8,7 @@ use Rattle.escape_lanes.specs.declared.simd.target.Target.{Target}
 use Rattle.escape_simd.specs.Stretch.{Cost, Escapes, HasRest, HasVectors, Stretch, reach, rest_length}
 use Rattle.escape_simd.proofs.RestSteps.{rest-bounds}
 use Rattle.escape_simd.proofs.Stretches.{onward_to, reach-bounds, standing, stretch-on}
-use Rattle.escape_simd.proofs.Vectors.{escapes-ended, escapes-later, passed-to}
+use Rattle.escape_simd.proofs.Vectors.{passed-to}
 
 -- The bytes before `at` were passed, at a cost of a vector for each run and each whole vector. No write reached further past what the
 -- whole ends at than those of its last bytes may.
@@ -72,28 +71,3 @@ module _ {N : ℕ} (mode : Mode) (src : List ℕ) (old mid new : Target N) (at t
         passed = passed-to mode src (length src);
         cost = cost-onward (length src / N + 1) (omega (arith, w)) so_far.cost e.cost;
       }
-
-  -- the rest of the text, as a text of its own
-  abbrev left : List ℕ
-  left = take (length src - at) (drop at src)
-
-  left-is : left ≡ drop at src
-  left-is = let count = length-drop at src in take_all (length src - at) (drop at src) (omega (arith, count))
-
-  left-length : length left ≡ length src - at
-  left-length = let count = length-drop at src in let e = ap length left-is in omega (arith, count, e)
-
-  -- there is room for it
-  pub body-left : (size : ℕ) → to + 6 * length src + 32 ≤ size → size ≡ length (bytes_of mid) → end + 6 * length (take (length src - at) (drop at src)) + 32 ≤ length (bytes_of mid)
-  body-left size room sized =
-      let on = stretch-on so_far.stretch in let i = so_far.stretch.inside in
-      omega (arith, left-length, room, sized, on, i)
-
-  -- all of it, where that was escaped
-  pub body-later : (close t2 : ℕ) → (let text = take (length src - at) (drop at src) in Escapes mode (reach true N) (length text) (length text / N + 1) 0 text mid new 0 (length text) end close t1 t2)
-      → Escapes mode (reach true N) (length src) (length src / N + 1) 0 src old new 0 (length src) to close t0 t2
-  body-later close t2 e =
-      let i = so_far.stretch.inside in
-      let f = subst (λ v. Escapes mode (reach true N) (length left) v 0 left mid new 0 (length left) end close t1 t2) (ap (λ k. k / N + 1) left-length) e in
-      let whole : at + length left ≡ length src = omega (arith, left-length, i) in
-      body-all close t2 (escapes-ended whole whole refl (escapes-later src left at left-is i f))

@@ -13,7 +13,6 @@ use Rattle.escape_lanes.specs.Mode.{Mode}
 use Rattle.escape_lanes.specs.Replacement.{needs_escape}
 use Rattle.escape_lanes.specs.Written.{bytes_of}
 use Rattle.escape_lanes.specs.declared.simd.target.Target.{Target}
-use Rattle.escape_simd.specs.Formatted.{IsInnerAt}
 use Rattle.escape_simd.specs.Output.{inner, quote_of}
 use Rattle.escape_simd.specs.Parts.{IsAnswer, IsFront, IsPartAt}
 use Rattle.escape_simd.specs.Stretch.{AreLast, HoldsFlags, reach}
@@ -52,35 +51,6 @@ part-escaped {N} {mode} {src} {bytes} {old} {new} {at} {to} {end} so_far is fits
 -- two stretches of a text, the second after the first
 pub two-stretches : (src first second : List ℕ) (at n next k : ℕ) → at + n ≡ next → first ≡ take n (drop at src) → second ≡ take k (drop next src) → first ++ second ≡ take (n + k) (drop at src)
 two-stretches src first second at n next k e a b = grind (arith, drop-drop, take-add)
-
--- A text was escaped to the bytes from `to` up to `end`, but for what is left of it.
-pub record PartsSoFar (mode : Mode) (slack : ℕ) (src left old new : List ℕ) (to end : ℕ) : Type 0 where
-  pub room : end + 6 * length left + 32 ≤ length new
-  pub limit : end + length (inner mode left) ≡ to + length (inner mode src)
-  pub written : take end new ++ inner mode left ≡ take to old ++ inner mode src
-  pub kept : drop (to + length (inner mode src) + slack) new ≡ drop (to + length (inner mode src) + slack) old
-
-module _ (mode : Mode) (slack : ℕ) (src left old mid new : List ℕ) (to end : ℕ) (so_far : PartsSoFar mode slack src left old mid to end) where
-  -- one part more
-  pub parts-on : (next close : ℕ) → IsPartAt mode slack left mid new next end close → length new ≡ length mid → PartsSoFar mode slack src (drop next left) old new to close
-  parts-on next close p same =
-      let count = length-drop next left in let s = so_far in
-      record {
-        room = omega (arith, s.room, p.most, p.inside, count, same);
-        limit = omega (arith, s.limit, p.limit);
-        written = p.bytes ∙ s.written;
-        kept = subst (λ k. drop (k + slack) new ≡ drop (k + slack) mid) s.limit p.kept ∙ s.kept;
-      }
-
-  -- and the rest
-  pub parts-all : (close : ℕ) → IsInnerAt mode slack left mid new end close → IsInnerAt mode slack src old new to close
-  parts-all close p =
-      let whole : close ≡ to + length (inner mode src) = omega (arith, p.ends, so_far.limit) in
-      record {
-        ends = whole;
-        written = p.written ∙ so_far.written;
-        kept = p.kept ∙ subst (λ k. drop (k + slack) mid ≡ drop (k + slack) old) (sym whole) so_far.kept;
-      }
 
 -- a clean front of a text, and a stretch more
 pub front-more : (mode : Mode) (src old new more : List ℕ) (at n : ℕ) → IsFront mode src old new at → at + n ≤ length src → CleanFrom mode src at (at + n) → more ≡ new ++ take n (drop at src) → IsFront mode src old more (at + n)

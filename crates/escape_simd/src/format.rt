@@ -6,11 +6,12 @@ ghost use Rattle.escape_simd.specs.Formatted.{IsInnerWritten, IsWritten};
 ghost use Rattle.escape_simd.specs.Json.{IsOnlyJson};
 ghost use Rattle.escape_simd.specs.Kernels.{lanes_of};
 ghost use Rattle.escape_simd.specs.Laws.{AgreesWithEach};
+ghost use Rattle.escape_simd.specs.Modes.{mode_numbered};
 ghost use Rattle.escape_simd.specs.Output.{bound, quoted};
 ghost use Rattle.escape_simd.specs.Script.{IsOnlyScript};
 
 use crate::kernel::Kernel;
-use crate::simd::{JSON_MODE, SCRIPT_MODE, avx2, avx512, neon, sse2, v128};
+use crate::simd::{HTML_MODE, JSON_MODE, SCRIPT_MODE, avx2, avx512, neon, sse2, v128};
 
 /// Writes the text as a JSON string literal (RFC 8259, section 7), its quotation marks included, to the
 /// front of `dst` by the kernel, and answers how many bytes it became.
@@ -30,7 +31,7 @@ pub fn format_json_string(kernel: Kernel, value: &str, dst: &mut [u8]) -> usize
     ensures output { IsEscaping json value.now (take result dst.new) }
     ensures agree { AgreesWithEach json value.now result (take result dst.new) }
 {
-    json_by(kernel, value, dst)
+    format_by::<{ JSON_MODE }>(kernel, value, dst)
 }
 
 /// As [`format_json_string`], and answers the output as text, which it is.
@@ -46,19 +47,6 @@ pub fn format_json_str<'a>(kernel: Kernel, value: &str, dst: &'a mut [u8]) -> &'
     let count = format_json_string(kernel, value, dst);
     // The output for a text is a text.
     unsafe { str::from_utf8_unchecked(&dst[..count]) }
-}
-
-fn json_by(kernel: Kernel, value: &str, dst: &mut [u8]) -> usize
-    requires { bound json (length value.now) ≤ length dst.old }
-    ensures { IsWritten (lanes_of kernel) json value.now dst.old dst.new result }
-{
-    match kernel {
-        Kernel::V128 => v128::format_string::<false>(value, dst),
-        Kernel::Sse2 => sse2::format_string::<false>(value, dst),
-        Kernel::Neon => neon::format_string::<false>(value, dst),
-        Kernel::Avx2 => avx2::format_string::<false>(value, dst),
-        Kernel::Avx512 => avx512::format_string::<false>(value, dst),
-    }
 }
 
 /// Writes the text as HTML with `"`, `&`, `'`, `/`, `<` and `>` as entities to the front of `dst` by the
@@ -79,7 +67,7 @@ pub fn format_html_string(kernel: Kernel, value: &str, dst: &mut [u8]) -> usize
     ensures output { IsEscaping html value.now (take result dst.new) }
     ensures agree { AgreesWithEach html value.now result (take result dst.new) }
 {
-    html_by(kernel, value, dst)
+    format_by::<{ HTML_MODE }>(kernel, value, dst)
 }
 
 /// As [`format_html_string`], and answers the output as text, which it is.
@@ -95,19 +83,6 @@ pub fn format_html_str<'a>(kernel: Kernel, value: &str, dst: &'a mut [u8]) -> &'
     let count = format_html_string(kernel, value, dst);
     // The output for a text is a text.
     unsafe { str::from_utf8_unchecked(&dst[..count]) }
-}
-
-fn html_by(kernel: Kernel, value: &str, dst: &mut [u8]) -> usize
-    requires { bound html (length value.now) ≤ length dst.old }
-    ensures { IsWritten (lanes_of kernel) html value.now dst.old dst.new result }
-{
-    match kernel {
-        Kernel::V128 => v128::format_string::<true>(value, dst),
-        Kernel::Sse2 => sse2::format_string::<true>(value, dst),
-        Kernel::Neon => neon::format_string::<true>(value, dst),
-        Kernel::Avx2 => avx2::format_string::<true>(value, dst),
-        Kernel::Avx512 => avx512::format_string::<true>(value, dst),
-    }
 }
 
 /// Writes the text as a JSON string literal that can stand in a script element of an HTML page, its
@@ -128,7 +103,7 @@ pub fn format_script_string(kernel: Kernel, value: &str, dst: &mut [u8]) -> usiz
     ensures output { IsEscaping script value.now (take result dst.new) }
     ensures agree { AgreesWithEach script value.now result (take result dst.new) }
 {
-    script_by(kernel, value, dst)
+    format_by::<{ SCRIPT_MODE }>(kernel, value, dst)
 }
 
 /// As [`format_script_string`], and answers the output as text, which it is.
@@ -144,19 +119,6 @@ pub fn format_script_str<'a>(kernel: Kernel, value: &str, dst: &'a mut [u8]) -> 
     let count = format_script_string(kernel, value, dst);
     // The output for a text is a text.
     unsafe { str::from_utf8_unchecked(&dst[..count]) }
-}
-
-fn script_by(kernel: Kernel, value: &str, dst: &mut [u8]) -> usize
-    requires { bound script (length value.now) ≤ length dst.old }
-    ensures { IsWritten (lanes_of kernel) script value.now dst.old dst.new result }
-{
-    match kernel {
-        Kernel::V128 => v128::format_script_string(value, dst),
-        Kernel::Sse2 => sse2::format_script_string(value, dst),
-        Kernel::Neon => neon::format_script_string(value, dst),
-        Kernel::Avx2 => avx2::format_script_string(value, dst),
-        Kernel::Avx512 => avx512::format_script_string(value, dst),
-    }
 }
 
 /// Writes what [`format_json_string`] writes between its quotation marks to the front of `dst` by the
@@ -178,13 +140,7 @@ pub fn format_json_inner(kernel: Kernel, value: &str, dst: &mut [u8]) -> usize
     ensures written { IsInnerWritten (lanes_of kernel) json value.now dst.old dst.new result }
     ensures headline { IsOnlyJson (quoted (take result dst.new)) (chars value.now) }
 {
-    match kernel {
-        Kernel::V128 => v128::format_inner::<{ JSON_MODE }>(value, dst),
-        Kernel::Sse2 => sse2::format_inner::<{ JSON_MODE }>(value, dst),
-        Kernel::Neon => neon::format_inner::<{ JSON_MODE }>(value, dst),
-        Kernel::Avx2 => avx2::format_inner::<{ JSON_MODE }>(value, dst),
-        Kernel::Avx512 => avx512::format_inner::<{ JSON_MODE }>(value, dst),
-    }
+    inner_by::<{ JSON_MODE }>(kernel, value, dst)
 }
 
 /// Writes what [`format_script_string`] writes between its quotation marks to the front of `dst` by the
@@ -206,11 +162,47 @@ pub fn format_script_inner(kernel: Kernel, value: &str, dst: &mut [u8]) -> usize
     ensures written { IsInnerWritten (lanes_of kernel) script value.now dst.old dst.new result }
     ensures headline { IsOnlyScript (quoted (take result dst.new)) (chars value.now) }
 {
+    inner_by::<{ SCRIPT_MODE }>(kernel, value, dst)
+}
+
+/// Writes the output for the text in the mode numbered `MODE` by the kernel.
+///
+/// The default kernel is asked for alone: so that takes one comparison, and no jump by a table.
+fn format_by<const MODE: u8>(kernel: Kernel, value: &str, dst: &mut [u8]) -> usize
+    requires { bound (mode_numbered MODE) (length value.now) ≤ length dst.old }
+    ensures { IsWritten (lanes_of kernel) (mode_numbered MODE) value.now dst.old dst.new result }
+{
     match kernel {
-        Kernel::V128 => v128::format_inner::<{ SCRIPT_MODE }>(value, dst),
-        Kernel::Sse2 => sse2::format_inner::<{ SCRIPT_MODE }>(value, dst),
-        Kernel::Neon => neon::format_inner::<{ SCRIPT_MODE }>(value, dst),
-        Kernel::Avx2 => avx2::format_inner::<{ SCRIPT_MODE }>(value, dst),
-        Kernel::Avx512 => avx512::format_inner::<{ SCRIPT_MODE }>(value, dst),
+        Kernel::Avx2 => avx2::format_in_mode::<MODE>(value, dst),
+        _ => format_by_other::<MODE>(kernel, value, dst),
+    }
+}
+
+/// As [`format_by`], by any kernel.
+#[inline(never)]
+fn format_by_other<const MODE: u8>(kernel: Kernel, value: &str, dst: &mut [u8]) -> usize
+    requires { bound (mode_numbered MODE) (length value.now) ≤ length dst.old }
+    ensures { IsWritten (lanes_of kernel) (mode_numbered MODE) value.now dst.old dst.new result }
+{
+    match kernel {
+        Kernel::V128 => v128::format_in_mode::<MODE>(value, dst),
+        Kernel::Sse2 => sse2::format_in_mode::<MODE>(value, dst),
+        Kernel::Neon => neon::format_in_mode::<MODE>(value, dst),
+        Kernel::Avx2 => avx2::format_in_mode::<MODE>(value, dst),
+        Kernel::Avx512 => avx512::format_in_mode::<MODE>(value, dst),
+    }
+}
+
+/// Writes what stands for the text in the mode numbered `MODE`, with no quotation marks, by the kernel.
+fn inner_by<const MODE: u8>(kernel: Kernel, value: &str, dst: &mut [u8]) -> usize
+    requires { 6 * length value.now + 32 ≤ length dst.old }
+    ensures { IsInnerWritten (lanes_of kernel) (mode_numbered MODE) value.now dst.old dst.new result }
+{
+    match kernel {
+        Kernel::V128 => v128::format_inner::<MODE>(value, dst),
+        Kernel::Sse2 => sse2::format_inner::<MODE>(value, dst),
+        Kernel::Neon => neon::format_inner::<MODE>(value, dst),
+        Kernel::Avx2 => avx2::format_inner::<MODE>(value, dst),
+        Kernel::Avx512 => avx512::format_inner::<MODE>(value, dst),
     }
 }

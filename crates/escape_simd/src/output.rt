@@ -55,13 +55,15 @@ pub fn scratch_bound<const MODE: u8>(len: usize) -> Option<usize>
     ensures fits { IfSome result (λ n. n ≡ bound (mode_numbered MODE) len) }
     ensures passes { IsNone result ↔ (usize.MAX < bound (mode_numbered MODE) len) }
 {
-    if MODE == HTML_MODE {
-        return len
-            .checked_mul(html::CAPACITY_FACTOR)?
-            .checked_add(html::CAPACITY_SLACK);
+    let (factor, slack) = if MODE == HTML_MODE {
+        (html::CAPACITY_FACTOR, html::CAPACITY_SLACK)
+    } else {
+        (json::CAPACITY_FACTOR, json::CAPACITY_SLACK)
+    };
+    if (usize::MAX - slack) / factor < len {
+        return None;
     }
-    len.checked_mul(json::CAPACITY_FACTOR)?
-        .checked_add(json::CAPACITY_SLACK)
+    Some(factor * len + slack)
 }
 
 /// Appends the output for the text to a vector that has room for it.

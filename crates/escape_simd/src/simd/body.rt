@@ -11,25 +11,6 @@ use crate::simd::rest::rest;
 use crate::simd::vector::Vector;
 use escape_lanes::simd::target::{Target, Ticks};
 
-/// Escapes the bytes to the target from `to` on by single vectors, and the last ones. Returns the place after them.
-#[inline(always)]
-fn escape_vectors<V: Vector<N>, const MODE: u8, const N: usize>(
-    src: &[u8],
-    target: &mut Target<'_, N>,
-    to: usize,
-    ticks: &mut Ticks,
-) -> usize
-    requires { to + 6 * length src.now + 32 ≤ length (bytes_of target.old) }
-    ensures { Escapes (mode_numbered MODE) (reach true N) (length src.now) (length src.now / N + 1) 0 src.now target.old target.new 0 (length src.now) to result ticks.old ticks.new }
-{
-    let mut at = 0;
-    let mut end = to;
-    'vectors: while 2 * N <= src.len() - at {
-        (at, end) = whole_vector::<V, MODE, N>(src, at, target, end, ticks);
-    }
-    rest::<V, MODE, N>(src, at, target, end, ticks)
-}
-
 /// Escapes the bytes to the target from `to` on, with no quotation marks. Returns the place after them.
 #[inline(always)]
 pub(crate) fn escape_bytes<V: Vector<N>, const MODE: u8, const N: usize>(
@@ -46,7 +27,10 @@ pub(crate) fn escape_bytes<V: Vector<N>, const MODE: u8, const N: usize>(
     'chunks: while 5 * N <= src.len() - at {
         (at, end) = chunk::<V, MODE, N>(src, at, target, end, ticks);
     }
-    escape_vectors::<V, MODE, N>(&src[at..], target, end, ticks)
+    'vectors: while 2 * N <= src.len() - at {
+        (at, end) = whole_vector::<V, MODE, N>(src, at, target, end, ticks);
+    }
+    rest::<V, MODE, N>(src, at, target, end, ticks)
 }
 
 /// Escapes chunks of the text to `dst` from `to` on, as long as one more has room. Returns the places after them.
@@ -83,14 +67,7 @@ pub(crate) fn escape_at<V: Vector<N>, const MODE: u8, const N: usize>(
     requires { to + 6 * length src.now + 32 ≤ length dst.old }
     ensures { IsInnerAt (mode_numbered MODE) (reach true N) src.now dst.old dst.new to result }
 {
-    let mut left = src;
-    let mut end = to;
-    'parts: while 5 * N <= left.len() {
-        let (passed, next) = escape_chunks::<V, MODE, N>(left, dst, end);
-        left = &left[passed..];
-        end = next;
-    }
     let mut target = Target::<N>::new(dst);
     let mut ticks = Ticks::new();
-    escape_vectors::<V, MODE, N>(left, &mut target, end, &mut ticks)
+    escape_bytes::<V, MODE, N>(src, &mut target, to, &mut ticks)
 }

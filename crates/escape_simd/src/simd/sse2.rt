@@ -86,14 +86,16 @@ pub fn format_target<const HTML: bool>(
 /// sse2::format_string::<true>("<", &mut dst) == 4
 /// dst.starts_with(b"&lt;")
 /// ```
-#[inline(never)]
 pub fn format_string<const HTML: bool>(value: &str, dst: &mut [u8]) -> usize
     requires { bound (mode_of HTML) (length value.now) ≤ length dst.old }
     ensures written { IsWritten 16 (mode_of HTML) value.now dst.old dst.new result }
     ensures headline { IsOnlyOutput (mode_of HTML) (take result dst.new) (chars value.now) }
     ensures equal_texts { IsOfOneText (mode_of HTML) value.now (take result dst.new) }
 {
-    whole::format_string::<Simd128u, HTML, 16>(value, dst)
+    if HTML {
+        return format_in_mode::<{ HTML_MODE }>(value, dst);
+    }
+    format_in_mode::<{ JSON_MODE }>(value, dst)
 }
 
 /// Escapes the text to the front of the target as a JSON string literal that can stand in a script
@@ -117,14 +119,24 @@ pub fn format_script_target(value: &str, target: &mut Target<'_, 16>, ticks: &mu
 /// sse2::format_script_string("<", &mut dst) == 8
 /// dst.starts_with(b"\"\\u003c\"")
 /// ```
-#[inline(never)]
 pub fn format_script_string(value: &str, dst: &mut [u8]) -> usize
     requires { bound script (length value.now) ≤ length dst.old }
     ensures written { IsWritten 16 script value.now dst.old dst.new result }
     ensures headline { IsOnlyOutput script (take result dst.new) (chars value.now) }
     ensures equal_texts { IsOfOneText script value.now (take result dst.new) }
 {
-    whole::format_in_mode::<Simd128u, { SCRIPT_MODE }, 16>(value, dst)
+    format_in_mode::<{ SCRIPT_MODE }>(value, dst)
+}
+
+/// As [`format_string`], in the mode numbered `MODE`.
+#[inline(never)]
+pub(crate) fn format_in_mode<const MODE: u8>(value: &str, dst: &mut [u8]) -> usize
+    requires { bound (mode_numbered MODE) (length value.now) ≤ length dst.old }
+    ensures written { IsWritten 16 (mode_numbered MODE) value.now dst.old dst.new result }
+    ensures headline { IsOnlyOutput (mode_numbered MODE) (take result dst.new) (chars value.now) }
+    ensures equal_texts { IsOfOneText (mode_numbered MODE) value.now (take result dst.new) }
+{
+    whole::format_in_mode::<Simd128u, MODE, 16>(value, dst)
 }
 
 /// Escapes the text to the front of `dst` in the mode numbered `MODE`, with no quotation marks, and

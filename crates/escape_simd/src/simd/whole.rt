@@ -146,23 +146,6 @@ pub(crate) fn format_in_mode<V: Vector<N>, const MODE: u8, const N: usize>(
     format_long::<V, MODE, N>(value, dst)
 }
 
-/// As [`format_in_mode`], in one of the two modes of the public calls.
-#[inline(always)]
-pub(crate) fn format_string<V: Vector<N>, const HTML: bool, const N: usize>(
-    value: &str,
-    dst: &mut [u8],
-) -> usize
-    requires { bound (mode_of HTML) (length value.now) ≤ length dst.old }
-    ensures written { IsWritten N (mode_of HTML) value.now dst.old dst.new result }
-    ensures headline { IsOnlyOutput (mode_of HTML) (take result dst.new) (chars value.now) }
-    ensures equal_texts { IsOfOneText (mode_of HTML) value.now (take result dst.new) }
-{
-    if HTML {
-        return format_in_mode::<V, { HTML_MODE }, N>(value, dst);
-    }
-    format_in_mode::<V, { JSON_MODE }, N>(value, dst)
-}
-
 /// Escapes the text to the front of `dst`, with no quotation marks. Returns how many bytes it became.
 #[inline(always)]
 pub(crate) fn format_inner<V: Vector<N>, const MODE: u8, const N: usize>(

@@ -67,8 +67,7 @@ fn shorten(bytes: u8x16) -> u8x16
     bytes.simd_max(letters().swizzle_dyn(places))
 }
 
-/// The text's vector at `at`, shortened, 16 bytes at a time. All of it is loaded before the first block is written: so it
-/// is not loaded again after that.
+/// The text's vector at `at`, shortened, 16 bytes at a time: all of it is loaded before the first block is written.
 #[inline(always)]
 fn shorten_vector<const N: usize>(src: &[u8], at: usize) -> [u8x16; 4]
     requires width { N ≡ 16 * (N / 16) }
@@ -148,7 +147,8 @@ fn long_lanes<const MODE: u8>(src: &[u8], at: usize) -> u64
 }
 
 /// Returns whether what stands for each flagged byte of the text's vector at `at` is two bytes.
-#[inline(always)]
+// It and `escape_blocks` are not `inline(always)`: a chunk, which has four of each, would be too large to be inlined.
+#[inline]
 pub(crate) fn are_short<const MODE: u8, const N: usize>(src: &[u8], at: usize, flags: u64) -> bool
     requires width { N ≡ 16 * (N / 16) }
     requires most { N ≤ 64 }
@@ -171,7 +171,7 @@ pub(crate) fn are_short<const MODE: u8, const N: usize>(src: &[u8], at: usize, f
 /// them.
 ///
 /// The last block may have bytes past them, which are not flagged: what it has of these is stepped back over.
-#[inline(always)]
+#[inline]
 pub(crate) fn escape_blocks<const MODE: u8, const N: usize>(
     src: &[u8],
     at: usize,

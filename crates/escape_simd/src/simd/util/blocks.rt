@@ -147,7 +147,7 @@ fn long_lanes<const MODE: u8>(src: &[u8], at: usize) -> u64
 }
 
 /// Returns whether what stands for each flagged byte of the text's vector at `at` is two bytes.
-// It and `escape_blocks` are not `inline(always)`: a chunk, which has four of each, would be too large to be inlined.
+// This and `escape_blocks` are not `inline(always)`: that would make their callers too large to inline.
 #[inline]
 pub(crate) fn are_short<const MODE: u8, const N: usize>(src: &[u8], at: usize, flags: u64) -> bool
     requires width { N ≡ 16 * (N / 16) }

@@ -7,7 +7,7 @@ ghost use Rattle.escape_simd.specs.Output.{inner, quote_of};
 
 use crate::output::front::append_front;
 use crate::output::in_place::{append_flagged, append_in_place};
-use crate::output::push::{PIECE, SHORT_PIECE, push_quote, push_vector};
+use crate::output::push::{push_quote, push_vector};
 use crate::output::{N, V};
 use crate::simd::Vector;
 use escape_lanes::simd::target::Ticks;
@@ -28,7 +28,7 @@ fn append_one<const MODE: u8, A: Allocator>(text: &[u8], dst: &mut Vec<u8, A>)
     let mut ticks = Ticks::new();
     let flags = v.flags(MODE, &mut ticks).bits().clear_high_bits(64 - count);
     if !flags.all_zero() {
-        return append_flagged::<MODE, { SHORT_PIECE }, A>(text, 0, flags, dst);
+        return append_flagged::<MODE, A>(text, 0, flags, dst);
     }
     let len = dst.len();
     push_vector(dst, len, &v);
@@ -52,7 +52,7 @@ fn append_two<const MODE: u8, A: Allocator>(text: &[u8], dst: &mut Vec<u8, A>)
     let flags1 = v1.flags(MODE, &mut ticks);
     let flags2 = v2.flags(MODE, &mut ticks);
     if !flags1.join(&flags2).none() {
-        return append_flagged::<MODE, { PIECE }, A>(text, flags1.bits(), flags2.bits(), dst);
+        return append_flagged::<MODE, A>(text, flags1.bits(), flags2.bits(), dst);
     }
     let len = dst.len();
     push_vector(dst, len, &v1);

@@ -5,7 +5,7 @@ ghost use Rattle.escape_simd.specs.Modes.{mode_numbered};
 ghost use Rattle.escape_simd.specs.Output.{inner, quote_of};
 ghost use Rattle.escape_simd.specs.Stretch.{AreLast};
 
-use crate::output::push::{PIECE, fill, push_quote};
+use crate::output::push::{fill, push_quote};
 use crate::output::{N, V};
 use crate::simd::{escape_at, escape_chunks, escape_flagged};
 use std::alloc::Allocator;
@@ -15,22 +15,20 @@ const CHUNK_ROOM: usize = 25 * N;
 
 /// Appends what stands for a text of fewer bytes than two vectors have, and the last quotation mark. Its flags are
 /// known: `last` has those of its last vector, and `first` those of its first one, where it has as many bytes as one.
-/// The vector is filled by `ZEROS` bytes at a time.
 #[inline(never)]
-pub(super) fn append_flagged<const MODE: u8, const ZEROS: usize, A: Allocator>(
+pub(super) fn append_flagged<const MODE: u8, A: Allocator>(
     text: &[u8],
     first: u64,
     last: u64,
     dst: &mut Vec<u8, A>,
 )
-    requires some { 0 < ZEROS }
     requires flagged { AreLast (mode_numbered MODE) N text.now (bits_of 64 first) (bits_of 64 last) }
     requires room { vec_len dst.old + 6 * length text.now + N ≤ vec_capacity dst.old }
     ensures { dst.new.items ≡ dst.old.items
         ++ (inner (mode_numbered MODE) text.now ++ quote_of (mode_numbered MODE)) }
 {
     let old = dst.len();
-    fill::<ZEROS, A>(dst, old + 6 * text.len() + N);
+    fill::<A>(dst, old + 6 * text.len() + N);
     let end = escape_flagged::<V, MODE, N>(text, first, last, dst, old);
     dst.truncate(end);
     push_quote::<MODE, A>(dst);
@@ -46,12 +44,12 @@ pub(super) fn append_in_place<const MODE: u8, A: Allocator>(src: &[u8], dst: &mu
     let mut left = src;
     let mut end = dst.len();
     'parts: while 5 * N <= left.len() {
-        fill::<{ PIECE }, A>(dst, end + CHUNK_ROOM);
+        fill::<A>(dst, end + CHUNK_ROOM);
         let (passed, next) = escape_chunks::<V, MODE, N>(left, dst, end);
         left = &left[passed..];
         end = next;
     }
-    fill::<{ PIECE }, A>(dst, end + 6 * left.len() + N);
+    fill::<A>(dst, end + 6 * left.len() + N);
     end = escape_at::<V, MODE, N>(left, dst, end);
     dst.truncate(end);
     push_quote::<MODE, A>(dst);

@@ -12,9 +12,6 @@ use std::alloc::Allocator;
 /// What may stand for a text of fewer bytes than two vectors have is no longer. So many are stores and no call.
 pub const PIECE: usize = 448;
 
-/// As [`PIECE`], for a text shorter than a vector.
-pub(super) const SHORT_PIECE: usize = 224;
-
 /// Appends the bytes to a vector that has room for them.
 ///
 /// That it has room is asked all the same, and answered by `return`: so the compiler leaves out the call that
@@ -45,17 +42,16 @@ pub(super) fn push_quote<const MODE: u8, A: Allocator>(dst: &mut Vec<u8, A>)
     }
 }
 
-/// Makes the vector `len` bytes long or longer by zeros, where it is shorter: by `ZEROS` at a time. It has room for `len`.
+/// Makes the vector `len` bytes long or longer by zeros, where it is shorter. It has room for `len`.
 #[inline(always)]
-pub(super) fn fill<const ZEROS: usize, A: Allocator>(dst: &mut Vec<u8, A>, len: usize)
-    requires some { 0 < ZEROS }
+pub(super) fn fill<A: Allocator>(dst: &mut Vec<u8, A>, len: usize)
     requires room { len ≤ vec_capacity dst.old }
     ensures front { take (vec_len dst.old) dst.new.items ≡ dst.old.items }
     ensures filled { (vec_len dst.old ≤ vec_len dst.new) × (len ≤ vec_len dst.new) }
     ensures capacity { vec_capacity dst.old ≤ vec_capacity dst.new }
 {
-    'zeros: while dst.len() < len && ZEROS <= dst.capacity() - dst.len() {
-        push_all(dst, &[0; ZEROS]);
+    'zeros: while dst.len() < len && PIECE <= dst.capacity() - dst.len() {
+        push_all(dst, &[0; PIECE]);
     }
     if dst.len() < len {
         let Ok(()) = dst.resize(len, 0) else {

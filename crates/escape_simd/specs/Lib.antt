@@ -18,3 +18,4 @@ pub mod Headline
 pub mod Laws
 pub mod Escaping
 pub mod Messages
+pub mod Refusals

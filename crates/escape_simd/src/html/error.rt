@@ -41,7 +41,7 @@ impl From<InputTooLarge> for EscapeHtmlError {
 }
 
 impl From<Refusal> for EscapeHtmlError {
-    ghost use Rattle.escape_simd.specs.declared.output.Refusal.TheVariants.{TooLarge as too_large};
+    ghost use Rattle.escape_simd.specs.declared.output.error.Refusal.TheVariants.{TooLarge as too_large};
     ghost use Rattle.escape_simd.specs.declared.html.error.EscapeHtmlError.TheVariants.{TooLarge};
     ghost use Rattle.std.specs.Prelude.{◌≡◌, ◌↔◌};
 

@@ -13,7 +13,7 @@ pub enum EscapeError {
 }
 
 impl From<Refusal> for EscapeError {
-    ghost use Rattle.escape_simd.specs.declared.output.Refusal.TheVariants.{TooLarge as too_large};
+    ghost use Rattle.escape_simd.specs.declared.output.error.Refusal.TheVariants.{TooLarge as too_large};
     ghost use Rattle.escape_simd.specs.declared.json.error.EscapeError.TheVariants.{TooLarge};
     ghost use Rattle.std.specs.Prelude.{◌≡◌, ◌↔◌};
 

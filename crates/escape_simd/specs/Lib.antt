@@ -9,6 +9,7 @@ pub mod Stretch
 pub mod Blocks
 pub mod Formatted
 pub mod Parts
+pub mod Lengths
 pub mod Kernels
 pub mod Spelling
 pub mod Html

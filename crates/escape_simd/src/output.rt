@@ -15,6 +15,7 @@ mod error;
 mod front;
 mod in_place;
 mod inner;
+mod length;
 mod push;
 
 use crate::simd::HTML_MODE;
@@ -22,7 +23,8 @@ use crate::simd::avx2::Simd256u;
 use crate::{html, json};
 use bytes::append_bytes;
 pub use error::Refusal;
-pub use inner::{stands_for_itself, write_inner};
+pub use inner::write_inner;
+pub use length::{escaped_len, stands_for_itself};
 pub use push::PIECE;
 use push::push_quote;
 use std::alloc::Allocator;

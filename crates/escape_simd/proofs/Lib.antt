@@ -17,6 +17,7 @@ pub mod Last
 pub mod Costs
 pub mod Whole
 pub mod Parts
+pub mod Lengths
 pub mod HtmlLemmas
 pub mod JsonLemmas
 pub mod ScriptLemmas

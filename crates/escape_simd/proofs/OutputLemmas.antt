@@ -80,7 +80,7 @@ same_characters script output t u scalars e p q = q.one_text t (rw e (script_den
 -- How long the output is
 
 -- with the quotation marks of a literal
-length-plain : (mode : Mode) (bytes : List ℕ) → length (plain mode bytes) ≡ length (inner mode bytes) + quote_count mode
+pub length-plain : (mode : Mode) (bytes : List ℕ) → length (plain mode bytes) ≡ length (inner mode bytes) + quote_count mode
 length-plain html bytes = omega arith
 length-plain mode bytes = length-quoted (inner mode bytes)
 

@@ -5,7 +5,7 @@ use Rattle.std.specs.Simd.Lanes.{zip2}
 use Rattle.std.proofs.Math.Seq.{take-add, take-append-add, take-append_seam}
 use Rattle.std.proofs.lemmas.Bool.{cases_Bool}
 use Rattle.std.proofs.lemmas.Bool.Decides.{nat_tests}
-use Rattle.std.proofs.lemmas.List.{append-nil, drop-drop, get_or-drop, length-map, take-append-drop, take-take, take_all}
+use Rattle.std.proofs.lemmas.List.{append-nil, drop-drop, length-map, take-append-drop, take-take, take_all}
 use Rattle.std.proofs.lemmas.List.Sums.{get_or-le-sum_by}
 use Rattle.std.proofs.lemmas.Simd.{length-zip2}
 use Rattle.escape_lanes.specs.Bits.{clear_last, none_set}
@@ -17,7 +17,7 @@ use Rattle.escape_simd.specs.Output.{inner, quote_of}
 use Rattle.escape_simd.specs.Parts.{IsAnswer, IsFront, IsPartAt}
 use Rattle.escape_simd.specs.Stretch.{AreLast, HoldsFlags, reach}
 use Rattle.escape_simd.proofs.Costs.{BodySoFar}
-use Rattle.escape_simd.proofs.Lanes.{CleanFrom, clean-list, first-set, held-none, none_set-joined}
+use Rattle.escape_simd.proofs.Lanes.{CleanFrom, clean-list, held-none, none_set-joined}
 use Rattle.escape_simd.proofs.Last.{last-mask, last-short}
 use Rattle.escape_simd.proofs.ReplacementLemmas.{inner-nil}
 use Rattle.escape_simd.proofs.RestSteps.{rest-is}
@@ -96,7 +96,7 @@ module _ (mode : Mode) (n : ℕ) (text lanes : List ℕ) (truths whole bits : Li
 -- Whether a text stands for itself
 
 -- where none is counted, none needs an escape
-none-counted : (f : ℕ → Bool) (xs : List ℕ) → count_by f xs ≡ 0 → (k : ℕ) → k < length xs → f (get_or xs k 0) ≡ false
+pub none-counted : (f : ℕ → Bool) (xs : List ℕ) → count_by f xs ≡ 0 → (k : ℕ) → k < length xs → f (get_or xs k 0) ≡ false
 none-counted f xs none k h = let a = get_or-le-sum_by (λ y. cond (f y) 1 0) xs k 0 h in grind (arith, nat_tests)
 
 -- an answer is right that says no of no clean text
@@ -156,10 +156,3 @@ chunk-answer mode src at n inside a b c d ab cd all ea eb ec ed eab ecd e =
     let same : length ab ≡ length cd = grind (arith, length-zip2, la, lb, lc, ld) in
     let v = answer-joined mode src at (at + n + n) (at + 2 * n) (at + 3 * n + n) ab cd all same (omega arith) e vab vcd in
     record { clean = λ none k after before. v.clean none k after (omega (arith, before)); flagged = v.flagged }
-
--- the mask of the last bytes
-pub rest-answer : (mode : Mode) (src : List ℕ) (at : ℕ) (bits : List Bool) → at ≤ length src → HoldsFlags mode (drop at src) 0 (length src - at) 0 bits → IsAnswer mode src at (length src) (none_set bits)
-rest-answer mode src at bits inside held =
-    answered mode src at (length src) (none_set bits)
-    (λ none k after before. let clean = held-none mode (drop at src) 0 (length src - at) 0 bits held (omega arith) none (k - at) in grind (arith, get_or-drop))
-    (λ clean. grind (arith, first-set, get_or-drop, cases_Bool))

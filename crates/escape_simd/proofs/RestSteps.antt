@@ -45,7 +45,7 @@ first-few mode bytes = omega (arith, length-replacement mode (get_or bytes 0 0))
 
 module _ (mode : Mode) (src : List ℕ) where
   -- the bytes that are passed with the one before them are clean
-  passed-clean_rest : (i : ℕ) → i < length src → rest_length mode src (i + 1) + 1 ≡ passed mode (drop i src) + rest_length mode src (i + passed mode (drop i src))
+  pub passed-clean_rest : (i : ℕ) → i < length src → rest_length mode src (i + 1) + 1 ≡ passed mode (drop i src) + rest_length mode src (i + passed mode (drop i src))
   passed-clean_rest i inside =
       let clean : CleanFrom mode src (i + 1) (i + passed mode (drop i src)) = λ q late early. passed-after mode src i _ q refl (omega arith) early in
       let fits = passed≤length mode (drop i src) (omega (arith, length-drop i src)) in

@@ -63,7 +63,7 @@ module _ (mode : Mode) where
 
 module _ (b : ℕ) (bs : List ℕ) where
   -- the first of what stands for bytes, and the rest
-  inner-step : (mode : Mode) → inner mode (b ∷ bs) ≡ first_replacement mode (b ∷ bs) ++ inner mode (drop (passed mode (b ∷ bs) - 1) bs)
+  pub inner-step : (mode : Mode) → inner mode (b ∷ bs) ≡ first_replacement mode (b ∷ bs) ++ inner mode (drop (passed mode (b ∷ bs) - 1) bs)
   unfolding script_inner_after
   inner-step script = ap (λ xs. first_replacement script (b ∷ bs) ++ xs) (script_inner_after-drop (passed script (b ∷ bs) - 1) bs)
   inner-step mode = refl

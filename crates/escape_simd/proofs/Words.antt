@@ -32,6 +32,7 @@ pub use Rattle.escape_simd.specs.Html.{AmpersandsBeginEntities, HtmlReads, IsHtm
 unfoldable pub use Rattle.escape_simd.specs.Json.{short_escape}
 pub use Rattle.escape_simd.specs.Json.{HasLowerDigits, IsHexDigit, IsHexForm, IsJsonItem, IsLiteral, IsLower, IsLowerItem, IsNotUpper, IsOnlyJson, IsShortestJson, JsonDenotes, digits, hex, pair, raw, short}
 pub use Rattle.escape_simd.specs.Laws.{HasOutputLength, IsOfOneText, JoinsTexts, appended}
+pub use Rattle.escape_simd.specs.Lengths.{IsPartLength}
 pub use Rattle.escape_simd.specs.Modes.{mode_numbered}
 unfoldable pub use Rattle.escape_simd.specs.Output.{begins_separator, script_inner_after}
 pub use Rattle.escape_simd.specs.Output.{bound, first_replacement, inner, passed, plain, quote_count, quote_of, quoted}

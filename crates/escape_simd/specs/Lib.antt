@@ -9,6 +9,7 @@ pub mod Stretch
 pub mod Blocks
 pub mod Formatted
 pub mod Parts
+pub mod Lengths
 pub mod Kernels
 pub mod Spelling
 pub mod Html
@@ -18,3 +19,4 @@ pub mod Headline
 pub mod Laws
 pub mod Escaping
 pub mod Messages
+pub mod Refusals

@@ -7,11 +7,13 @@ ghost use Rattle.escape_simd.specs.Laws.{appended};
 
 mod each;
 mod error;
+mod length;
 
 use crate::output::{append, scratch_bound, text};
 use crate::simd::HTML_MODE;
 pub use each::escape_html_each;
 pub use error::{EscapeHtmlError, InputTooLarge};
+pub use length::{escaped_len, is_clean};
 use std::alloc::{Allocator, Global};
 
 /// How many bytes of a target each byte of a text may need in HTML.

@@ -7,10 +7,12 @@ ghost use Rattle.escape_simd.specs.Laws.{appended};
 ghost use Rattle.escape_simd.specs.Script.{IsSafeInScript};
 
 mod error;
+mod length;
 
 use crate::output::{append, scratch_bound, text};
 use crate::simd::{JSON_MODE, SCRIPT_MODE};
 pub use error::EscapeError;
+pub use length::{escaped_len, is_clean, is_script_clean, script_len};
 use std::alloc::{Allocator, Global};
 
 /// How many bytes of a target each byte of a text may need, in JSON and script literals.

@@ -34,4 +34,4 @@ pub use format::{
     format_script_inner, format_script_str, format_script_string,
 };
 pub use kernel::Kernel;
-pub use output::PIECE;
+pub use output::{PIECE, Refusal};

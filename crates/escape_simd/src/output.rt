@@ -11,44 +11,28 @@ ghost use Rattle.escape_simd.specs.Headline.{IsOnlyOutput};
 ghost use Rattle.escape_simd.specs.Laws.{JoinsTexts, IsOfOneText, HasOutputLength};
 
 mod bytes;
+mod error;
 mod front;
 mod in_place;
 mod inner;
+mod length;
 mod push;
 
 use crate::simd::HTML_MODE;
 use crate::simd::avx2::Simd256u;
 use crate::{html, json};
 use bytes::append_bytes;
-pub use inner::{stands_for_itself, write_inner};
+pub use error::Refusal;
+pub use inner::write_inner;
+pub use length::{escaped_len, stands_for_itself};
 pub use push::PIECE;
 use push::push_quote;
-use std::alloc::{AllocError, Allocator};
+use std::alloc::Allocator;
 
 /// The vector by which texts are appended, and how many bytes it has.
 type V = Simd256u;
 
 const N: usize = 32;
-
-/// Why a text was not escaped.
-#[derive(Debug, Clone, Copy, PartialEq, Eq)]
-pub enum Refusal {
-    /// The scratch bound of the text passes `usize::MAX`.
-    TooLarge,
-    /// The reservation of the scratch bound was refused.
-    OutOfMemory,
-}
-
-impl From<AllocError> for Refusal {
-    ghost use Rattle.escape_simd.specs.declared.output.Refusal.TheVariants.{OutOfMemory};
-    ghost use Rattle.std.specs.Prelude.{◌≡◌};
-
-    ghost from_gives = { λ _ refusal. refusal ≡ OutOfMemory };
-
-    fn from(_refused: AllocError) -> Refusal {
-        Refusal::OutOfMemory
-    }
-}
 
 /// How many bytes a target must have for a text of `len` bytes, where a `usize` can tell.
 pub fn scratch_bound<const MODE: u8>(len: usize) -> Option<usize>

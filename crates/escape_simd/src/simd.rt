@@ -5,7 +5,7 @@ pub mod avx512;
 mod body;
 mod by_mask;
 mod chunk;
-mod entry;
+pub(crate) mod entry;
 pub mod neon;
 mod rest;
 pub mod sse2;

@@ -40,8 +40,8 @@ fn push_text<A: Allocator>(text: &str, dst: &mut String<A>)
 }
 
 /// Appends the output for the text to a string that has room for it. Arrays are those of the adapters.
-fn append_output<const MODE: u8, A: Allocator>(value: &str, dst: &mut String<A>)
-    requires { string_len dst.old + bound (mode_numbered MODE) (length value.now)
+pub(crate) fn append_output<const MODE: u8, A: Allocator>(value: &str, dst: &mut String<A>)
+    requires { string_len dst.old + length (plain (mode_numbered MODE) value.now)
         ≤ string_capacity dst.old }
     ensures { string_bytes dst.new
         ≡ string_bytes dst.old ++ plain (mode_numbered MODE) value.now }
@@ -59,7 +59,7 @@ fn append_output<const MODE: u8, A: Allocator>(value: &str, dst: &mut String<A>)
 /// The same for a text that stands for itself.
 fn append_itself<const MODE: u8, A: Allocator>(value: &str, dst: &mut String<A>)
     requires itself { inner (mode_numbered MODE) value.now ≡ value.now }
-    requires room { string_len dst.old + bound (mode_numbered MODE) (length value.now)
+    requires room { string_len dst.old + length (plain (mode_numbered MODE) value.now)
         ≤ string_capacity dst.old }
     ensures { string_bytes dst.new
         ≡ string_bytes dst.old ++ plain (mode_numbered MODE) value.now }
@@ -72,7 +72,7 @@ fn append_itself<const MODE: u8, A: Allocator>(value: &str, dst: &mut String<A>)
 /// The same piece by piece.
 #[inline(never)]
 fn append_pieces<const MODE: u8, A: Allocator>(value: &str, dst: &mut String<A>)
-    requires { string_len dst.old + bound (mode_numbered MODE) (length value.now)
+    requires { string_len dst.old + length (plain (mode_numbered MODE) value.now)
         ≤ string_capacity dst.old }
     ensures { string_bytes dst.new
         ≡ string_bytes dst.old ++ plain (mode_numbered MODE) value.now }

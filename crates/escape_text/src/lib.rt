@@ -4,8 +4,9 @@
 //! [`json::Escaped`], [`json::EscapedScript`] and [`html::Escaped`] are for `write!`, `print!` and
 //! `format!`; [`json::escape_to_writer`] and its kin write to an `io::Write`. Both ask for no memory:
 //! the output is made in an array, piece by piece. [`json::escape_into_string`] and its kin append to
-//! a `String`. [`json::escape_array_into`] and [`json::escape_joined_into`] append many texts to a
-//! vector. What each output is, `escape_simd` says.
+//! a `String`. [`json::escape_compact`] and its kin answer a `String` of the output's own length, and
+//! [`html::escape_html_cow`] the text itself where it is clean. [`json::escape_array_into`] and
+//! [`json::escape_joined_into`] append many texts to a vector. What each output is, `escape_simd` says.
 //!
 //! ```text
 //! write!(page, "<p title=\"{}\">", html::Escaped("a \"b\""))?; // <p title="a &quot;b&quot;">
@@ -16,6 +17,7 @@
 
 mod adapter;
 mod appended_text;
+mod compact;
 pub mod html;
 pub mod json;
 mod list;

@@ -3,7 +3,8 @@ use crate::output::Refusal;
 use std::alloc::{AllocError, AllocFailed};
 use std::fmt;
 
-/// The scratch bound of a text, `6 * n + 32` for one of `n` bytes, passes `usize::MAX`.
+/// What was to be reserved passes `usize::MAX`: the scratch bound, `6 * n + 32` for a text of `n` bytes, or
+/// where a call reserves less, the output's own length.
 #[derive(Debug, Clone, Copy, PartialEq, Eq)]
 pub struct InputTooLarge;
 
@@ -23,9 +24,9 @@ impl std::error::Error for InputTooLarge {}
 /// Why a text was not written as HTML.
 #[derive(Debug, Clone, Copy, PartialEq, Eq)]
 pub enum EscapeHtmlError {
-    /// The scratch bound of the text passes `usize::MAX`.
+    /// What was to be reserved passes `usize::MAX`.
     TooLarge(InputTooLarge),
-    /// The reservation of the scratch bound was refused.
+    /// The reservation was refused.
     OutOfMemory,
 }
 
@@ -41,7 +42,7 @@ impl From<InputTooLarge> for EscapeHtmlError {
 }
 
 impl From<Refusal> for EscapeHtmlError {
-    ghost use Rattle.escape_simd.specs.declared.output.Refusal.TheVariants.{TooLarge as too_large};
+    ghost use Rattle.escape_simd.specs.declared.output.error.Refusal.TheVariants.{TooLarge as too_large};
     ghost use Rattle.escape_simd.specs.declared.html.error.EscapeHtmlError.TheVariants.{TooLarge};
     ghost use Rattle.std.specs.Prelude.{◌≡◌, ◌↔◌};
 

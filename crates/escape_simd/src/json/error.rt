@@ -6,14 +6,15 @@ use std::fmt;
 /// Why a text was not written as a JSON string literal.
 #[derive(Debug, Clone, Copy, PartialEq, Eq)]
 pub enum EscapeError {
-    /// The scratch bound, `6 * n + 35` for a text of `n` bytes, passes `usize::MAX`.
+    /// What was to be reserved passes `usize::MAX`: the scratch bound, `6 * n + 35` for a text of `n` bytes,
+    /// or where a call reserves less, the literal's own length.
     TooLarge,
-    /// The reservation of the scratch bound was refused.
+    /// The reservation was refused.
     OutOfMemory,
 }
 
 impl From<Refusal> for EscapeError {
-    ghost use Rattle.escape_simd.specs.declared.output.Refusal.TheVariants.{TooLarge as too_large};
+    ghost use Rattle.escape_simd.specs.declared.output.error.Refusal.TheVariants.{TooLarge as too_large};
     ghost use Rattle.escape_simd.specs.declared.json.error.EscapeError.TheVariants.{TooLarge};
     ghost use Rattle.std.specs.Prelude.{◌≡◌, ◌↔◌};
 

@@ -1,4 +1,4 @@
-//! What stands for a text, with no quotation marks: in the midst of a slice, and whether it is the text.
+//! What stands for a text in the midst of a slice, with no quotation marks, and whether vectors of it are clean.
 ghost use Rattle.std.specs.Prelude.{◌≡◌, ◌+◌, ◌*◌, ◌<◌, ◌≤◌, ◌++◌, true, false, length, take};
 ghost use Rattle.std.specs.List.{count_by};
 ghost use Rattle.escape_lanes.specs.Replacement.{needs_escape};
@@ -47,40 +47,4 @@ pub(super) fn is_clean_vector<const MODE: u8>(src: &[u8], at: usize) -> bool
 {
     let mut ticks = Ticks::new();
     flags_at::<V, MODE, N>(src, at, &mut ticks).none()
-}
-
-/// Whether none of the text's bytes from `at` on, fewer than a vector has, needs an escape.
-#[inline(always)]
-fn is_clean_rest<const MODE: u8>(src: &[u8], at: usize) -> bool
-    requires { (at ≤ length src.now) × (length src.now < at + N) }
-    ensures { IsAnswer (mode_numbered MODE) src.now at (length src.now) result }
-{
-    let count = src.len() - at;
-    let mut ticks = Ticks::new();
-    let v = V::load_last(src, count);
-    let flags = v.flags(MODE, &mut ticks).bits();
-    flags.clear_high_bits(64 - count).all_zero()
-}
-
-/// Returns whether the text stands for itself: no byte of it needs an escape.
-#[inline(never)]
-pub fn stands_for_itself<const MODE: u8>(value: &str) -> bool
-    ensures itself { result ≡ true → inner (mode_numbered MODE) value.now ≡ value.now }
-    ensures flagged { result ≡ false → 0 < count_by (needs_escape (mode_numbered MODE)) value.now }
-{
-    let src = value.as_bytes();
-    let mut at = 0;
-    'chunks: while 4 * N <= src.len() - at {
-        if !is_clean_chunk::<MODE>(src, at) {
-            return false;
-        }
-        at += 4 * N;
-    }
-    'vectors: while N <= src.len() - at {
-        if !is_clean_vector::<MODE>(src, at) {
-            return false;
-        }
-        at += N;
-    }
-    is_clean_rest::<MODE>(src, at)
 }

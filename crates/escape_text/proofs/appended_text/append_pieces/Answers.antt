@@ -1,15 +1,11 @@
 use Rattle.std.proofs.Common.{◌++◌, length, string_bytes, ap, arith}
 use Rattle.escape_simd.specs.Modes.{mode_numbered}
-use Rattle.escape_text.proofs.ToWrite.{length-plain}
 use Rattle.escape_text.proofs.appended_text.append_pieces.Goals as goal
 
 pub pieces-init : goal.pieces-init
 pieces-init g c =
-    let mode = mode_numbered g.row.MODE in
-    let whole = c.of-pieces.ensures mode in
-    let long = ap length whole in
-    let most = length-plain mode c.args.value.now in
+    let whole = c.of-pieces.ensures (mode_numbered g.row.MODE) in
     record {
       text = ap (λ xs. string_bytes c.args.dst.now ++ xs) whole;
-      room = omega (arith, long, most, c.requires);
+      room = omega (arith, ap length whole, c.requires);
     }

@@ -7,7 +7,7 @@ use Rattle.escape_text.proofs.piecewise.Pieces.next.Goals as goal
 
 pub returns-then-stands_for_itself-clause-piece : goal.returns-then-stands_for_itself-clause-piece
 returns-then-stands_for_itself-clause-piece g c =
-    rw c.if-self.false (rw c.if-self-2.true (rest_to_write-clean (mode_numbered g.row.MODE) _ _ _ c.split_front.ensures.joined c.split_front.ensures.cut (c.if-stands_for_itself.ensures.itself refl)))
+    rw c.if-self.false (rw c.if-self-2.true (rest_to_write-clean (mode_numbered g.row.MODE) _ _ _ c.split_front.ensures.joined c.split_front.ensures.cut (c.if-stands_for_itself.ensures.itself.0 refl)))
 
 pub returns-clause-piece : goal.returns-clause-piece
 returns-clause-piece g c =

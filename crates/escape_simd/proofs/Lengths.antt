@@ -1,0 +1,163 @@
+-- How long what stands for parts of a text is, and for the whole.
+use Rattle.std.proofs.Common.{◌≡◌, ℕ, zero, suc, ◌+◌, ◌-◌, ◌*◌, ◌<◌, ◌≤◌, Bool, true, false, List, [], ◌∷◌, ◌++◌, length, drop, get_or, replicate, ap, ◌∙◌, arith, length-append, length-drop, inl, inr}
+use Rattle.escape_simd.proofs.Words.{cases_lt, count_by, nat_tests, first_set, none_set, clear_first, clear_last, entry_count, map, take-append-le, Mode, script, needs_escape, replacement, inner, begins_separator, passed, first_replacement, plain, quote_count, rest_length, HoldsFlags, IsFlaggedAt, IsPartLength}
+use Rattle.escape_simd.proofs.Escapes.{entry-counts, first-alone, passed-alone}
+use Rattle.escape_simd.proofs.Lanes.{CleanFrom, held-cut, cleared-later, first-set, first_set-here, held-cleared, held-first, held-further, held-none}
+use Rattle.escape_simd.proofs.OutputLemmas.{length-plain}
+use Rattle.escape_simd.proofs.Parts.{itself, none-counted}
+use Rattle.escape_simd.proofs.ReplacementLemmas.{inner-nil, length-replacement}
+use Rattle.escape_simd.proofs.RestSteps.{clean_rest, passed-clean_rest, rest-between, rest-bounds, rest-is}
+use Rattle.escape_simd.proofs.Texts.{inner-here, inner-step, length-first, length-inner, length-separator, one≤passed, passed≤length}
+
+-- One byte
+
+module _ (mode : Mode) (src : List ℕ) (at : ℕ) (inside : at < length src) where
+  -- the rest of a text, and its first byte left out
+  rest-added : rest_length mode src at + passed mode (drop at src) ≡ length (first_replacement mode (drop at src)) + (rest_length mode src (at + 1) + 1)
+  rest-added =
+      let e = inner-here mode src at inside in let clean = passed-clean_rest mode src at inside in let a = rest-is mode src at in let b = rest-is mode src (at + passed mode (drop at src)) in
+      let long = ap length e in
+      let sum = length-append (first_replacement mode (drop at src)) (inner mode (drop (at + passed mode (drop at src)) src)) in
+      omega (arith, long, sum, a, b, clean)
+
+  -- a byte's entry counts what stands for it
+  pub added-alone : needs_escape mode (get_or src at 0) ≡ true → (mode ≡ script → begins_separator (drop at src) ≡ false) → (count : ℕ) → count ≡ entry_count mode (get_or src at 0) → (1 ≤ count) × IsPartLength mode src at (at + 1) count
+  added-alone needed none count is =
+      let one = passed-alone mode src at none in let first = ap length (first-alone mode src at none) in let counts = entry-counts mode (get_or src at 0) needed in
+      let some = length-replacement mode (get_or src at 0) in
+      (omega (arith, is, counts, some), omega (arith, rest-added, one, first, is, counts))
+
+  -- six bytes stand for a separator, and two for the rest of it alone
+  pub added-separator : mode ≡ script → begins_separator (drop at src) ≡ true → IsPartLength mode src at (at + 1) 4
+  added-separator is begins = grind (arith, rest-added, length-separator)
+
+-- The last bytes
+
+-- their mask, told of the whole text
+pub last-held : (mode : Mode) (n : ℕ) (src lanes : List ℕ) (at : ℕ) (truths whole bits : List Bool) → n ≤ 64 → at ≤ length src → length src - at ≤ n → length lanes ≡ n
+    → lanes ≡ drop (length src - (length src - at)) src ++ replicate (n - (length src - at)) 0 → truths ≡ map (needs_escape mode) lanes → whole ≡ truths ++ replicate (64 - n) false → bits ≡ clear_last (64 - (length src - at)) whole
+    → HoldsFlags mode src at (length src - at) at bits
+last-held mode n src lanes at truths whole bits narrow inside few long loaded flagged all cut =
+    held-cut mode src lanes at n (length src - at) long narrow few (grind (arith, take-append-le, length-drop {A = ℕ})) bits (cc)
+
+-- The flagged bytes of a part
+
+-- Those before `next` were counted.
+pub record CountedSoFar (mode : Mode) (src : List ℕ) (at valid len : ℕ) (bits : List Bool) : Type 0 where
+  pub next : ℕ
+  pub after : at ≤ next
+  pub before : next ≤ at + valid
+  pub flags : HoldsFlags mode src at valid next bits
+  pub cleared : (k : ℕ) → get_or bits k false ≡ true → next ≤ at + k
+  pub counted : len + rest_length mode src next ≡ rest_length mode src at + (at + valid - next)
+
+-- a mask whose first lanes are cleared has its first set one behind them
+first_set-past : (n : ℕ) (bits : List Bool) → first_set (replicate n false ++ bits) ≡ n + first_set bits
+unfolding first_set
+first_set-past zero bits = omega arith
+first_set-past (suc n) bits = omega (arith, first_set-past n bits)
+
+module _ (mode : Mode) (src : List ℕ) (at valid : ℕ) (inside : at + valid ≤ length src) where
+  -- none yet
+  pub counted-begin : (bits : List Bool) → HoldsFlags mode src at valid at bits → CountedSoFar mode src at valid valid bits
+  counted-begin bits held = record {
+    next = at;
+    after = omega arith;
+    before = omega arith;
+    flags = held;
+    cleared = λ k set. omega arith;
+    counted = omega arith;
+  }
+
+  module _ (len : ℕ) (bits : List Bool) (so_far : CountedSoFar mode src at valid len bits) where
+    -- six bytes at most stand for each
+    pub counted-few : len ≤ 6 * valid
+    counted-few =
+        let all = rest-between mode src at (at + valid) (omega arith) inside in let left = rest-between mode src so_far.next (at + valid) so_far.before inside in
+        omega (arith, all, left, so_far.counted, so_far.after, so_far.before)
+
+    -- all of them
+    pub counted-end : none_set bits ≡ true → IsPartLength mode src at (at + valid) len
+    counted-end none =
+        let clean = held-none mode src at valid so_far.next bits so_far.flags so_far.after none in
+        omega (arith, clean_rest mode src so_far.next (at + valid) so_far.before clean inside, so_far.counted, so_far.before)
+
+    module _ (some : none_set bits ≡ false) (f : ℕ) (is : f ≡ first_set bits) where
+      -- the next one is a flagged byte of the part
+      pub counted-first : IsFlaggedAt mode src (at + f) × (f < valid)
+      counted-first =
+          let first = first-set mode src at valid so_far.next bits so_far.flags some in
+          (record { inside = omega (arith, first.0, is, inside); needed = ap (λ k. needs_escape mode (get_or src (at + k) 0)) is ∙ first.1 }, omega (arith, first.0, is))
+
+      -- one more
+      pub counted-next : (more : ℕ) → IsPartLength mode src (at + f) (at + f + 1) (more + 1) → CountedSoFar mode src at valid (len + more) (clear_first (first_set bits + 1) bits)
+      counted-next more one =
+          let few = counted-first.1 in
+          let late : so_far.next ≤ at + f = omega (arith, so_far.cleared (first_set bits) (first_set-here bits some), is) in
+          let clean : CleanFrom mode src so_far.next (at + f) = λ p after before. held-first mode src at valid so_far.next bits so_far.flags some so_far.after p after (omega (arith, before, is)) in
+          let passed = clean_rest mode src so_far.next (at + f) late clean (omega (arith, few, inside)) in
+          record {
+            next = at + f + 1;
+            after = omega arith;
+            before = omega (arith, few);
+            flags = held-cleared mode src at valid (at + f + 1) bits (held-further mode src at valid so_far.next bits so_far.flags (at + f + 1) (omega (arith, late))) (first_set bits + 1) (omega (arith, is));
+            cleared = λ k set. omega (arith, cleared-later (first_set bits + 1) bits k set, is);
+            counted = omega (arith, passed, one, so_far.counted, late, few, so_far.before);
+          }
+
+      -- the lanes that are left are fewer
+      pub counted-fewer : (rest : List Bool) → rest ≡ clear_first (first_set bits + 1) bits → (first_set bits < first_set rest) × (first_set bits < valid)
+      counted-fewer rest cleared =
+          (omega (arith, ap first_set cleared, first_set-past (first_set bits + 1) (drop (first_set bits + 1) bits)), omega (arith, counted-first.1, is))
+
+-- The whole text
+
+-- what stands for it begins at its first byte
+pub rest-all : (mode : Mode) (src : List ℕ) → rest_length mode src 0 ≡ length (inner mode src)
+rest-all mode src = rest-is mode src 0
+
+-- with the quotation marks it is the output
+pub plain-long : (mode : Mode) (value src : List ℕ) → src ≡ value → length (plain mode value) ≡ quote_count mode + rest_length mode src 0
+plain-long mode value src is = omega (arith, length-plain mode value, rest-all mode value, ap (λ xs. rest_length mode xs 0) is)
+
+-- and nothing stands for what is behind it
+pub rest-past : (mode : Mode) (src : List ℕ) (at : ℕ) → length src ≤ at → rest_length mode src at ≡ 0
+rest-past mode src at past = omega (arith, rest-bounds mode src at, past)
+
+-- what stands for a byte alone is one byte only where it is the byte
+replacement-same : (mode : Mode) (b : ℕ) → length (replacement mode b) ≡ 1 → replacement mode b ≡ b ∷ []
+unfolding replacement
+replacement-same script b one = grind (arith, nat_tests)
+replacement-same mode b one = grind (arith, nat_tests)
+
+-- and the first of what stands for bytes is no longer than what it stands for only where it is one byte
+first-same : (mode : Mode) (b : ℕ) (bs : List ℕ) → length (first_replacement mode (b ∷ bs)) ≡ passed mode (b ∷ bs) → (passed mode (b ∷ bs) ≡ 1) × (first_replacement mode (b ∷ bs) ≡ b ∷ [])
+first-same script b bs same = grind (arith, nat_tests, length-separator, replacement-same)
+first-same mode b bs same = (omega arith, replacement-same mode b same)
+
+-- where what stands for bytes is no longer than they are, it is they
+pub same-length : (mode : Mode) (bytes : List ℕ) → length (inner mode bytes) ≡ length bytes → inner mode bytes ≡ bytes
+same-length mode [] long = inner-nil mode
+same-length mode (b ∷ bs) long =
+    let step = inner-step b bs mode in let few = passed≤length mode (b ∷ bs) (omega arith) in let one = one≤passed mode (b ∷ bs) in
+    let first = length-first mode (b ∷ bs) in let rest = length-inner mode (drop (passed mode (b ∷ bs) - 1) bs) in
+    let sum = ap length step ∙ length-append (first_replacement mode (b ∷ bs)) (inner mode (drop (passed mode (b ∷ bs) - 1) bs)) in
+    let same : length (first_replacement mode (b ∷ bs)) ≡ passed mode (b ∷ bs) = omega (arith, long, sum, few, one, first, rest, length-drop (passed mode (b ∷ bs) - 1) bs) in
+    let alone = first-same mode b bs same in
+    let behind : drop (passed mode (b ∷ bs) - 1) bs ≡ bs = ap (λ k. drop (k - 1) bs) alone.0 in
+    let left : length (inner mode bs) ≡ length bs = omega (arith, long, sum, same, alone.0, ap (λ xs. length (inner mode xs)) behind) in
+    step ∙ ap (λ xs. xs ++ inner mode (drop (passed mode (b ∷ bs) - 1) bs)) alone.1 ∙ ap (λ xs. b ∷ inner mode xs) behind ∙ ap (λ xs. b ∷ xs) (same-length mode bs left)
+
+-- where a part of a text grows, and nothing before it, the text grows
+pub part-grown : (mode : Mode) (value src : List ℕ) (at next len : ℕ) → src ≡ value → (at < next) × (next ≤ length src) → IsPartLength mode src at next len → at + rest_length mode src at ≡ rest_length mode src 0
+    → (len ≡ next - at → ⊥) → length value < length (inner mode value)
+part-grown mode value src at next len is within part so_far grown =
+    let bounds = rest-between mode src at next (omega (arith, within)) within.1 in let rest = rest-bounds mode src next in
+    omega (arith, bounds, rest, part, so_far, grown, within, rest-all mode src, ap (λ xs. length (inner mode xs)) is, ap length is)
+
+-- where it is longer, some byte needs an escape
+pub grown-flagged : (mode : Mode) (text : List ℕ) → length text < length (inner mode text) → 0 < count_by (needs_escape mode) text
+grown-flagged mode text longer = elim (cases_lt 0 (count_by (needs_escape mode) text)) [
+  | inl some ↦ some
+  | inr none ↦ absurd (omega (arith, longer, ap length (itself mode text (λ k after before. none-counted (needs_escape mode) text (omega (arith, none)) k before))))
+]

@@ -1,0 +1,68 @@
+//! How long a literal is, and whether a text stands in it as it is.
+ghost use Rattle.std.specs.Prelude.{◌≡◌, ◌<◌, ◌↔◌, true, length, IfSome, IsNone};
+ghost use Rattle.escape_lanes.specs.Mode.{json, script};
+ghost use Rattle.escape_simd.specs.Output.{plain, inner};
+
+use crate::output;
+use crate::simd::{JSON_MODE, SCRIPT_MODE};
+
+/// Returns how many bytes the literal that [`escape`](crate::json::escape) answers has, quotation marks
+/// included, and `None` where that passes `usize::MAX`.
+///
+/// No memory is allocated. Room for so many bytes is what `escape_text`'s calls ask for; the calls of this
+/// crate need [`json_capacity`](crate::json::json_capacity).
+///
+/// ```text
+/// escaped_len("a\"\n") == Some(7) // "a\"\n"
+/// ```
+pub fn escaped_len(value: &str) -> Option<usize>
+    ensures exact { IfSome result (λ len. len ≡ length (plain json value.now)) }
+    ensures passes { IsNone result ↔ (usize.MAX < length (plain json value.now)) }
+{
+    output::escaped_len::<{ JSON_MODE }>(value)
+}
+
+/// Returns how many bytes the literal that [`escape_script`](crate::json::escape_script) answers has,
+/// quotation marks included, and `None` where that passes `usize::MAX`.
+///
+/// No memory is allocated.
+///
+/// ```text
+/// script_len("a<b") == Some(10) // "a\u003cb"
+/// ```
+pub fn script_len(value: &str) -> Option<usize>
+    ensures exact { IfSome result (λ len. len ≡ length (plain script value.now)) }
+    ensures passes { IsNone result ↔ (usize.MAX < length (plain script value.now)) }
+{
+    output::escaped_len::<{ SCRIPT_MODE }>(value)
+}
+
+/// Returns whether no byte of the text needs an escape in a JSON string literal (RFC 8259, section 7): the
+/// literal is the text between quotation marks.
+///
+/// No memory is allocated. The answer comes at the first vector that has a byte that is escaped.
+///
+/// ```text
+/// is_clean("a/b") == true
+/// is_clean("a\n") == false
+/// ```
+pub fn is_clean(value: &str) -> bool
+    ensures { (result ≡ true) ↔ (inner json value.now ≡ value.now) }
+{
+    output::stands_for_itself::<{ JSON_MODE }>(value)
+}
+
+/// Returns whether no character of the text needs an escape in a literal for a script element: the literal
+/// that [`escape_script`](crate::json::escape_script) answers is the text between quotation marks.
+///
+/// No memory is allocated. The answer comes at the first vector that has a character that is escaped.
+///
+/// ```text
+/// is_script_clean("a\u{2026}") == true
+/// is_script_clean("a\u{2028}") == false
+/// ```
+pub fn is_script_clean(value: &str) -> bool
+    ensures { (result ≡ true) ↔ (inner script value.now ≡ value.now) }
+{
+    output::stands_for_itself::<{ SCRIPT_MODE }>(value)
+}

@@ -1,0 +1,94 @@
+//! Why a text was not escaped, whatever the mode.
+use crate::html::EscapeHtmlError;
+use crate::json::EscapeError;
+use std::alloc::{AllocError, AllocFailed};
+use std::fmt;
+
+/// Why a text was not escaped, whatever the mode.
+///
+/// [`EscapeError`] and [`EscapeHtmlError`] convert to it. So a function that writes both JSON and HTML has
+/// `?` and one error type:
+///
+/// ```text
+/// fn write_row(name: &str, row: &mut Vec<u8>) -> Result<(), Refusal> {
+///     escape_html_into(name, row)?;
+///     row.push(b'\n')?;
+///     escape_into(name, row)?;
+///     Ok(())
+/// }
+/// ```
+#[derive(Debug, Clone, Copy, PartialEq, Eq)]
+pub enum Refusal {
+    /// The number of bytes that were to be reserved passes `usize::MAX`.
+    TooLarge,
+    /// The reservation was refused.
+    OutOfMemory,
+}
+
+impl From<EscapeError> for Refusal {
+    ghost use Rattle.std.specs.Prelude.{◌≡◌};
+    ghost use Rattle.escape_simd.specs.Refusals.{refusal_of};
+
+    ghost from_gives = { λ error refusal. refusal ≡ refusal_of error };
+
+    fn from(error: EscapeError) -> Refusal {
+        match error {
+            EscapeError::TooLarge => Refusal::TooLarge,
+            EscapeError::OutOfMemory => Refusal::OutOfMemory,
+        }
+    }
+}
+
+impl From<EscapeHtmlError> for Refusal {
+    ghost use Rattle.std.specs.Prelude.{◌≡◌};
+    ghost use Rattle.escape_simd.specs.Refusals.{html_refusal_of};
+
+    ghost from_gives = { λ error refusal. refusal ≡ html_refusal_of error };
+
+    fn from(error: EscapeHtmlError) -> Refusal {
+        match error {
+            EscapeHtmlError::TooLarge(_) => Refusal::TooLarge,
+            EscapeHtmlError::OutOfMemory => Refusal::OutOfMemory,
+        }
+    }
+}
+
+impl From<AllocError> for Refusal {
+    ghost use Rattle.escape_simd.specs.declared.output.error.Refusal.TheVariants.{OutOfMemory};
+    ghost use Rattle.std.specs.Prelude.{◌≡◌};
+
+    ghost from_gives = { λ _ refusal. refusal ≡ OutOfMemory };
+
+    /// Returns [`Refusal::OutOfMemory`]. So `?` serves a caller that also pushes bytes of its own.
+    fn from(_refused: AllocError) -> Refusal {
+        Refusal::OutOfMemory
+    }
+}
+
+impl<T: Drop> From<AllocFailed<T>> for Refusal {
+    ghost use Rattle.escape_simd.specs.declared.output.error.Refusal.TheVariants.{OutOfMemory};
+    ghost use Rattle.std.specs.Prelude.{◌≡◌};
+
+    ghost from_gives = { λ _ refusal. refusal ≡ OutOfMemory };
+
+    /// Returns [`Refusal::OutOfMemory`], as for a `push` that was refused. The value is let go.
+    fn from(_refused: AllocFailed<T>) -> Refusal {
+        Refusal::from(AllocError)
+    }
+}
+
+impl fmt::Display for Refusal {
+    ghost use Rattle.std.specs.Prelude.{Some};
+    ghost use Rattle.escape_simd.specs.Messages.{refusal_text};
+
+    ghost output = { λ refusal. Some (refusal_text refusal) };
+
+    fn fmt<W: fmt::Write>(&self, f: &mut fmt::Formatter<W>) -> fmt::Result {
+        f.write_str(match self {
+            Refusal::TooLarge => "input is too large to escape",
+            Refusal::OutOfMemory => "out of memory",
+        })
+    }
+}
+
+impl std::error::Error for Refusal {}

@@ -1,0 +1,26 @@
+//! The output for a text in a `String` of the output's own length.
+ghost use Rattle.std.specs.Prelude.{◌≡◌, ◌<◌, ◌↔◌, length, string_bytes, Err, IfOk};
+ghost use Rattle.escape_simd.specs.Modes.{mode_numbered};
+ghost use Rattle.escape_simd.specs.Output.{plain};
+
+use crate::appended_text::append_output;
+use escape_simd::Refusal;
+use escape_simd::output::escaped_len;
+use std::alloc::Allocator;
+
+/// Returns the output for the text. One request is made, for the output's own length.
+pub(crate) fn compact_text<const MODE: u8, A: Allocator>(
+    alloc: A,
+    value: &str,
+) -> Result<String<A>, Refusal>
+    ensures exact { IfOk result (λ output. string_bytes output ≡ plain (mode_numbered MODE) value.now) }
+    ensures too_large { (result ≡ Err Refusal.TooLarge)
+        ↔ (usize.MAX < length (plain (mode_numbered MODE) value.now)) }
+{
+    let Some(len) = escaped_len::<MODE>(value) else {
+        return Err(Refusal::TooLarge);
+    };
+    let mut output = String::with_capacity(alloc, len)?;
+    append_output::<MODE, A>(value, &mut output);
+    Ok(output)
+}

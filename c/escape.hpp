@@ -22,8 +22,10 @@
 
 namespace escape {
 
+namespace detail {
+
 // Says in words what a status means.
-inline const char *status_text(escape_status status) noexcept {
+inline const char *escape_status_text(escape_status status) noexcept {
     switch (status) {
     case ESCAPE_OK: return "the output is in the buffer";
     case ESCAPE_NOT_UTF8: return "the text is not valid UTF-8";
@@ -34,10 +36,12 @@ inline const char *status_text(escape_status status) noexcept {
     }
 }
 
+} // namespace detail
+
 // A call's status that is not ESCAPE_OK. what() is its text.
 class error : public std::runtime_error {
 public:
-    explicit error(escape_status status) : std::runtime_error(status_text(status)), status_(status) {}
+    explicit error(escape_status status) : std::runtime_error(detail::escape_status_text(status)), status_(status) {}
     escape_status status() const noexcept { return status_; }
 
 private:

@@ -1,5 +1,5 @@
 /* Escaping of text as a JSON string literal, as HTML, and as a JSON string literal that is safe inside a
- * script element. Plain C99; C++ can include it.
+ * script element. Plain C99; for C++, escape.hpp is the same over strings.
  *
  * A text is given by a pointer and its length in bytes; no byte 0 ends it, and it may hold such bytes.
  * The output goes to the front of a buffer of the caller's, with no byte 0 after it, and its size to
@@ -9,6 +9,7 @@
  *     char *buffer = room ? malloc(room) : NULL;
  *     if (buffer && escape_html(ESCAPE_DEFAULT, text, length, buffer, room, &count) == ESCAPE_OK)
  *         fwrite(buffer, 1, count, stdout);
+ *     free(buffer);
  *
  * What every call keeps to:
  *

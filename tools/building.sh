@@ -1,11 +1,12 @@
-# What ./escape and ./build-c share: for which processor they build, whether a build is there, and how far
-# one is. Read by them, and not run by itself.
+# What ./escape, ./build-c and ./install share: for which level they build, whether a build is there, how
+# far one is, and how a shared library is linked. Read by them, and not run by itself.
 
-# Sets level to the highest level that a program here is built for: x86-64-v3 where the processor has all
-# of it, else x86-64-v2. It starts no process.
+# Sets level: to $ESCAPE_LEVEL if that is set; else to the highest level that a program here is built for,
+# x86-64-v3 where the processor has all of it, else x86-64-v2. It starts no process.
 set_level() {
   local name flags= feature
-  level=x86-64-v2
+  level=${ESCAPE_LEVEL:-x86-64-v2}
+  [ -z "${ESCAPE_LEVEL:-}" ] || return 0
   [ -r /proc/cpuinfo ] || return 0
   while read -r name flags; do
     [ "$name" != flags ] || break
@@ -14,6 +15,24 @@ set_level() {
     [[ " $flags " == *" $feature "* ]] || return 0
   done
   level=x86-64-v3
+}
+
+# compiler_for LANGUAGE LEVEL: prints the compiler of C or C++ that builds and links for the level.
+compiler_for() {
+  case $1:$2 in
+    C:aarch64) echo "${AARCH64_CC:-aarch64-linux-gnu-gcc}" ;;
+    C++:aarch64) echo "${AARCH64_CXX:-aarch64-linux-gnu-g++}" ;;
+    C:*) echo "${CC:-cc}" ;;
+    C++:*) echo "${CXX:-c++}" ;;
+  esac
+}
+
+# link_shared COMPILER LIBRARY SONAME FILE: links the static library to a shared one. It needs no other
+# library, not even C's. A file that is in use is replaced, and not written over.
+link_shared() {
+  "$1" -shared -nostdlib -Wl,-soname,"$3" -Wl,--no-undefined -o "$4.new" \
+    -Wl,--whole-archive "$2" -Wl,--no-whole-archive &&
+    mv -f "$4.new" "$4"
 }
 
 # is_fresh BUILD CRATE..: whether the build is there, and no source of the crates is newer. Folders

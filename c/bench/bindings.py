@@ -1,5 +1,6 @@
 """How long escape.py takes beside what else escapes from Python: microseconds for a text, best of many
-rounds, and how many times as fast as json.dumps or html.escape. A package that is not there is left out."""
+rounds, and how many times as fast as json.dumps with ensure_ascii=False or as html.escape. On 20 bytes that
+is what a call costs. A package that is not there is left out."""
 
 import html
 import json
@@ -7,7 +8,7 @@ import os
 import sys
 import timeit
 
-sys.path.insert(0, os.path.join(os.path.dirname(os.path.abspath(__file__)), "..", "examples"))
+sys.path.insert(0, os.path.join(os.path.dirname(os.path.abspath(__file__)), "..", "python"))
 import escape as library
 
 ROUNDS = 25
@@ -15,7 +16,8 @@ ROUNDS = 25
 
 def others():
     """Name, mode and call; the first of a mode is the one that the rest are compared with."""
-    yield "json.dumps", "json", lambda text: json.dumps(text, ensure_ascii=False)
+    yield "json.dumps, ensure_ascii=False", "json", lambda text: json.dumps(text, ensure_ascii=False)
+    yield "json.dumps", "json", json.dumps
     yield "escape", "json", library.escape
     try:
         import orjson

@@ -1,13 +1,18 @@
-"""Tests of libescape from Python, by examples/escape.py. Prints `passed NAME` or `failed NAME`."""
+"""Tests of libescape from Python, by python/escape.py. Prints `passed NAME` or `failed NAME`."""
 
 import html
 import json
 import os
 import random
+import re
+import shutil
+import subprocess
 import sys
+import tempfile
 import threading
 
-sys.path.insert(0, os.path.join(os.path.dirname(os.path.abspath(__file__)), "..", "examples"))
+C = os.path.dirname(os.path.dirname(os.path.abspath(__file__)))
+sys.path.insert(0, os.path.join(C, "python"))
 import escape as library
 
 RANDOM_TEXTS = 20_000
@@ -90,12 +95,109 @@ def test_large():
 def test_refusals():
     """bytes that are not UTF-8, a lone surrogate, and what is no text"""
     for ours, _ in PAIRS:
-        for wrong, error in [(b"\xff", ValueError), (b"a\xe2\x80", ValueError), (b"\xed\xa0\x80", ValueError), ("\ud800", ValueError), (5, TypeError), (None, TypeError)]:
+        for wrong, error in [(b"\xff", ValueError), (b"a\xe2\x80", ValueError), (b"\xed\xa0\x80", ValueError), ("\ud800", UnicodeEncodeError), (5, TypeError), (None, TypeError)]:
             try:
                 output = ours(wrong)
-            except error:
+            except Exception as raised:
+                assert type(raised) is error, (ours.__name__, wrong, raised)
                 continue
             raise AssertionError((ours.__name__, wrong, output))
+
+
+class Steering(str):
+    """A str that says other things of itself than str does."""
+
+    def encode(self, *_):
+        return b"\xff\xff\xff\xff"
+
+    def __len__(self):
+        return 1 << 20
+
+    def __str__(self):
+        return "<other>"
+
+    def __getattribute__(self, name):
+        raise AttributeError(name)
+
+
+def test_subclasses():
+    """a subclass of str or bytes steers nothing"""
+
+    class Bytes(bytes):
+        def __len__(self):
+            return 1 << 20
+
+        def __bytes__(self):
+            return b"<other>"
+
+    class Impostor:
+        __class__ = str
+
+    for ours, theirs in PAIRS:
+        assert ours(Steering("a<é")) == theirs("a<é"), ours.__name__
+        assert type(ours(Steering("a"))) is str, ours.__name__
+        assert ours(Bytes(b"a<")) == theirs("a<").encode(), ours.__name__
+        try:
+            output = ours(Impostor())
+        except TypeError:
+            continue
+        raise AssertionError((ours.__name__, output))
+
+
+def test_html_itself():
+    """what has __html__ says itself what it is as HTML, in escape_html alone"""
+
+    class Markup(str):
+        def __html__(self):
+            return "<b>%s</b>" % self
+
+    class Page:
+        def __html__(self):
+            return "<p>"
+
+    assert library.escape_html(Markup("&")) == "<b>&</b>"
+    assert library.escape_html(Page()) == "<p>"
+    assert library.escape(Markup("&")) == '"&"'
+    assert library.escape_script(Markup("&")) == '"\\u0026"'
+
+
+def test_names():
+    """__all__, __version__ as in escape.h, and type hints"""
+    assert library.__all__ == ["escape", "escape_html", "escape_script"]
+    with open(os.path.join(C, "escape.h")) as header:
+        numbers = dict(re.findall(r"#define ESCAPE_VERSION_(M\w+|PATCH) (\d+)", header.read()))
+    assert library.__version__ == ".".join(numbers[name] for name in ("MAJOR", "MINOR", "PATCH"))
+    for name in library.__all__:
+        assert set(getattr(library, name).__annotations__) == {"text", "return"}, name
+
+
+def loaded(folder, **settings):
+    """What a Python prints that imports escape.py in the folder, with these in its environment alone."""
+    program = "import escape; print(escape.escape('<'))"
+    return subprocess.run([sys.executable, "-B", "-c", program], cwd=folder, env=settings, capture_output=True, text=True)
+
+
+def test_loading():
+    """the library is found beside, above, by LIBESCAPE and by the loader; else all three are named"""
+    shared = os.path.realpath(os.environ["LIBESCAPE"])
+    with tempfile.TemporaryDirectory() as top:
+        folder, other = os.path.join(top, "folder"), os.path.join(top, "other")
+        os.mkdir(folder)
+        os.mkdir(other)
+        shutil.copy(library.__file__, folder)
+        ended = loaded(folder)
+        assert ended.returncode == 1 and "ImportError" in ended.stderr, ended.stderr
+        assert all(place in ended.stderr for place in ["LIBESCAPE (now not set)", folder, "loader"]), ended.stderr
+        ended = loaded(folder, LIBESCAPE=other)
+        assert ended.returncode == 1 and "LIBESCAPE (now %s)" % other in ended.stderr, ended.stderr
+        named = os.path.join(other, "libescape.so")
+        shutil.copy(shared, named)
+        assert loaded(folder, LIBESCAPE=named).stdout == '"<"\n'
+        assert loaded(folder, LD_LIBRARY_PATH=other).stdout == '"<"\n'
+        for place in top, folder:
+            os.rename(named, os.path.join(place, "libescape.so"))
+            assert loaded(folder).stdout == '"<"\n', place
+            named = os.path.join(place, "libescape.so")
 
 
 def test_threads():

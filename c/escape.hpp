@@ -1,0 +1,137 @@
+// Escaping for C++17, over escape.h: from a std::string_view to a std::string.
+//
+//     std::string literal = escape::json("a\"b");            // "a\"b", with its quotation marks
+//     escape::append_html(page, "<a href='/x'>");            // page += &lt;a href=&#x27;&#x2f;x&#x27;&gt;
+//
+// Each call throws escape::error if the text is not UTF-8, and what std::string throws if it cannot grow
+// (std::bad_alloc, std::length_error). A call that throws leaves its target as it was.
+//
+// A text of any size is escaped by pieces, over a buffer of 12 KiB on the stack. So a result allocates only
+// what std::string needs for the output itself, and an append allocates nothing if the target has room.
+#ifndef ESCAPE_HPP
+#define ESCAPE_HPP
+
+#include "escape.h"
+
+#include <algorithm>
+#include <cstddef>
+#include <functional>
+#include <stdexcept>
+#include <string>
+#include <string_view>
+
+namespace escape {
+
+namespace detail {
+
+// Says in words what a status means.
+inline const char *escape_status_text(escape_status status) noexcept {
+    switch (status) {
+    case ESCAPE_OK: return "the output is in the buffer";
+    case ESCAPE_NOT_UTF8: return "the text is not valid UTF-8";
+    case ESCAPE_TOO_SHORT: return "the buffer is too short";
+    case ESCAPE_TOO_LARGE: return "the text is too large";
+    case ESCAPE_NO_KERNEL: return "there is no such kernel";
+    default: return "unknown status";
+    }
+}
+
+} // namespace detail
+
+// A call's status that is not ESCAPE_OK. what() is its text.
+class error : public std::runtime_error {
+public:
+    explicit error(escape_status status) : std::runtime_error(detail::escape_status_text(status)), status_(status) {}
+    escape_status status() const noexcept { return status_; }
+
+private:
+    escape_status status_;
+};
+
+namespace detail {
+
+// What stands before and after a mode's output, and the call that writes what is between.
+struct mode {
+    std::string_view quote;
+    escape_status (*write)(escape_kernel, const char *, std::size_t, char *, std::size_t, std::size_t *);
+};
+
+inline constexpr mode json{"\"", escape_json_inner};
+inline constexpr mode html{"", escape_html};
+inline constexpr mode script{"\"", escape_script_inner};
+
+// How many bytes of a text are escaped at once, and a buffer's size for them in every mode.
+inline constexpr std::size_t piece_size = 2048;
+inline constexpr std::size_t buffer_size = 6 * piece_size + 35;
+
+// Takes a piece off the front of the text. It ends before the first byte of a character, if the text is
+// UTF-8: a character has at most three further bytes, and each of these is 10xxxxxx.
+inline std::string_view take_piece(std::string_view &text) {
+    std::size_t size = std::min(text.size(), piece_size);
+    for (int further = 0; further < 3 && size < text.size() && (text[size] & 0xc0) == 0x80; further++) size--;
+    const std::string_view piece = text.substr(0, size);
+    text.remove_prefix(size);
+    return piece;
+}
+
+inline void append_pieces(const mode &mode, std::string &target, std::string_view text) {
+    char buffer[buffer_size];
+    target += mode.quote;
+    while (!text.empty()) {
+        const std::string_view piece = take_piece(text);
+        std::size_t count = 0;
+        const escape_status status = mode.write(ESCAPE_DEFAULT, piece.data(), piece.size(), buffer, buffer_size, &count);
+        if (status != ESCAPE_OK) throw error(status);
+        target.append(buffer, count);
+    }
+    target += mode.quote;
+}
+
+// Whether the text begins in the target, so that it would not outlive the target's growth.
+inline bool is_within(std::string_view text, const std::string &target) {
+    const std::less_equal<const char *> is_at_most;
+    return is_at_most(target.data(), text.data()) && is_at_most(text.data(), target.data() + target.size());
+}
+
+inline void append(const mode &mode, std::string &target, std::string_view text) {
+    if (is_within(text, target)) return append(mode, target, std::string(text));
+    const std::size_t kept = target.size();
+    try {
+        append_pieces(mode, target, text);
+    } catch (...) {
+        target.resize(kept);
+        throw;
+    }
+}
+
+inline std::string output(const mode &mode, std::string_view text) {
+    std::string target;
+    target.reserve(text.size() + 2 * mode.quote.size());
+    append_pieces(mode, target, text);
+    return target;
+}
+
+} // namespace detail
+
+// Returns the JSON string literal of the text (RFC 8259, section 7), with its quotation marks.
+inline std::string json(std::string_view text) { return detail::output(detail::json, text); }
+
+// Returns the text as HTML: `"`, `&`, `'`, `/`, `<` and `>` as entities.
+inline std::string html(std::string_view text) { return detail::output(detail::html, text); }
+
+// Returns a JSON string literal that is safe inside a script element: `<`, `>`, `&`, U+2028 and U+2029 are
+// escaped too.
+inline std::string script(std::string_view text) { return detail::output(detail::script, text); }
+
+// Appends what json(text) returns. The text may be a part of the target, as for the next two.
+inline void append_json(std::string &target, std::string_view text) { detail::append(detail::json, target, text); }
+
+// Appends what html(text) returns.
+inline void append_html(std::string &target, std::string_view text) { detail::append(detail::html, target, text); }
+
+// Appends what script(text) returns.
+inline void append_script(std::string &target, std::string_view text) { detail::append(detail::script, target, text); }
+
+} // namespace escape
+
+#endif

@@ -2,12 +2,12 @@
 
 /// A body of a certain width and shape. All write the same bytes, on every processor.
 ///
-/// A name says how many bytes are looked at together, and in which steps: each looks at four vectors at a time.
-/// It says nothing of the instructions: each kernel is built for every target, and the build's `--cpu` decides what its steps
-/// become. So a name does not ask for a processor that has the instructions of that name.
+/// A name says how many bytes a vector has, and how its bytes are classified. It does not say which instructions are used:
+/// each kernel is built for every target, and the build's `--cpu` decides what its steps become. So each kernel runs on every
+/// processor.
 #[derive(Debug, Clone, Copy, PartialEq, Eq)]
 pub enum Kernel {
-    /// 16 lanes in an array.
+    /// 16 lanes in two words of 64 bits.
     V128,
     /// 16 lanes.
     Sse2,

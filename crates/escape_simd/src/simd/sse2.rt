@@ -1,4 +1,4 @@
-//! The kernel of 16 lanes that classifies HTML by six compares.
+//! The kernel of 16 lanes in a vector that classifies by comparisons.
 ghost use Rattle.std.specs.Prelude.{◌≡◌, ◌+◌, ◌*◌, ◌≤◌, length, take, chars, refl};
 ghost use Rattle.std.proofs.Common.{lit≤};
 ghost use Rattle.escape_lanes.specs.Mode.{mode_of, script};

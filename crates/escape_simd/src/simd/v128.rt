@@ -1,4 +1,4 @@
-//! The kernel of 16 lanes in an array: HTML is classified by one table look-up a byte.
+//! The kernel of 16 lanes in two words of 64 bits, by plain arithmetic.
 ghost use Rattle.std.specs.Prelude.{◌≡◌, ◌+◌, ◌*◌, ◌≤◌, length, take, chars, refl};
 ghost use Rattle.std.proofs.Common.{lit≤};
 ghost use Rattle.escape_lanes.specs.Mode.{mode_of, script};

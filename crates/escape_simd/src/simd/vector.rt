@@ -56,7 +56,7 @@ pub(crate) trait Vector<const N: usize>: Drop {
 
     ghost flag_width: { Self.Flags.LANES ≡ N };
 
-    // Whole blocks of 16, at least one, and so few that three vectors fit in an array.
+    // Whole blocks of 16, at least one, and so few that two vectors fit in an array.
     ghost sixteens: { N ≡ 16 * (N / 16) };
 
     ghost several: { 16 ≤ N };

@@ -12,7 +12,7 @@ use std::io::{Result, Write};
 /// Writes a text as HTML to `writer`, as [`escape_html`](escape_simd::html::escape_html) answers it,
 /// and does not flush.
 ///
-/// It goes through an array of 6 KiB at most: no memory is asked for, and no text is too large. A write
+/// It goes through an array of 3106 bytes at most: no memory is asked for, and no text is too large. A write
 /// that was interrupted is tried again. Each piece of a long text is a write of its own, so a writer for
 /// which writes are dear wants a `BufWriter` around it.
 ///

@@ -19,7 +19,7 @@ pub use nibble::{HTML_HI_NIBBLE_TAB, HTML_LO_NIBBLE_TAB};
 pub use script::{LINE_SEPARATOR, PARAGRAPH_SEPARATOR, SCRIPT_FLAGGED, SCRIPT_TAB};
 use spread::SPREAD_TAB;
 
-/// The byte's entry in [`QUOTE_TAB`], by reference: the count of bytes that stand for it in a JSON
+/// Returns the byte's entry in [`QUOTE_TAB`], by reference: the count of bytes that stand for it in a JSON
 /// string literal, and 0 where it stands for itself; then those bytes, padded with zeros to eight.
 #[inline(always)]
 pub fn json_entry(b: u8) -> &'static (u8, [u8; 8])
@@ -29,7 +29,7 @@ pub fn json_entry(b: u8) -> &'static (u8, [u8; 8])
     &QUOTE_TAB[b as usize]
 }
 
-/// The byte's entry in [`HTML_ESCAPE_TAB`], by reference: the count of bytes that stand for it in
+/// Returns the byte's entry in [`HTML_ESCAPE_TAB`], by reference: the count of bytes that stand for it in
 /// HTML, and 0 where it stands for itself; then those bytes, padded with zeros to eight.
 #[inline(always)]
 pub fn html_entry(b: u8) -> &'static (u8, [u8; 8])
@@ -39,7 +39,7 @@ pub fn html_entry(b: u8) -> &'static (u8, [u8; 8])
     &HTML_ESCAPE_TAB[b as usize]
 }
 
-/// The byte's entry in [`SCRIPT_TAB`], by reference: the count of bytes that stand for it in a script
+/// Returns the byte's entry in [`SCRIPT_TAB`], by reference: the count of bytes that stand for it in a script
 /// literal where no separator begins with it, and 0 where it is not flagged; then those bytes, padded
 /// with zeros to eight.
 #[inline(always)]
@@ -50,7 +50,7 @@ pub fn script_entry(b: u8) -> &'static (u8, [u8; 8])
     &SCRIPT_TAB[b as usize]
 }
 
-/// The places that the bytes of a block of eight are taken from, where so many of them are flagged: place 8
+/// Returns the places that the bytes of a block of eight are taken from, where so many of them are flagged: place 8
 /// stands before each flagged byte, and fills the row.
 ///
 /// `spread_row(0b10)` is `[0, 8, 1, 2, 3, 4, 5, 6, 7, 8, 8, 8, 8, 8, 8, 8]`.
@@ -61,7 +61,7 @@ pub fn spread_row(flags: u8) -> &'static [u8; 16]
     &SPREAD_TAB[flags as usize]
 }
 
-/// The byte's row of the JSON tables: its mark in [`NEED_ESCAPED`] and its entry in [`QUOTE_TAB`].
+/// Returns the byte's row of the JSON tables: its mark in [`NEED_ESCAPED`] and its entry in [`QUOTE_TAB`].
 ///
 /// `json_row(0x0b)` is `(1, (6, *b"\\u000b\0\0"))`, and `json_row(0x7f)` is `(0, (0, [0; 8]))`.
 #[inline(always)]
@@ -74,7 +74,7 @@ pub fn json_row(b: u8) -> (u8, (u8, [u8; 8]))
     (NEED_ESCAPED[b as usize], *json_entry(b))
 }
 
-/// The byte's row of the HTML tables: its mark in [`HTML_NEED_ESCAPED`] and its entry in
+/// Returns the byte's row of the HTML tables: its mark in [`HTML_NEED_ESCAPED`] and its entry in
 /// [`HTML_ESCAPE_TAB`].
 ///
 /// `html_row(b'&')` is `(1, (5, *b"&amp;\0\0\0"))`, and `html_row(b'a')` is `(0, (0, [0; 8]))`.

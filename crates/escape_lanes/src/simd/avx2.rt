@@ -36,7 +36,7 @@ pub struct Mask256 {
     bits: u32,
 }
 
-/// One bit for each lane of a mask, the first lane's lowest.
+/// Returns one bit for each lane of a mask, the first lane's lowest.
 #[inline(always)]
 fn bits(mask: &u8x32) -> u32
     requires { AreWhole 255 32 mask.now }
@@ -206,7 +206,7 @@ impl LoadLast for Simd256u {
     }
 }
 
-/// What the table has for the low half of each lane.
+/// Returns what the table has for the low half of each lane.
 #[inline(always)]
 fn by_low_half(v: &u8x32, table: &[u8; 16]) -> u8x32
     requires { AreBytes 32 v.now }
@@ -215,7 +215,7 @@ fn by_low_half(v: &u8x32, table: &[u8; 16]) -> u8x32
     lanes::repeated(table).swizzle_dyn_within::<16>(*v & u8x32::splat(15))
 }
 
-/// What the table has for the high half of each lane.
+/// Returns what the table has for the high half of each lane.
 #[inline(always)]
 fn by_high_half(v: &u8x32, table: &[u8; 16]) -> u8x32
     requires { AreBytes 32 v.now }
@@ -242,7 +242,7 @@ pub fn escaped_flags<const HTML: bool>(v: &Simd256u, ticks: &mut Ticks) -> Flags
     Flags256 { lanes }
 }
 
-/// The bit mask of [`escaped_flags`], which is called once, so it ticks once.
+/// Returns the bit mask of [`escaped_flags`], which is called once, so it ticks once.
 #[inline(always)]
 pub fn escaped_mask<const HTML: bool>(v: &Simd256u, ticks: &mut Ticks) -> u32
     ensures lanes { ⟦<u32 as BitMask>⟧.bits result ≡ map (needs_escape (mode_of HTML)) (⟦<Simd256u as Simd>⟧.lanes v.now) }

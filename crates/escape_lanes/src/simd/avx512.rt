@@ -198,7 +198,7 @@ impl LoadLast for Simd512u {
     }
 }
 
-/// What the table has for the low half of each lane.
+/// Returns what the table has for the low half of each lane.
 #[inline(always)]
 fn by_low_half(v: &u8x64, table: &[u8; 16]) -> u8x64
     requires { AreBytes 64 v.now }
@@ -207,7 +207,7 @@ fn by_low_half(v: &u8x64, table: &[u8; 16]) -> u8x64
     lanes::repeated(table).swizzle_dyn_within::<16>(*v & u8x64::splat(15))
 }
 
-/// What the table has for the high half of each lane.
+/// Returns what the table has for the high half of each lane.
 #[inline(always)]
 fn by_high_half(v: &u8x64, table: &[u8; 16]) -> u8x64
     requires { AreBytes 64 v.now }
@@ -236,7 +236,7 @@ pub fn escaped_flags<const HTML: bool>(v: &Simd512u, ticks: &mut Ticks) -> Flags
     }
 }
 
-/// The bit mask of [`escaped_flags`], which is called once, so it ticks once.
+/// Returns the bit mask of [`escaped_flags`], which is called once, so it ticks once.
 #[inline(always)]
 pub fn escaped_mask<const HTML: bool>(v: &Simd512u, ticks: &mut Ticks) -> u64
     ensures lanes { ⟦<u64 as BitMask>⟧.bits result ≡ map (needs_escape (mode_of HTML)) (⟦<Simd512u as Simd>⟧.lanes v.now) }

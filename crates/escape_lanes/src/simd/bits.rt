@@ -106,7 +106,7 @@ pub struct NeonBits {
 }
 
 impl NeonBits {
-    /// The sixteen lanes of a number.
+    /// Returns the sixteen lanes of a number.
     ///
     /// `NeonBits::new(0x200).first_offset()` is 2.
     #[inline(always)]

@@ -14,7 +14,7 @@ const PLACES: [u8; 64] = [
     128, 128,
 ];
 
-/// The lanes of `v` from the place `first` of those that `PLACES` has.
+/// Returns the lanes of `v` from the place `first` of those that `PLACES` has.
 #[inline(always)]
 fn looked_up(v: &u8x16, first: usize) -> u8x16
     requires bytes { AreBytes 16 v.now }
@@ -29,7 +29,7 @@ fn looked_up(v: &u8x16, first: usize) -> u8x16
     v.swizzle_dyn(lanes::load(&PLACES[first..]))
 }
 
-/// The lanes from `count` on, and zeros after them, in 16 lanes.
+/// Returns the lanes from `count` on, and zeros after them, in 16 lanes.
 #[inline(always)]
 pub(crate) fn down_16(v: &u8x16, count: usize) -> u8x16
     requires bytes { AreBytes 16 v.now }

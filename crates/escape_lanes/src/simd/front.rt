@@ -2,7 +2,7 @@
 //! known only at run time is a call.
 ghost use Rattle.std.specs.Prelude.{◌≡◌, ◌*◌, ◌+◌, ◌<◌, ◌≤◌, length, take, drop};
 
-/// The `P` lanes from `at` on, apart: so they are moved to the target at once. As a part of a slice they might
+/// Returns the `P` lanes from `at` on, apart: so they are moved to the target at once. As a part of a slice they might
 /// overlap it, which would be asked first.
 #[inline(always)]
 fn piece<const P: usize>(lanes: &[u8], at: usize) -> [u8; P]

@@ -22,7 +22,7 @@ const BOTH_32: [usize; 64] = [
     50, 51, 52, 53, 54, 55, 56, 57, 58, 59, 60, 61, 62, 63,
 ];
 
-/// Two vectors of 4 lanes as one.
+/// Returns two vectors of 4 lanes as one.
 #[inline(always)]
 pub(crate) fn both_4(low: u8x4, high: u8x4) -> u8x8
     requires low { length low ≡ 4 }
@@ -32,7 +32,7 @@ pub(crate) fn both_4(low: u8x4, high: u8x4) -> u8x8
     low.shuffle(high, BOTH_4)
 }
 
-/// Two vectors of 8 lanes as one.
+/// Returns two vectors of 8 lanes as one.
 #[inline(always)]
 pub(crate) fn both_8(low: u8x8, high: u8x8) -> u8x16
     requires low { length low ≡ 8 }
@@ -42,7 +42,7 @@ pub(crate) fn both_8(low: u8x8, high: u8x8) -> u8x16
     low.shuffle(high, BOTH_8)
 }
 
-/// Two vectors of 16 lanes as one.
+/// Returns two vectors of 16 lanes as one.
 #[inline(always)]
 pub(crate) fn both_16(low: u8x16, high: u8x16) -> u8x32
     requires low { length low ≡ 16 }
@@ -52,7 +52,7 @@ pub(crate) fn both_16(low: u8x16, high: u8x16) -> u8x32
     low.shuffle(high, BOTH_16)
 }
 
-/// Two vectors of 32 lanes as one.
+/// Returns two vectors of 32 lanes as one.
 #[inline(always)]
 pub(crate) fn both_32(low: u8x32, high: u8x32) -> u8x64
     requires low { length low ≡ 32 }

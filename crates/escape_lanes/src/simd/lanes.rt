@@ -13,7 +13,7 @@ ghost use Rattle.escape_lanes.specs.Replacement.{needs_escape};
 
 use std::simd::prelude::*;
 
-/// The first `N` bytes of `src`.
+/// Returns the first `N` bytes of `src`.
 #[inline(always)]
 pub(crate) fn load<const N: usize>(src: &[u8]) -> Simd<u8, N>
     requires { N ≤ length src.now }
@@ -33,7 +33,7 @@ pub(crate) fn store<const N: usize>(v: &Simd<u8, N>, dst: &mut [u8])
     v.copy_to_slice(dst);
 }
 
-/// The byte in every lane.
+/// Returns the byte in every lane.
 #[inline(always)]
 pub(crate) fn splat<const N: usize>(byte: u8) -> Simd<u8, N>
     ensures bytes { AreBytes N result }
@@ -42,7 +42,7 @@ pub(crate) fn splat<const N: usize>(byte: u8) -> Simd<u8, N>
     Simd::splat(byte)
 }
 
-/// Where the lanes are equal.
+/// Returns which lanes are equal.
 #[inline(always)]
 pub(crate) fn eq<const N: usize>(a: &Simd<u8, N>, b: &Simd<u8, N>) -> Simd<u8, N>
     requires left { AreBytes N a.now }
@@ -53,7 +53,7 @@ pub(crate) fn eq<const N: usize>(a: &Simd<u8, N>, b: &Simd<u8, N>) -> Simd<u8, N
     a.simd_eq(*b).select(Simd::splat(255), Simd::splat(0))
 }
 
-/// Where the left lane is at most the right one, both unsigned.
+/// Returns in which lanes the left one is at most the right one, both unsigned.
 #[inline(always)]
 pub(crate) fn le<const N: usize>(a: &Simd<u8, N>, b: &Simd<u8, N>) -> Simd<u8, N>
     requires left { AreBytes N a.now }
@@ -64,7 +64,7 @@ pub(crate) fn le<const N: usize>(a: &Simd<u8, N>, b: &Simd<u8, N>) -> Simd<u8, N
     a.simd_le(*b).select(Simd::splat(255), Simd::splat(0))
 }
 
-/// Where either mask is set.
+/// Returns the lanes that are set in either mask.
 #[inline(always)]
 pub(crate) fn or<const N: usize>(a: &Simd<u8, N>, b: &Simd<u8, N>) -> Simd<u8, N>
     requires left { AreWhole 255 N a.now }
@@ -75,7 +75,7 @@ pub(crate) fn or<const N: usize>(a: &Simd<u8, N>, b: &Simd<u8, N>) -> Simd<u8, N
     *a | *b
 }
 
-/// Where both masks are set.
+/// Returns the lanes that are set in both masks.
 #[inline(always)]
 pub(crate) fn and<const N: usize>(a: &Simd<u8, N>, b: &Simd<u8, N>) -> Simd<u8, N>
     requires left { AreWhole 255 N a.now }
@@ -86,7 +86,7 @@ pub(crate) fn and<const N: usize>(a: &Simd<u8, N>, b: &Simd<u8, N>) -> Simd<u8, 
     *a & *b
 }
 
-/// One bit for each lane of a mask, the first lane's lowest.
+/// Returns one bit for each lane of a mask, the first lane's lowest.
 #[inline(always)]
 pub(crate) fn bits<const N: usize>(mask: &Simd<u8, N>) -> u64
     requires whole { AreWhole 255 N mask.now }
@@ -97,7 +97,7 @@ pub(crate) fn bits<const N: usize>(mask: &Simd<u8, N>) -> u64
     mask.simd_eq(Simd::splat(255)).to_bitmask()
 }
 
-/// One bit for each lane that is flagged, the first lane's lowest.
+/// Returns one bit for each lane that is flagged, the first lane's lowest.
 #[inline(always)]
 pub(crate) fn flag_bits<const N: usize>(flags: &Simd<u8, N>) -> u64
     requires bytes { AreBytes N flags.now }
@@ -108,7 +108,7 @@ pub(crate) fn flag_bits<const N: usize>(flags: &Simd<u8, N>) -> u64
     flags.simd_ge(Simd::splat(0x80)).to_bitmask()
 }
 
-/// Where either lane is flagged.
+/// Returns the flags of the lanes that are flagged in either.
 #[inline(always)]
 pub(crate) fn join<const N: usize>(one: &Simd<u8, N>, other: &Simd<u8, N>) -> Simd<u8, N>
     requires first { AreBytes N one.now }
@@ -119,7 +119,7 @@ pub(crate) fn join<const N: usize>(one: &Simd<u8, N>, other: &Simd<u8, N>) -> Si
     *one | *other
 }
 
-/// Where exactly one of both lanes is flagged.
+/// Returns the flags of the lanes that are flagged in exactly one of both.
 ///
 /// It joins flags that are never both set: of an `|` the compiler makes a choice between vectors,
 /// which is slower.
@@ -133,7 +133,7 @@ pub(crate) fn one_of<const N: usize>(one: &Simd<u8, N>, other: &Simd<u8, N>) -> 
     *one ^ *other
 }
 
-/// Whether no lane is flagged.
+/// Returns whether no lane is flagged.
 #[inline(always)]
 pub(crate) fn none<const N: usize>(flags: &Simd<u8, N>) -> bool
     requires bytes { AreBytes N flags.now }
@@ -153,7 +153,7 @@ pub(crate) fn flag_mask<const N: usize>(flags: &Simd<u8, N>) -> Simd<u8, N>
     le(&splat(0x80), flags)
 }
 
-/// Flags where the lane is `byte`.
+/// Returns flags where the lane is `byte`.
 #[inline(always)]
 pub(crate) fn is<const N: usize>(v: &Simd<u8, N>, byte: u8) -> Simd<u8, N>
     requires { AreBytes N v.now }
@@ -163,7 +163,7 @@ pub(crate) fn is<const N: usize>(v: &Simd<u8, N>, byte: u8) -> Simd<u8, N>
     eq(v, &splat(byte))
 }
 
-/// Flags where the lane is at most `most`: it then leaves 80 or more of 80 and `most`.
+/// Returns flags where the lane is at most `most`: it then leaves 80 or more of 80 and `most`.
 #[inline(always)]
 pub(crate) fn is_at_most<const N: usize>(v: &Simd<u8, N>, most: u8) -> Simd<u8, N>
     requires bytes { AreBytes N v.now }
@@ -175,7 +175,7 @@ pub(crate) fn is_at_most<const N: usize>(v: &Simd<u8, N>, most: u8) -> Simd<u8, 
     all.saturating_sub(*v)
 }
 
-/// The lanes without the bits of `bits`.
+/// Returns the lanes without the bits of `bits`.
 #[inline(always)]
 pub(crate) fn without<const N: usize>(v: &Simd<u8, N>, bits: u8) -> Simd<u8, N>
     requires { AreBytes N v.now }
@@ -185,7 +185,7 @@ pub(crate) fn without<const N: usize>(v: &Simd<u8, N>, bits: u8) -> Simd<u8, N>
     *v & Simd::splat(!bits)
 }
 
-/// The lanes with the bits of `bits` flipped.
+/// Returns the lanes with the bits of `bits` flipped.
 #[inline(always)]
 pub(crate) fn flipped<const N: usize>(v: &Simd<u8, N>, bits: u8) -> Simd<u8, N>
     requires { AreBytes N v.now }
@@ -195,7 +195,7 @@ pub(crate) fn flipped<const N: usize>(v: &Simd<u8, N>, bits: u8) -> Simd<u8, N>
     *v ^ Simd::splat(bits)
 }
 
-/// Flags where the lane is `byte` or has one bit more, `bit`, which `byte` lacks.
+/// Returns flags where the lane is `byte` or has one bit more, `bit`, which `byte` lacks.
 #[inline(always)]
 pub(crate) fn is_without<const N: usize>(v: &Simd<u8, N>, bit: u8, byte: u8) -> Simd<u8, N>
     requires { AreBytes N v.now }
@@ -205,7 +205,7 @@ pub(crate) fn is_without<const N: usize>(v: &Simd<u8, N>, bit: u8, byte: u8) -> 
     is(&without(v, bit), byte)
 }
 
-/// Flags where the lane is a control character or the quotation mark.
+/// Returns flags where the lane is a control character or the quotation mark.
 ///
 /// A flip of bit 1 brings the quotation mark, 22, to 20, past the control characters, which stay
 /// below it.
@@ -218,7 +218,7 @@ pub(crate) fn is_control_or_quote<const N: usize>(v: &Simd<u8, N>) -> Simd<u8, N
     is_at_most(&flipped(v, 2), 0x20)
 }
 
-/// Flags where JSON needs an escape.
+/// Returns flags where JSON needs an escape.
 #[inline(always)]
 pub(crate) fn json_needs<const N: usize>(v: &Simd<u8, N>) -> Simd<u8, N>
     requires { AreBytes N v.now }
@@ -229,7 +229,7 @@ pub(crate) fn json_needs<const N: usize>(v: &Simd<u8, N>) -> Simd<u8, N>
     one_of(&is_control_or_quote(v), &is(v, b'\\'))
 }
 
-/// The table again in each block of sixteen lanes, as a look-up within blocks reads it.
+/// Returns the table again in each block of sixteen lanes, as a look-up within blocks reads it.
 #[inline(always)]
 pub(crate) fn repeated<const N: usize>(table: &[u8; 16]) -> Simd<u8, N>
     requires { N % 16 ≡ 0 }
@@ -245,7 +245,7 @@ pub(crate) fn repeated<const N: usize>(table: &[u8; 16]) -> Simd<u8, N>
     Simd::from_array(lanes)
 }
 
-/// Flags where HTML needs an escape, by the bits that both nibble tables have for each lane.
+/// Returns flags where HTML needs an escape, by the bits that both nibble tables have for each lane.
 ///
 /// Each kernel looks them up itself, since `std::simd` has no look-up at a width that is a
 /// parameter.
@@ -261,7 +261,7 @@ pub(crate) fn html_needs<const N: usize>(v: &Simd<u8, N>, flags: &Simd<u8, N>) -
         .select(Simd::splat(255), Simd::splat(0))
 }
 
-/// Flags where a script literal has to look at the byte, by the sum of what the nibble tables have
+/// Returns flags where a script literal has to look at the byte, by the sum of what the nibble tables have
 /// for each lane.
 ///
 /// Each kernel looks them up itself, as it does those of HTML.
@@ -280,7 +280,7 @@ pub(crate) fn script_needs<const N: usize>(
     *low + *high
 }
 
-/// Flags where HTML needs an escape, by the candidate of each lane: the lane is one of the six
+/// Returns flags where HTML needs an escape, by the candidate of each lane: the lane is one of the six
 /// bytes exactly where it is its candidate.
 ///
 /// Each kernel looks the candidates up itself, as it does the flags.

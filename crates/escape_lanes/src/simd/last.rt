@@ -14,7 +14,7 @@ use std::simd::prelude::*;
 
 /// A vector that can be loaded with the last bytes of a text.
 pub trait LoadLast: Simd {
-    /// The last `count` bytes of `src` in the first lanes, and zeros in the others.
+    /// Returns the last `count` bytes of `src` in the first lanes, and zeros in the others.
     ///
     /// `src` has `count` bytes or more, and a vector more than `count` lanes. Of `abcd` and 2 it
     /// makes `c`, `d` and zeros.
@@ -24,7 +24,7 @@ pub trait LoadLast: Simd {
         ensures { Self.lanes result ≡ drop (length src.now - count) src.now ++ replicate (Self.LANES - count) 0 };
 }
 
-/// The eight bytes from `at` on, as a number.
+/// Returns the eight bytes from `at` on, as a number.
 #[inline(always)]
 fn eight(src: &[u8], at: usize) -> u64
     requires { at + 8 ≤ length src.now }
@@ -33,7 +33,7 @@ fn eight(src: &[u8], at: usize) -> u64
     u64x1::from_le_bytes(lanes::load(&src[at..])).to_array()[0]
 }
 
-/// The four bytes from `at` on, as a number.
+/// Returns the four bytes from `at` on, as a number.
 #[inline(always)]
 fn four(src: &[u8], at: usize) -> u64
     requires { at + 4 ≤ length src.now }
@@ -42,7 +42,7 @@ fn four(src: &[u8], at: usize) -> u64
     u32x1::from_le_bytes(lanes::load(&src[at..])).to_array()[0] as u64
 }
 
-/// The last `count` bytes, three at most, as a number.
+/// Returns the last `count` bytes, three at most, as a number.
 ///
 /// The first, the middle and the last one are all of them, and may be the same one.
 #[inline(always)]
@@ -60,7 +60,7 @@ fn up_to_three(src: &[u8], count: usize) -> u64
     src[at] as u64 | (middle | last)
 }
 
-/// The last `count` bytes, four to seven, as a number.
+/// Returns the last `count` bytes, four to seven, as a number.
 ///
 /// Two words of four have them all. The bytes that are in both stand at one place.
 #[inline(always)]
@@ -73,7 +73,7 @@ fn four_to_seven(src: &[u8], count: usize) -> u64
     four(src, src.len() - count) | (four(src, src.len() - 4) << (8 * (count - 4)))
 }
 
-/// The last `count` bytes past the first eight of them, as a number.
+/// Returns the last `count` bytes past the first eight of them, as a number.
 ///
 /// They are the later ones of the text's last eight.
 #[inline(always)]
@@ -87,7 +87,7 @@ fn past_eight(src: &[u8], count: usize) -> u64
     (eight(src, src.len() - 8) >> (8 * (15 - count))) >> 8
 }
 
-/// The last `count` bytes as two numbers of eight, for a vector of plain words.
+/// Returns the last `count` bytes as two numbers of eight, for a vector of plain words.
 #[inline(always)]
 pub(crate) fn words(src: &[u8], count: usize) -> [u64; 2]
     requires few { count < 16 }
@@ -124,7 +124,7 @@ static GATHERED: [[u8; 16]; 16] = [
     [0, 1, 2, 3, 4, 5, 6, 7, 8, 9, 10, 12, 13, 14, 15, 128],
 ];
 
-/// The four bytes from `at` on.
+/// Returns the four bytes from `at` on.
 #[inline(always)]
 fn four_lanes(src: &[u8], at: usize) -> u8x4
     requires { at + 4 ≤ length src.now }
@@ -147,7 +147,7 @@ fn gathered(src: &[u8]) -> u8x16
     both_8(low, high).swizzle_dyn(u8x16::from_array(GATHERED[src.len()]))
 }
 
-/// The last `count` bytes of a text that may be short.
+/// Returns the last `count` bytes of a text that may be short.
 #[inline(always)]
 fn joined(src: &[u8], count: usize) -> u8x16
     requires few { count < 16 }
@@ -160,7 +160,7 @@ fn joined(src: &[u8], count: usize) -> u8x16
     u64x2::from_array([up_to_three(src, count), 0]).to_le_bytes()
 }
 
-/// The last `count` bytes of a text of 16 bytes or more: its last 16, moved down by a look-up.
+/// Returns the last `count` bytes of a text of 16 bytes or more: its last 16, moved down by a look-up.
 #[inline(always)]
 fn moved_down(src: &[u8], count: usize) -> u8x16
     requires few { count < 16 }
@@ -170,7 +170,7 @@ fn moved_down(src: &[u8], count: usize) -> u8x16
     down_16(&lanes::load(&src[src.len() - 16..]), 16 - count)
 }
 
-/// The last `count` bytes, with zeros after them, in 16 lanes.
+/// Returns the last `count` bytes, with zeros after them, in 16 lanes.
 #[inline(always)]
 pub(crate) fn last_16(src: &[u8], count: usize) -> u8x16
     requires few { count < 16 }
@@ -185,7 +185,7 @@ pub(crate) fn last_16(src: &[u8], count: usize) -> u8x16
     }
 }
 
-/// The last `count` bytes, with zeros after them, in 32 lanes.
+/// Returns the last `count` bytes, with zeros after them, in 32 lanes.
 #[inline(always)]
 pub(crate) fn last_32(src: &[u8], count: usize) -> u8x32
     requires few { count < 32 }
@@ -200,7 +200,7 @@ pub(crate) fn last_32(src: &[u8], count: usize) -> u8x32
     both_16(first, moved_down(src, count - 16))
 }
 
-/// The last `count` bytes, with zeros after them, in 64 lanes.
+/// Returns the last `count` bytes, with zeros after them, in 64 lanes.
 #[inline(always)]
 pub(crate) fn last_64(src: &[u8], count: usize) -> u8x64
     requires few { count < 64 }

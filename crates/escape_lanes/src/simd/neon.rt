@@ -200,7 +200,7 @@ impl LoadLast for Simd128u {
     }
 }
 
-/// Four bits for each lane of a mask, the first lane's lowest.
+/// Returns four bits for each lane of a mask, the first lane's lowest.
 #[inline(always)]
 fn nibbles(mask: &u8x16) -> u64
     requires { AreWhole 255 16 mask.now }
@@ -212,7 +212,7 @@ fn nibbles(mask: &u8x16) -> u64
     u64x1::from_le_bytes(bytes).to_array()[0]
 }
 
-/// Four bits for each lane of a mask, the first lane's lowest, as a bit mask.
+/// Returns four bits for each lane of a mask, the first lane's lowest, as a bit mask.
 #[inline(always)]
 fn bits(mask: &u8x16) -> NeonBits
     requires { AreWhole 255 16 mask.now }
@@ -221,7 +221,7 @@ fn bits(mask: &u8x16) -> NeonBits
     NeonBits::new(nibbles(mask))
 }
 
-/// What the table has for the low half of each lane.
+/// Returns what the table has for the low half of each lane.
 #[inline(always)]
 fn by_low_half(v: &u8x16, table: &[u8; 16]) -> u8x16
     requires { AreBytes 16 v.now }
@@ -230,7 +230,7 @@ fn by_low_half(v: &u8x16, table: &[u8; 16]) -> u8x16
     lanes::repeated(table).swizzle_dyn_within::<16>(*v & u8x16::splat(15))
 }
 
-/// What the table has for the high half of each lane.
+/// Returns what the table has for the high half of each lane.
 #[inline(always)]
 fn by_high_half(v: &u8x16, table: &[u8; 16]) -> u8x16
     requires { AreBytes 16 v.now }
@@ -239,7 +239,7 @@ fn by_high_half(v: &u8x16, table: &[u8; 16]) -> u8x16
     lanes::repeated(table).swizzle_dyn_within::<16>(*v >> u8x16::splat(4))
 }
 
-/// The bits that both nibble tables have for each lane.
+/// Returns the bits that both nibble tables have for each lane.
 #[inline(always)]
 fn nibble_flags(v: &u8x16) -> u8x16
     requires { AreBytes 16 v.now }
@@ -266,7 +266,7 @@ pub fn escaped_flags<const HTML: bool>(v: &Simd128u, ticks: &mut Ticks) -> Flags
     Flags128 { lanes }
 }
 
-/// The mask of [`escaped_flags`], which is called once, so it ticks once.
+/// Returns the mask of [`escaped_flags`], which is called once, so it ticks once.
 #[inline(always)]
 pub fn escaped_mask_vec<const HTML: bool>(v: &Simd128u, ticks: &mut Ticks) -> Mask128
     ensures lanes { ⟦<Mask128 as Mask>⟧.truths result ≡ map (needs_escape (mode_of HTML)) (⟦<Simd128u as Simd>⟧.lanes v.now) }
@@ -277,7 +277,7 @@ pub fn escaped_mask_vec<const HTML: bool>(v: &Simd128u, ticks: &mut Ticks) -> Ma
     }
 }
 
-/// The bit mask of [`escaped_flags`], which is called once, so it ticks once.
+/// Returns the bit mask of [`escaped_flags`], which is called once, so it ticks once.
 #[inline(always)]
 pub fn escaped_mask<const HTML: bool>(v: &Simd128u, ticks: &mut Ticks) -> NeonBits
     ensures lanes { ⟦<NeonBits as BitMask>⟧.bits result ≡ map (needs_escape (mode_of HTML)) (⟦<Simd128u as Simd>⟧.lanes v.now) }

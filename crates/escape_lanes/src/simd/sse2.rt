@@ -194,7 +194,7 @@ impl LoadLast for Simd128u {
     }
 }
 
-/// Flags where HTML needs an escape.
+/// Returns flags where HTML needs an escape.
 ///
 /// The six bytes are three pairs, each of two bytes that differ in one bit.
 #[inline(always)]
@@ -230,7 +230,7 @@ pub fn escaped_flags<const HTML: bool>(v: &Simd128u, ticks: &mut Ticks) -> Flags
     Flags128 { lanes }
 }
 
-/// The bit mask of [`escaped_flags`], which is called once, so it ticks once.
+/// Returns the bit mask of [`escaped_flags`], which is called once, so it ticks once.
 #[inline(always)]
 pub fn escaped_mask<const HTML: bool>(v: &Simd128u, ticks: &mut Ticks) -> u16
     ensures lanes { ⟦<u16 as BitMask>⟧.bits result ≡ map (needs_escape (mode_of HTML)) (⟦<Simd128u as Simd>⟧.lanes v.now) }

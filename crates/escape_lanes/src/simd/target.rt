@@ -30,7 +30,7 @@ pub struct Target<'a, const N: usize> {
 }
 
 impl<'a, const N: usize> Target<'a, N> {
-    /// A target over `dst`, with its bytes and all counts at 0.
+    /// Returns a target over `dst`, with its bytes and all counts at 0.
     #[inline(always)]
     pub fn new(dst: &'a mut [u8]) -> Self
         ensures over { IsOver result dst.entry }
@@ -49,7 +49,7 @@ impl<'a, const N: usize> Target<'a, N> {
         }
     }
 
-    /// The number of bytes, which never changes.
+    /// Returns the number of bytes, which never changes.
     #[inline(always)]
     pub fn len(&self) -> usize
         ensures { result ≡ length (bytes_of self.now) }

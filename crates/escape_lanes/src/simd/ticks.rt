@@ -15,7 +15,7 @@ impl Model for Tally {
 }
 
 impl Tally {
-    /// A count of 0.
+    /// Returns a count of 0.
     #[inline(always)]
     pub(crate) fn new() -> Tally
         ensures { result.count ≡ 0 }
@@ -66,7 +66,7 @@ impl Model for Ticks {
 }
 
 impl Ticks {
-    /// No call yet.
+    /// Returns ticks at which no classifier was called.
     #[inline(always)]
     pub fn new() -> Self
         ensures { result ≡ 0 }

@@ -17,21 +17,21 @@ pub trait BitMask: Drop {
     // The truth values, lane by lane.
     ghost bits: { Self → List Bool };
 
-    /// The place of the first lane that is set, and `LEN` where none is.
+    /// Returns the place of the first lane that is set, and `LEN` where none is.
     fn first_offset(&self) -> usize
         ensures { result ≡ first_set (bits self.now) };
 
-    /// The same lanes, in the order in which the lane of the lowest address is the lowest.
+    /// Returns the same lanes, in the order in which the lane of the lowest address is the lowest.
     ///
     /// They are held in that order, so this is the same mask.
     fn as_little_endian(&self) -> Self
         ensures { bits result ≡ bits self.now };
 
-    /// Whether no lane is set.
+    /// Returns whether no lane is set.
     fn all_zero(&self) -> bool
         ensures { result ≡ none_set (bits self.now) };
 
-    /// The mask with its last `n` lanes cleared and the others kept.
+    /// Returns the mask with its last `n` lanes cleared and the others kept.
     ///
     /// `n` is at most `LEN`, and `LEN` clears all lanes.
     fn clear_high_bits(&self, n: usize) -> Self
@@ -42,7 +42,7 @@ pub trait BitMask: Drop {
     ghost count: { (m : Self) → length (bits m) ≡ LEN };
 }
 
-/// The answer of a comparison of two vectors, lane by lane.
+/// The result of a comparison of two vectors, lane by lane.
 ///
 /// A contract sees a truth value for each lane, as many as the mask's bit mask has. The operators
 /// act lane by lane: `a | b` has the lanes of either, `a & b` the lanes of both.
@@ -60,7 +60,7 @@ pub trait Mask: Sized
     // The truth values, lane by lane.
     ghost truths: { Self → List Bool };
 
-    /// The bit mask with the same truth values.
+    /// Returns the bit mask with the same truth values.
     fn bitmask(self) -> Self::BitMask
         ensures { Self.BitMask.bits result ≡ truths self };
 
@@ -91,7 +91,7 @@ pub trait Simd: Sized + Drop {
     /// The type of one element.
     type Element;
 
-    /// What a comparison answers.
+    /// What a comparison returns.
     type Mask: Mask;
 
     ghost LANES: { ℕ };
@@ -102,7 +102,7 @@ pub trait Simd: Sized + Drop {
     // The number that an element stands for.
     ghost number: { Self.Element → ℕ };
 
-    /// The first `LANES` bytes of `src`, which has as many or more.
+    /// Returns the first `LANES` bytes of `src`, which has as many or more.
     fn loadu(src: &[u8]) -> Self
         requires { LANES ≤ length src.now }
         ensures { lanes result ≡ take LANES src.now };
@@ -113,15 +113,15 @@ pub trait Simd: Sized + Drop {
         requires { LANES ≤ length dst.old }
         ensures { dst.new ≡ lanes self.now ++ drop LANES dst.old };
 
-    /// The lanes that are equal in both vectors.
+    /// Returns the lanes that are equal in both vectors.
     fn eq(&self, rhs: &Self) -> Self::Mask
         ensures { Self.Mask.truths result ≡ zip2 nat_eq (lanes self.now) (lanes rhs.now) };
 
-    /// The element in every lane.
+    /// Returns the element in every lane.
     fn splat(elem: Self::Element) -> Self
         ensures { lanes result ≡ replicate LANES (number elem) };
 
-    /// The lanes where this vector is at most the other one, as unsigned numbers.
+    /// Returns the lanes where this vector is at most the other one, as unsigned numbers.
     fn le(&self, rhs: &Self) -> Self::Mask
         ensures { Self.Mask.truths result ≡ zip2 nat_le (lanes self.now) (lanes rhs.now) };
 
@@ -130,7 +130,7 @@ pub trait Simd: Sized + Drop {
 
     ghost bytes: { (v : Self) (k : ℕ) → k < LANES → slice_index_or (lanes v) k 0 < 256 };
 
-    // A comparison answers a truth value for each lane.
+    // A comparison returns a truth value for each lane.
     ghost mask_width: { Self.Mask.BitMask.LEN ≡ LANES };
 
     // So few that an array of them fits in memory, and that two pieces of 32 copy any front.

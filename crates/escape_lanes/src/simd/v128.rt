@@ -45,7 +45,7 @@ pub struct Flags128 {
     high: u64,
 }
 
-/// Eight bytes as a word, the first one lowest.
+/// Returns eight bytes as a word, the first one lowest.
 #[inline(always)]
 fn word(bytes: [u8; 8]) -> u64
     ensures { lanes_of_word result ≡ bytes }
@@ -53,7 +53,7 @@ fn word(bytes: [u8; 8]) -> u64
     u64::from_le_bytes(bytes)
 }
 
-/// The eight bytes from `at` on, as a word.
+/// Returns the eight bytes from `at` on, as a word.
 #[inline(always)]
 fn word_at(src: &[u8], at: usize) -> u64
     requires { at + 8 ≤ length src.now }
@@ -71,7 +71,7 @@ fn word_at(src: &[u8], at: usize) -> u64
     ])
 }
 
-/// The word with the byte in each of its lanes.
+/// Returns the word with the byte in each of its lanes.
 #[inline(always)]
 fn each_lane(byte: u8) -> u64
     ensures { lanes_of_word result ≡ replicate 8 byte }
@@ -79,7 +79,7 @@ fn each_lane(byte: u8) -> u64
     word([byte; 8])
 }
 
-/// The eight bytes of a word.
+/// Returns the eight bytes of a word.
 #[inline(always)]
 fn bytes_of(word: u64) -> [u8; 8]
     ensures { result ≡ lanes_of_word word }
@@ -87,7 +87,7 @@ fn bytes_of(word: u64) -> [u8; 8]
     word.to_le_bytes()
 }
 
-/// The lanes of both words.
+/// Returns the lanes of both words.
 #[inline(always)]
 fn lanes_of(v: &Simd128u) -> [u8; 16]
     ensures { result ≡ lanes_of_words v.now.low v.now.high }
@@ -100,7 +100,7 @@ fn lanes_of(v: &Simd128u) -> [u8; 16]
 /// The top bit of each lane of a word.
 const TOPS: u64 = 0x8080_8080_8080_8080;
 
-/// Whether no lane of a word is flagged.
+/// Returns whether no lane of a word is flagged.
 #[inline(always)]
 fn none_in(flags: u64) -> bool
     ensures { result ≡ none_set (flagged_lanes (lanes_of_word flags)) }
@@ -108,7 +108,7 @@ fn none_in(flags: u64) -> bool
     flags & TOPS == 0
 }
 
-/// One bit for each lane of a word that is flagged, the first lane's lowest.
+/// Returns one bit for each lane of a word that is flagged, the first lane's lowest.
 ///
 /// The product has the top bit of lane `i` at `56 + i`, since lane `i` of the word meets one bit of
 /// the factor for each place, and no two meet at one.
@@ -120,7 +120,7 @@ fn flag_bits(flags: u64) -> u16
     ((flags & TOPS).wrapping_mul(0x0002_0408_1020_4081) >> 56) as u16
 }
 
-/// One bit for each lane of both words that is flagged, the first lane's lowest.
+/// Returns one bit for each lane of both words that is flagged, the first lane's lowest.
 #[inline(always)]
 fn lane_bits(flags: &Flags128) -> u16
     ensures { bits_of 16 result ≡ flagged_lanes (lanes_of_words flags.now.low flags.now.high) }
@@ -128,7 +128,7 @@ fn lane_bits(flags: &Flags128) -> u16
     flag_bits(flags.low) | flag_bits(flags.high) << 8
 }
 
-/// What `f` makes of each lane of both.
+/// Returns what `f` makes of each lane of both.
 #[inline(always)]
 fn each<F: Fn(u8, u8) -> u8>(a: &[u8; 16], b: &[u8; 16], f: F) -> [u8; 16]
     requires { F.IsAlwaysCallable f }
@@ -142,7 +142,7 @@ fn each<F: Fn(u8, u8) -> u8>(a: &[u8; 16], b: &[u8; 16], f: F) -> [u8; 16]
     lanes
 }
 
-/// Where the lanes are equal.
+/// Returns which lanes are equal.
 #[inline(always)]
 fn eq(a: &[u8; 16], b: &[u8; 16]) -> [u8; 16]
     requires left { AreBytes 16 a.now }
@@ -153,7 +153,7 @@ fn eq(a: &[u8; 16], b: &[u8; 16]) -> [u8; 16]
     each(a, b, |x, y| (x == y) as u8)
 }
 
-/// Where the left lane is at most the right one, both unsigned.
+/// Returns in which lanes the left one is at most the right one, both unsigned.
 #[inline(always)]
 fn le(a: &[u8; 16], b: &[u8; 16]) -> [u8; 16]
     requires left { AreBytes 16 a.now }
@@ -164,7 +164,7 @@ fn le(a: &[u8; 16], b: &[u8; 16]) -> [u8; 16]
     each(a, b, |x, y| (x <= y) as u8)
 }
 
-/// One bit for each lane of a mask, the first lane's lowest.
+/// Returns one bit for each lane of a mask, the first lane's lowest.
 #[inline(always)]
 fn bits(mask: &[u8; 16]) -> u16
     requires { AreWhole 1 16 mask.now }
@@ -333,7 +333,7 @@ impl LoadLast for Simd128u {
     }
 }
 
-/// In each lane the bits of `kept`, with those of `flipped` flipped, and `more` on top: 80 or more
+/// Returns in each lane the bits of `kept`, with those of `flipped` flipped, and `more` on top: 80 or more
 /// where what is kept and flipped is not below `80 - more`.
 ///
 /// All three are below 80, so no lane runs over into the next.
@@ -347,7 +347,7 @@ fn sums(lanes: u64, kept: u8, flipped: u8, more: u8) -> u64
     ((lanes & each_lane(kept)) ^ each_lane(flipped)) + each_lane(more)
 }
 
-/// Flags where JSON needs an escape, in one word.
+/// Returns flags where JSON needs an escape, in one word.
 ///
 /// A flip of bit 1 brings the quotation mark, 22, to 20, past the control characters, which stay
 /// below it. A byte that is not ASCII needs none.
@@ -360,7 +360,7 @@ fn json_needs(lanes: u64) -> u64
     ((above & not_backslash) | lanes) ^ each_lane(0x80)
 }
 
-/// Flags where HTML needs an escape, in one word.
+/// Returns flags where HTML needs an escape, in one word.
 ///
 /// The six bytes are three pairs, each of two bytes that differ in one bit.
 #[inline(always)]
@@ -396,7 +396,7 @@ pub fn escaped_flags<const HTML: bool>(v: &Simd128u, ticks: &mut Ticks) -> Flags
     }
 }
 
-/// The bit mask of [`escaped_flags`], which is called once, so it ticks once.
+/// Returns the bit mask of [`escaped_flags`], which is called once, so it ticks once.
 #[inline(always)]
 pub fn escaped_mask<const HTML: bool>(v: &Simd128u, ticks: &mut Ticks) -> u16
     ensures lanes { ⟦<u16 as BitMask>⟧.bits result ≡ map (needs_escape (mode_of HTML)) (⟦<Simd128u as Simd>⟧.lanes v.now) }

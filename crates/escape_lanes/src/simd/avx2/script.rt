@@ -12,7 +12,7 @@ use crate::simd::traits::{BitMask, Simd};
 use crate::tables::{SCRIPT_HI_NIBBLE_TAB, SCRIPT_LO_NIBBLE_TAB};
 use std::simd::prelude::*;
 
-/// Flags where a script literal has to look at the byte.
+/// Returns flags where a script literal has to look at the byte.
 #[inline(always)]
 fn script_needs(v: &u8x32) -> u8x32
     requires { AreBytes 32 v.now }
@@ -38,7 +38,7 @@ pub fn script_flags(v: &Simd256u, ticks: &mut Ticks) -> Flags256
     }
 }
 
-/// The bit mask of [`script_flags`], which is called once, so it ticks once.
+/// Returns the bit mask of [`script_flags`], which is called once, so it ticks once.
 #[inline(always)]
 pub fn script_mask(v: &Simd256u, ticks: &mut Ticks) -> u32
     ensures lanes { ⟦<u32 as BitMask>⟧.bits result ≡ map (needs_escape script) (⟦<Simd256u as Simd>⟧.lanes v.now) }

@@ -13,7 +13,7 @@ use crate::simd::traits::{BitMask, Simd};
 use crate::tables::{SCRIPT_HI_NIBBLE_TAB, SCRIPT_LO_NIBBLE_TAB};
 use std::simd::prelude::*;
 
-/// Flags where a script literal has to look at the byte. `sse2` does so too.
+/// Returns flags where a script literal has to look at the byte. `sse2` does so too.
 #[inline(always)]
 pub(crate) fn script_needs(v: &u8x16) -> u8x16
     requires { AreBytes 16 v.now }
@@ -39,7 +39,7 @@ pub fn script_flags(v: &Simd128u, ticks: &mut Ticks) -> Flags128
     }
 }
 
-/// The bit mask of [`script_flags`], which is called once, so it ticks once.
+/// Returns the bit mask of [`script_flags`], which is called once, so it ticks once.
 #[inline(always)]
 pub fn script_mask(v: &Simd128u, ticks: &mut Ticks) -> NeonBits
     ensures lanes { ⟦<NeonBits as BitMask>⟧.bits result ≡ map (needs_escape script) (⟦<Simd128u as Simd>⟧.lanes v.now) }

@@ -25,7 +25,7 @@ pub fn script_flags(v: &Simd128u, ticks: &mut Ticks) -> Flags128
     }
 }
 
-/// The bit mask of [`script_flags`], which is called once, so it ticks once.
+/// Returns the bit mask of [`script_flags`], which is called once, so it ticks once.
 #[inline(always)]
 pub fn script_mask(v: &Simd128u, ticks: &mut Ticks) -> u16
     ensures lanes { ⟦<u16 as BitMask>⟧.bits result ≡ map (needs_escape script) (⟦<Simd128u as Simd>⟧.lanes v.now) }

@@ -10,7 +10,7 @@ use crate::simd::target::Ticks;
 use crate::simd::traits::{BitMask, Simd};
 use crate::simd::v128::{Flags128, Simd128u, lane_bits, sums};
 
-/// Flags where a script literal has to look at the byte, in one word.
+/// Returns flags where a script literal has to look at the byte, in one word.
 ///
 /// Each sum takes the low seven bits: those of the wanted bytes are flipped to the greatest numbers
 /// below 80. Of the bytes that are not ASCII, e2 alone is wanted.
@@ -41,7 +41,7 @@ pub fn script_flags(v: &Simd128u, ticks: &mut Ticks) -> Flags128
     }
 }
 
-/// The bit mask of [`script_flags`], which is called once, so it ticks once.
+/// Returns the bit mask of [`script_flags`], which is called once, so it ticks once.
 #[inline(always)]
 pub fn script_mask(v: &Simd128u, ticks: &mut Ticks) -> u16
     ensures lanes { ⟦<u16 as BitMask>⟧.bits result ≡ map (needs_escape script) (⟦<Simd128u as Simd>⟧.lanes v.now) }

@@ -46,7 +46,7 @@ pub fn format_string(mode: Mode, kernel: Kernel, text: &str, dst: &mut [u8]) -> 
     }
 }
 
-/// Appends what the text becomes, and answers whether it could.
+/// Appends what the text becomes, and returns whether it could.
 #[inline(always)]
 pub fn append(mode: Mode, text: &str, target: &mut Vec<u8>) -> bool {
     match mode {

@@ -15,7 +15,7 @@ enum Way {
     Of(Kernel),
     /// The call that appends, to a vector that is emptied before.
     Appending,
-    /// The call that answers a `String`.
+    /// The call that returns a `String`.
     Answering,
 }
 

@@ -51,7 +51,7 @@ pub fn lanes(kernel: Kernel) -> usize
     }
 }
 
-/// Escapes the text to the front of `dst` in this way, and answers how many bytes it became.
+/// Escapes the text to the front of `dst` in this way, and returns how many bytes it became.
 pub fn format(way: Way, kernel: Kernel, mode: Mode, text: &str, dst: &mut [u8]) -> usize
     requires { bound (escaping mode) (length text.now) ≤ length dst.old }
     ensures { IsWritten (lanes_of kernel) (escaping mode) text.now dst.old dst.new result }

@@ -18,7 +18,7 @@ pub enum Writer {
     Kernel(Kernel, Way),
     /// A kernel, with no quotation marks.
     Inner(Kernel),
-    /// The call that answers a `String`.
+    /// The call that returns a `String`.
     Answering,
     /// The call that appends to a vector.
     Appending,

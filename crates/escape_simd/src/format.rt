@@ -14,7 +14,7 @@ use crate::kernel::Kernel;
 use crate::simd::{HTML_MODE, JSON_MODE, SCRIPT_MODE, avx2, avx512, neon, sse2, v128};
 
 /// Writes the text as a JSON string literal (RFC 8259, section 7), its quotation marks included, to the
-/// front of `dst` by the kernel, and answers how many bytes it became.
+/// front of `dst` by the kernel, and returns how many bytes it became.
 ///
 /// `dst` must have at least `6 * n + 35` bytes for a text of `n` bytes:
 /// [`json_capacity`](crate::json::json_capacity). No byte from that place on changes, and none that is
@@ -34,7 +34,7 @@ pub fn format_json_string(kernel: Kernel, value: &str, dst: &mut [u8]) -> usize
     format_by::<{ JSON_MODE }>(kernel, value, dst)
 }
 
-/// As [`format_json_string`], and answers the output as text, which it is.
+/// As [`format_json_string`], and returns the output as text, which it is.
 ///
 /// ```text
 /// let mut dst = [0; 41];
@@ -50,7 +50,7 @@ pub fn format_json_str<'a>(kernel: Kernel, value: &str, dst: &'a mut [u8]) -> &'
 }
 
 /// Writes the text as HTML with `"`, `&`, `'`, `/`, `<` and `>` as entities to the front of `dst` by the
-/// kernel, and answers how many bytes it became.
+/// kernel, and returns how many bytes it became.
 ///
 /// `dst` must have at least `6 * n + 32` bytes for a text of `n` bytes:
 /// [`html_capacity`](crate::html::html_capacity). No byte from that place on changes, and none that is
@@ -70,7 +70,7 @@ pub fn format_html_string(kernel: Kernel, value: &str, dst: &mut [u8]) -> usize
     format_by::<{ HTML_MODE }>(kernel, value, dst)
 }
 
-/// As [`format_html_string`], and answers the output as text, which it is.
+/// As [`format_html_string`], and returns the output as text, which it is.
 ///
 /// ```text
 /// let mut dst = [0; 38];
@@ -86,7 +86,7 @@ pub fn format_html_str<'a>(kernel: Kernel, value: &str, dst: &'a mut [u8]) -> &'
 }
 
 /// Writes the text as a JSON string literal that can stand in a script element of an HTML page, its
-/// quotation marks included, to the front of `dst` by the kernel, and answers how many bytes it became.
+/// quotation marks included, to the front of `dst` by the kernel, and returns how many bytes it became.
 ///
 /// `dst` must have at least `6 * n + 35` bytes for a text of `n` bytes:
 /// [`json_capacity`](crate::json::json_capacity). No byte from that place on changes, and none that is
@@ -106,7 +106,7 @@ pub fn format_script_string(kernel: Kernel, value: &str, dst: &mut [u8]) -> usiz
     format_by::<{ SCRIPT_MODE }>(kernel, value, dst)
 }
 
-/// As [`format_script_string`], and answers the output as text, which it is.
+/// As [`format_script_string`], and returns the output as text, which it is.
 ///
 /// ```text
 /// let mut dst = [0; 41];
@@ -122,7 +122,7 @@ pub fn format_script_str<'a>(kernel: Kernel, value: &str, dst: &'a mut [u8]) -> 
 }
 
 /// Writes what [`format_json_string`] writes between its quotation marks to the front of `dst` by the
-/// kernel, and answers how many bytes it became. So a literal can be written in parts: what stands for
+/// kernel, and returns how many bytes it became. So a literal can be written in parts: what stands for
 /// texts joined is what stands for each of them, joined.
 ///
 /// `dst` must have at least `6 * n + 32` bytes for a text of `n` bytes:
@@ -144,7 +144,7 @@ pub fn format_json_inner(kernel: Kernel, value: &str, dst: &mut [u8]) -> usize
 }
 
 /// Writes what [`format_script_string`] writes between its quotation marks to the front of `dst` by the
-/// kernel, and answers how many bytes it became. So a literal can be written in parts: what stands for
+/// kernel, and returns how many bytes it became. So a literal can be written in parts: what stands for
 /// texts joined is what stands for each of them, joined.
 ///
 /// `dst` must have at least `6 * n + 32` bytes for a text of `n` bytes:

@@ -44,7 +44,7 @@ pub fn html_capacity(len: usize) -> Result<usize, InputTooLarge>
     scratch_bound::<{ HTML_MODE }>(len).ok_or(InputTooLarge)
 }
 
-/// The text as HTML without markup: none of `"`, `'`, `/`, `<` and `>` stands in it, and each `&`
+/// Returns the text as HTML without markup: none of `"`, `'`, `/`, `<` and `>` stands in it, and each `&`
 /// begins an entity. It is the only such that reads as the text.
 ///
 /// An entity that already stands in the text is escaped again. The output has from `n` to `6 * n`
@@ -66,7 +66,7 @@ pub fn escape_html(alloc: Global, value: &str) -> Result<String, EscapeHtmlError
     escape_html_in(alloc, value)
 }
 
-/// What [`escape_html`] answers, in memory of the caller's allocator, as an arena or a pool: to it alone the
+/// Returns what [`escape_html`] returns, in memory of the caller's allocator, as an arena or a pool: to it alone the
 /// one request is made.
 ///
 /// # Errors

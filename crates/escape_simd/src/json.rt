@@ -45,7 +45,7 @@ pub fn json_capacity(len: usize) -> Result<usize, EscapeError>
     scratch_bound::<{ JSON_MODE }>(len).ok_or(EscapeError::TooLarge)
 }
 
-/// The JSON string literal of a text, quotation marks included: the shortest with lower-case hex
+/// Returns the JSON string literal of a text, quotation marks included: the shortest with lower-case hex
 /// digits that denotes it (RFC 8259, section 7), and the only one.
 ///
 /// Only `"`, `\` and the characters below U+0020 are escaped. The literal has from `n + 2` to
@@ -67,7 +67,7 @@ pub fn escape(alloc: Global, value: &str) -> Result<String, EscapeError>
     escape_in(alloc, value)
 }
 
-/// What [`escape`] answers, in memory of the caller's allocator, as an arena or a pool: to it alone the
+/// Returns what [`escape`] returns, in memory of the caller's allocator, as an arena or a pool: to it alone the
 /// one request is made.
 ///
 /// # Errors
@@ -85,7 +85,7 @@ pub fn escape_in<A: Allocator>(alloc: A, value: &str) -> Result<String<A>, Escap
     Ok(text::<{ JSON_MODE }, A>(alloc, value)?)
 }
 
-/// Appends the literal that [`escape`] answers to `dst`, whatever bytes `dst` holds.
+/// Appends the literal that [`escape`] returns to `dst`, whatever bytes `dst` holds.
 ///
 /// It asks the allocator of `dst`, which may be the caller's own, for room for `6 * n + 35` bytes past
 /// those of `dst` where `dst` has less, and for no memory where it has that.
@@ -112,10 +112,10 @@ pub fn escape_into<A: Allocator>(value: &str, dst: &mut Vec<u8, A>) -> Result<()
     Ok(append::<{ JSON_MODE }, A>(value, dst)?)
 }
 
-/// The JSON string literal of a text that can stand in a script element of an HTML page, quotation
+/// Returns the JSON string literal of a text that can stand in a script element of an HTML page, quotation
 /// marks included.
 ///
-/// It is a JSON string literal of the same text as [`escape`] answers. Besides what is escaped there,
+/// It is a JSON string literal of the same text as [`escape`] returns. Besides what is escaped there,
 /// `<`, `>` and `&` and the separators U+2028 and U+2029 are written by hex escapes. So neither
 /// `</script` nor `<!--` stands in it, which would end the element or begin a comment in it, and it can
 /// be read as JavaScript of any age. It is the shortest such literal with lower-case hex digits, and
@@ -141,7 +141,7 @@ pub fn escape_script(alloc: Global, value: &str) -> Result<String, EscapeError>
     escape_script_in(alloc, value)
 }
 
-/// What [`escape_script`] answers, in memory of the caller's allocator, as an arena or a pool: to it
+/// Returns what [`escape_script`] returns, in memory of the caller's allocator, as an arena or a pool: to it
 /// alone the one request is made.
 ///
 /// # Errors
@@ -160,7 +160,7 @@ pub fn escape_script_in<A: Allocator>(alloc: A, value: &str) -> Result<String<A>
     Ok(text::<{ SCRIPT_MODE }, A>(alloc, value)?)
 }
 
-/// Appends the literal that [`escape_script`] answers to `dst`, whatever bytes `dst` holds.
+/// Appends the literal that [`escape_script`] returns to `dst`, whatever bytes `dst` holds.
 ///
 /// It asks the allocator of `dst`, which may be the caller's own, for room for `6 * n + 35` bytes past
 /// those of `dst` where `dst` has less, and for no memory where it has that.

@@ -1,6 +1,6 @@
 //! Escapes text as a JSON string literal, also one for a script element, or as HTML.
 //!
-//! [`json::escape`] answers the string literal of a text (RFC 8259, section 7),
+//! [`json::escape`] returns the string literal of a text (RFC 8259, section 7),
 //! [`json::escape_script`] one that can stand in a script element of an HTML page, and
 //! [`html::escape_html`] the text with `"`, `&`, `'`, `/`, `<` and `>` as entities.
 //! [`json::escape_in`], [`json::escape_script_in`] and [`html::escape_html_in`] take an allocator of

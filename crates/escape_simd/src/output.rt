@@ -34,7 +34,7 @@ type V = Simd256u;
 
 const N: usize = 32;
 
-/// How many bytes a target must have for a text of `len` bytes, where a `usize` can tell.
+/// Returns how many bytes a target must have for a text of `len` bytes, where a `usize` can tell.
 pub fn scratch_bound<const MODE: u8>(len: usize) -> Option<usize>
     ensures fits { IfSome result (λ n. n ≡ bound (mode_numbered MODE) len) }
     ensures passes { IsNone result ↔ (usize.MAX < bound (mode_numbered MODE) len) }
@@ -90,7 +90,7 @@ pub fn append<const MODE: u8, A: Allocator>(
     Ok(())
 }
 
-/// The output for the text.
+/// Returns the output for the text.
 pub(crate) fn text<const MODE: u8, A: Allocator>(
     alloc: A,
     value: &str,

@@ -50,7 +50,7 @@ pub(crate) fn write_escaped<A: Allocator, W: Write>(
     write_whole(mode, kernel, text, room.as_mut_slice(), output)
 }
 
-/// How many bytes the output of a text of `len` bytes may take.
+/// Returns how many bytes the output of a text of `len` bytes may take.
 fn capacity(mode: Mode, len: usize) -> Result<usize, ToolFault>
     ensures room { IfOk result (λ room. room ≡ bound (escaping mode) len) }
     ensures too_large { IsErrOf result ToolFault.TooLarge
@@ -141,7 +141,7 @@ fn write_pieces<W: Write>(
     Ok(())
 }
 
-/// Writes what stands for the text, with no quotation marks, to the front of `room`, and answers how
+/// Writes what stands for the text, with no quotation marks, to the front of `room`, and returns how
 /// many bytes it became.
 fn format_inner(mode: Mode, kernel: Kernel, text: &str, room: &mut [u8]) -> usize
     requires { 6 * length text.now + 32 ≤ length room.old }

@@ -15,7 +15,7 @@ const WINDOW: usize = 64 * 1024;
 ///
 /// # Errors
 ///
-/// `ReadFailed` where a read answers an error, of any kind, and `OutOfMemory` where room for
+/// `ReadFailed` where a read returns an error, of any kind, and `OutOfMemory` where room for
 /// more is refused, whichever comes first.
 pub(crate) fn read_whole<R: Read, A: Allocator>(
     alloc: A,
@@ -61,7 +61,7 @@ fn make_room<A: Allocator>(bytes: &mut Vec<u8, A>, filled: usize) -> Result<(), 
     Ok(())
 }
 
-/// One read, into what stands past the first `filled` bytes. Answers how many bytes it gave.
+/// Reads once into the bytes past the first `filled` ones, and returns how many bytes the read gave.
 fn read_after<R: Read>(input: &mut R, bytes: &mut [u8], filled: usize) -> Result<usize, ToolFault>
     requires { filled < length bytes.old }
     ensures front { take filled bytes.new ≡ take filled bytes.old }

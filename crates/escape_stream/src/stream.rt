@@ -60,7 +60,7 @@ pub fn run<R: Read, W: Write>(
     run_in(alloc, mode, kernel, input, output)
 }
 
-/// What [`run`] does, in memory of the caller's allocator. One that can't be copied, as an arena, is
+/// Does what [`run`] does, in memory of the caller's allocator. One that can't be copied, as an arena, is
 /// lent: `&arena` is an allocator too.
 ///
 /// It asks for room for the input, and once for what a piece of it may become.

@@ -243,7 +243,7 @@ fn stops_at_a_failed_read(rt: HostRuntime) -> Result<(), Fail> {
     Ok(())
 }
 
-/// What a run on `<` answers, and what the writer then holds.
+/// What a run on `<` returns, and what the writer then holds.
 fn escapes_less_than(
     rt: &HostRuntime,
     step: usize,

@@ -18,10 +18,10 @@ pub enum Mode {
     Script,
 }
 
-/// What a program on this crate says where [`choose`] answers `None`.
+/// What a program on this crate says where [`choose`] returns `None`.
 pub const USAGE: &str = "usage: escape_tool json|html|script [v128|sse2|neon|avx2|avx512]";
 
-/// The mode and the kernel that the two words name, where each is a word of its table, in lower
+/// Returns the mode and the kernel that the two words name, where each is a word of its table, in lower
 /// case and with nothing around it. With no second word the kernel is `Avx2`.
 ///
 /// `choose("html", Some("neon"))` is `Some((Mode::Html, Kernel::Neon))`.

@@ -9,7 +9,7 @@ use escape_simd::simd::HTML_MODE;
 use std::fmt;
 
 /// Writes the output for the text. An array is filled with zeros before it is written: so a short text has a
-/// small one, and a text that stands for itself none.
+/// small one, and a text that needs no escape has none.
 pub(crate) fn display<const MODE: u8, W: fmt::Write>(
     value: &str,
     f: &mut fmt::Formatter<W>,
@@ -27,7 +27,7 @@ pub(crate) fn display<const MODE: u8, W: fmt::Write>(
     display_pieces::<MODE, W>(value, f)
 }
 
-/// The same for a text that stands for itself.
+/// Writes the output for a text that needs no escape.
 fn display_itself<const MODE: u8, W: fmt::Write>(
     value: &str,
     f: &mut fmt::Formatter<W>,
@@ -44,7 +44,7 @@ fn display_itself<const MODE: u8, W: fmt::Write>(
     f.write_str(quote::<MODE>())
 }
 
-/// The same piece by piece.
+/// Writes the output for the text piece by piece.
 #[inline(never)]
 fn display_pieces<const MODE: u8, W: fmt::Write>(
     value: &str,

@@ -56,7 +56,7 @@ pub(crate) fn append_output<const MODE: u8, A: Allocator>(value: &str, dst: &mut
     append_pieces::<MODE, A>(value, dst);
 }
 
-/// The same for a text that stands for itself.
+/// Appends the output for a text that needs no escape.
 fn append_itself<const MODE: u8, A: Allocator>(value: &str, dst: &mut String<A>)
     requires itself { inner (mode_numbered MODE) value.now ≡ value.now }
     requires room { string_len dst.old + length (plain (mode_numbered MODE) value.now)
@@ -69,7 +69,7 @@ fn append_itself<const MODE: u8, A: Allocator>(value: &str, dst: &mut String<A>)
     push_text(quote::<MODE>(), dst);
 }
 
-/// The same piece by piece.
+/// Appends the output for the text piece by piece.
 #[inline(never)]
 fn append_pieces<const MODE: u8, A: Allocator>(value: &str, dst: &mut String<A>)
     requires { string_len dst.old + length (plain (mode_numbered MODE) value.now)

@@ -110,7 +110,7 @@ pub(crate) fn append_array<const MODE: u8, A: Allocator>(
     appended
 }
 
-/// The same, with what was appended before a refusal left in place.
+/// Appends the same, and leaves what was appended before a refusal.
 fn append_brackets<const MODE: u8, A: Allocator>(
     values: &[&str],
     dst: &mut Vec<u8, A>,

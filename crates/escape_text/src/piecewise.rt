@@ -26,7 +26,7 @@ pub(crate) const ROOM: usize = 3106;
 /// How many bytes the array has that a short text is escaped in.
 pub(crate) const SHORT_ROOM: usize = 508;
 
-/// Whether the output for the text in the mode numbered `MODE` is known to be the text, between its quotation
+/// Returns whether the output for the text in the mode numbered `MODE` is known to be the text, between its quotation
 /// marks. A text longer than a front is not asked.
 #[inline(always)]
 pub(crate) fn is_itself<const MODE: u8>(text: &str) -> bool
@@ -58,7 +58,7 @@ impl<'a> Pieces<'a> {
         }
     }
 
-    /// The next piece of the output in the mode numbered `MODE`, and `None` at its end. The first has the
+    /// Returns the next piece of the output in the mode numbered `MODE`, and `None` at its end. The first has the
     /// quotation mark. Of the others, what stands for itself is handed on as it is, and anything else is
     /// written in `room`.
     #[inline(always)]
@@ -93,7 +93,7 @@ impl<'a> Pieces<'a> {
     }
 }
 
-/// The front of a text, of at most `N` bytes, and what is left of it.
+/// Returns the front of a text, of at most `N` bytes, and what is left of it.
 fn split_front<const N: usize>(text: &str) -> (&str, &str)
     requires { 4 ≤ N }
     ensures joined { text.now ≡ result.0.now ++ result.1.now }
@@ -104,7 +104,7 @@ fn split_front<const N: usize>(text: &str) -> (&str, &str)
     text.split_at(text.floor_char_boundary(N.min(text.len())))
 }
 
-/// The output for a text in the mode numbered `MODE`, written in `room` at once.
+/// Returns the output for a text in the mode numbered `MODE`, written in `room` at once.
 #[inline(always)]
 pub(crate) fn escape_short<'r, const MODE: u8>(text: &str, room: &'r mut [u8]) -> &'r str
     requires { 6 * length text.now + 34 ≤ length room.old }
@@ -113,7 +113,7 @@ pub(crate) fn escape_short<'r, const MODE: u8>(text: &str, room: &'r mut [u8]) -
     escape_piece::<MODE>(text, true, true, room)
 }
 
-/// What stands for a piece, with the quotation marks that are wanted before and after it.
+/// Returns what stands for a piece, with the quotation marks that are wanted before and after it.
 #[inline(always)]
 fn escape_piece<'r, const MODE: u8>(
     piece: &str,
@@ -132,7 +132,7 @@ fn escape_piece<'r, const MODE: u8>(
     unsafe { str::from_utf8_unchecked(&room[..close]) }
 }
 
-/// What stands before and after an output: a quotation mark in JSON, also in script mode, and nothing in
+/// Returns what stands before and after an output: a quotation mark in JSON, also in script mode, and nothing in
 /// HTML.
 pub(crate) fn quote<const MODE: u8>() -> &'static str
     ensures { result.now ≡ quote_of (mode_numbered MODE) }
@@ -140,7 +140,7 @@ pub(crate) fn quote<const MODE: u8>() -> &'static str
     if MODE == HTML_MODE { "" } else { "\"" }
 }
 
-/// Writes a quotation mark to `room` where one is wanted, and the mode has any. Answers the place after
+/// Writes a quotation mark to `room` where one is wanted, and the mode has any. Returns the place after
 /// it.
 fn quote_at<const MODE: u8>(wanted: bool, room: &mut [u8], at: usize) -> usize
     requires { at < length room.old }

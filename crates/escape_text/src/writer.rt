@@ -25,7 +25,7 @@ pub(crate) fn write_output<const MODE: u8, W: Write>(value: &str, writer: &mut W
     write_pieces::<MODE, W>(value, writer)
 }
 
-/// The same for a text that stands for itself.
+/// Writes the output for a text that needs no escape.
 fn write_itself<const MODE: u8, W: Write>(value: &str, writer: &mut W) -> Result<()>
     requires { inner (mode_numbered MODE) value.now ≡ value.now }
     ensures whole { OnOk result (Appends (W.contents writer.old) (W.contents writer.new)
@@ -38,7 +38,7 @@ fn write_itself<const MODE: u8, W: Write>(value: &str, writer: &mut W) -> Result
     write_whole(quote::<MODE>().as_bytes(), writer)
 }
 
-/// The same piece by piece.
+/// Writes the output for the text piece by piece.
 #[inline(never)]
 fn write_pieces<const MODE: u8, W: Write>(value: &str, writer: &mut W) -> Result<()>
     ensures whole { OnOk result (Appends (W.contents writer.old) (W.contents writer.new)

@@ -25,7 +25,7 @@ fn main(rt: HostRuntime) -> ExitCode {
     }
 }
 
-/// The words after the program's name, where they can be taken.
+/// Returns the words after the program's name, where they can be taken.
 fn words<R: Env + AllocGlobal>(rt: &R) -> Option<Vec<String>> {
     let mut words = Vec::new(rt.alloc());
     for word in env::args(rt).ok()?.skip(1) {
@@ -34,7 +34,7 @@ fn words<R: Env + AllocGlobal>(rt: &R) -> Option<Vec<String>> {
     Some(words)
 }
 
-/// What one or two words choose.
+/// Returns what one or two words choose.
 fn chosen(words: &[String]) -> Option<(Mode, Kernel)> {
     match words {
         [mode] => choose(mode.as_str(), None),

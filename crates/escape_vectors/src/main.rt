@@ -1,4 +1,4 @@
-//! Replays another implementation's answers through every kernel, the calls that allocate, and `run`.
+//! Replays another implementation's returns through every kernel, the calls that allocate, and `run`.
 //!
 //! It prints each answer that differs, and at the end how many passed. The status is a failure where
 //! one differs. A word that it is given is the path of the list.

@@ -49,7 +49,7 @@ fn ration_of(granted: u64) -> Requests {
     }
 }
 
-/// Notes a request, and answers whether it is refused.
+/// Notes a request, and returns whether it is refused.
 fn is_refused(requests: &Cell<Requests>, size: usize) -> bool {
     let before = requests.get();
     requests.set(Requests {

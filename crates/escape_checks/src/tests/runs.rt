@@ -49,7 +49,7 @@ impl Write for Counting {
     }
 }
 
-// A body that always answers `OutOfMemory` keeps every clause. Here memory is at hand.
+// A body that always returns `OutOfMemory` keeps every clause. Here memory is at hand.
 #[test]
 fn always_out_of_memory(rt: HostRuntime) -> Result<(), Fail> {
     let text = "\u{1d11e}<a href='/x'>\n";
@@ -72,7 +72,7 @@ fn always_out_of_memory(rt: HostRuntime) -> Result<(), Fail> {
     Ok(())
 }
 
-// A body that always answers `ReadFailed`, `WriteFailed` or `OutOfMemory` keeps every clause. Here each
+// A body that always returns `ReadFailed`, `WriteFailed` or `OutOfMemory` keeps every clause. Here each
 // run is to end well.
 #[test]
 fn run_always_fails(rt: HostRuntime) -> Result<(), Fail> {

@@ -23,7 +23,7 @@ pub fn escaped_len(value: &str) -> Option<usize>
 }
 
 /// Returns whether none of the bytes `"`, `&`, `'`, `/`, `<` and `>` is in the text:
-/// [`escape_html`](crate::html::escape_html) answers the text itself.
+/// [`escape_html`](crate::html::escape_html) returns the text itself.
 ///
 /// No memory is allocated. The answer comes at the first vector that has one of them.
 ///

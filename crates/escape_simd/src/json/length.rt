@@ -6,7 +6,7 @@ ghost use Rattle.escape_simd.specs.Output.{plain, inner};
 use crate::output;
 use crate::simd::{JSON_MODE, SCRIPT_MODE};
 
-/// Returns how many bytes the literal that [`escape`](crate::json::escape) answers has, quotation marks
+/// Returns how many bytes the literal that [`escape`](crate::json::escape) returns has, quotation marks
 /// included, and `None` where that passes `usize::MAX`.
 ///
 /// No memory is allocated. Room for so many bytes is what `escape_text`'s calls ask for; the calls of this
@@ -22,7 +22,7 @@ pub fn escaped_len(value: &str) -> Option<usize>
     output::escaped_len::<{ JSON_MODE }>(value)
 }
 
-/// Returns how many bytes the literal that [`escape_script`](crate::json::escape_script) answers has,
+/// Returns how many bytes the literal that [`escape_script`](crate::json::escape_script) returns has,
 /// quotation marks included, and `None` where that passes `usize::MAX`.
 ///
 /// No memory is allocated.
@@ -53,7 +53,7 @@ pub fn is_clean(value: &str) -> bool
 }
 
 /// Returns whether no character of the text needs an escape in a literal for a script element: the literal
-/// that [`escape_script`](crate::json::escape_script) answers is the text between quotation marks.
+/// that [`escape_script`](crate::json::escape_script) returns is the text between quotation marks.
 ///
 /// No memory is allocated. The answer comes at the first vector that has a character that is escaped.
 ///

@@ -11,7 +11,7 @@ use crate::simd::{Vector, escape_at, flags_at};
 use escape_lanes::simd::target::Ticks;
 use escape_lanes::simd::{BitMask, Flags};
 
-/// Writes what stands for the text, with no quotation marks, to `dst` from `at` on, and answers the place
+/// Writes what stands for the text, with no quotation marks, to `dst` from `at` on, and returns the place
 /// after it. The bytes before `at` stay.
 ///
 /// `dst` must have room from `at` on for `6 * n + 32` bytes for a text of `n` bytes.
@@ -25,7 +25,7 @@ pub fn write_inner<const MODE: u8>(value: &str, dst: &mut [u8], at: usize) -> us
     escape_at::<V, MODE, N>(value.as_bytes(), dst, at)
 }
 
-/// Whether no byte of four vectors of the text from `at` on needs an escape.
+/// Returns whether no byte of four vectors of the text from `at` on needs an escape.
 #[inline(always)]
 pub(super) fn is_clean_chunk<const MODE: u8>(src: &[u8], at: usize) -> bool
     requires { at + 4 * N ≤ length src.now }
@@ -39,7 +39,7 @@ pub(super) fn is_clean_chunk<const MODE: u8>(src: &[u8], at: usize) -> bool
     flags1.join(&flags2).join(&flags3.join(&flags4)).none()
 }
 
-/// Whether no byte of the vector of the text at `at` needs an escape.
+/// Returns whether no byte of the vector of the text at `at` needs an escape.
 #[inline(always)]
 pub(super) fn is_clean_vector<const MODE: u8>(src: &[u8], at: usize) -> bool
     requires { at + N ≤ length src.now }

@@ -73,7 +73,7 @@ pub(super) fn push_vector<A: Allocator>(dst: &mut Vec<u8, A>, len: usize, v: &V)
     push_all(dst, &lanes);
 }
 
-/// The text's vector at `from`.
+/// Returns the text's vector at `from`.
 ///
 /// It goes through an array and not as a slice of the text: so it is stored from the register in which it was
 /// asked.

@@ -62,7 +62,7 @@ impl Vector<32> for Simd256u {
 }
 
 /// Escapes the text to the front of the target, as HTML if `HTML`, else as a JSON string literal,
-/// and answers how many bytes it became.
+/// and returns how many bytes it became.
 ///
 /// A text of n bytes needs a target of at least 6n + 35 bytes in JSON, and 6n + 32 in HTML. No byte
 /// from that place on changes, and none that is 32 or more past the last one written.
@@ -99,7 +99,7 @@ pub fn format_string<const HTML: bool>(value: &str, dst: &mut [u8]) -> usize
 }
 
 /// Escapes the text to the front of the target as a JSON string literal that can stand in a script
-/// element, and answers how many bytes it became.
+/// element, and returns how many bytes it became.
 ///
 /// A text of n bytes needs a target of at least 6n + 35 bytes. No byte from that place on changes, and
 /// none that is 32 or more past the last one written.
@@ -140,7 +140,7 @@ pub(crate) fn format_in_mode<const MODE: u8>(value: &str, dst: &mut [u8]) -> usi
 }
 
 /// Escapes the text to the front of `dst` in the mode numbered `MODE`, with no quotation marks, and
-/// answers how many bytes it became.
+/// returns how many bytes it became.
 pub(crate) fn format_inner<const MODE: u8>(value: &str, dst: &mut [u8]) -> usize
     requires { 6 * length value.now + 32 ≤ length dst.old }
     ensures { IsInnerWritten 32 (mode_numbered MODE) value.now dst.old dst.new result }

@@ -13,7 +13,7 @@ use escape_lanes::simd::BitMask;
 use escape_lanes::simd::lane_bits::count_gaps;
 use escape_lanes::simd::target::{Target, Ticks};
 
-/// How many blocks of eight a vector's first `valid` bytes take, but for the two that need no run to pay for their
+/// Returns how many blocks of eight a vector's first `valid` bytes take, but for the two that need no run to pay for their
 /// stores: one of them has an escape, and the vector itself pays for the other.
 #[inline(always)]
 fn further_blocks(valid: usize) -> usize
@@ -81,7 +81,7 @@ pub(crate) fn escape_by_mask<V: Vector<N>, const MODE: u8, const N: usize, const
     (past_border::<MODE>(at + valid, at + passed), end)
 }
 
-/// The place past a vector that ends at `border`: `next`, which is the border but in script mode. So in the other
+/// Returns the place past a vector that ends at `border`: `next`, which is the border but in script mode. So in the other
 /// modes the place of the next vector is known without what was done to this one.
 #[inline(always)]
 fn past_border<const MODE: u8>(border: usize, next: usize) -> usize

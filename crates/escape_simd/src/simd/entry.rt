@@ -9,7 +9,7 @@ use escape_lanes::tables::{
     LINE_SEPARATOR, PARAGRAPH_SEPARATOR, html_entry, json_entry, script_entry,
 };
 
-/// How many bytes stand for the byte, 0 where it stands for itself, and these bytes with zeros
+/// Returns how many bytes stand for the byte, 0 where it stands for itself, and these bytes with zeros
 /// after them.
 #[inline(always)]
 pub(crate) fn entry<const MODE: u8>(b: u8) -> &'static (u8, [u8; 8])
@@ -28,7 +28,7 @@ pub(crate) fn entry<const MODE: u8>(b: u8) -> &'static (u8, [u8; 8])
 /// The byte with which each separator begins, and other characters.
 pub(crate) const SEPARATOR_LEAD: u8 = 0xe2;
 
-/// Whether a separator begins at `at`: e2 80 a8 or e2 80 a9.
+/// Returns whether a separator begins at `at`: e2 80 a8 or e2 80 a9.
 #[inline(always)]
 pub(crate) fn is_separator(src: &[u8], at: usize) -> bool
     requires { at < length src.now }
@@ -44,7 +44,7 @@ pub(crate) fn is_separator(src: &[u8], at: usize) -> bool
     second == 0x80 && (third == 0xa8 || third == 0xa9)
 }
 
-/// What stands for the separator with this third byte.
+/// Returns what stands for the separator with this third byte.
 #[inline(always)]
 pub(crate) fn separator_entry(third: u8) -> &'static [u8; 8]
     ensures { result.now

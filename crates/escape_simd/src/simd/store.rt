@@ -68,7 +68,7 @@ pub(crate) fn store<V: Vector<N>, const N: usize, const LAST: bool>(
     store_loaded::<V, N, LAST>(&v, src, from, left, target, to);
 }
 
-/// Classifies the text's vector at `from` for the count alone: what it answers is known from the mask that is held.
+/// Classifies the text's vector at `from` for the count alone: what it returns is known from the mask that is held.
 ///
 /// Nothing is left of it where it is built.
 #[inline]

@@ -28,12 +28,12 @@ pub(crate) trait Vector<const N: usize>: Drop {
     // The bytes, lane by lane.
     ghost lanes: { Self → List ℕ };
 
-    /// The text's bytes from `at` on.
+    /// Returns the text's bytes from `at` on.
     fn load(text: &[u8], at: usize) -> Self
         requires { at + N ≤ length text.now }
         ensures { lanes result ≡ take N (drop at text.now) };
 
-    /// The text's last `count` bytes, and zeros.
+    /// Returns the text's last `count` bytes, and zeros.
     fn load_last(text: &[u8], count: usize) -> Self
         requires few { count < N }
         requires inside { count ≤ length text.now }

@@ -82,7 +82,7 @@ fn format_long<V: Vector<N>, const MODE: u8, const N: usize>(value: &str, dst: &
     quote_at::<MODE, N>(dst, close)
 }
 
-/// How many bytes a quotation mark takes: one in JSON, also in script mode, and none in HTML.
+/// Returns how many bytes a quotation mark takes: one in JSON, also in script mode, and none in HTML.
 #[inline(always)]
 const fn quote_length<const MODE: u8>() -> usize
     ensures { result ≡ length (quote_of (mode_numbered MODE)) }

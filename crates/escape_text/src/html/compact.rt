@@ -11,7 +11,7 @@ use escape_simd::simd::HTML_MODE;
 use std::alloc::Allocator;
 use std::borrow::CowStr;
 
-/// Returns the text as HTML, as [`escape_html`](escape_simd::html::escape_html) answers it, in a `String`
+/// Returns the text as HTML, as [`escape_html`](escape_simd::html::escape_html) returns it, in a `String`
 /// that has room for it alone.
 ///
 /// One request is made, of `alloc`, which may be the caller's own: for the output's own length, from `n` to
@@ -38,7 +38,7 @@ pub fn escape_html_compact<A: Allocator>(
 }
 
 /// Returns the text as HTML: the text itself where no byte of it is escaped, and otherwise what
-/// [`escape_html_compact`] answers.
+/// [`escape_html_compact`] returns.
 ///
 /// A clean text is borrowed. It asks for no memory, and is never refused.
 ///

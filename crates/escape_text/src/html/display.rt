@@ -5,7 +5,7 @@ use std::fmt;
 
 /// A text as HTML for `write!`, `print!` and `format!`.
 ///
-/// `{}` writes what [`escape_html`](escape_simd::html::escape_html) answers, through an array of 3106 bytes
+/// `{}` writes what [`escape_html`](escape_simd::html::escape_html) returns, through an array of 3106 bytes
 /// at most: no memory is asked for, and no text is too large. Width and fill are not applied.
 ///
 /// ```text

@@ -10,7 +10,7 @@ use escape_simd::html::EscapeHtmlError;
 use escape_simd::simd::HTML_MODE;
 use std::alloc::Allocator;
 
-/// Appends a text as HTML to `dst`, as [`escape_html`](escape_simd::html::escape_html) answers it.
+/// Appends a text as HTML to `dst`, as [`escape_html`](escape_simd::html::escape_html) returns it.
 ///
 /// It asks the allocator of `dst`, which may be the caller's own, for room for `6 * n + 32` bytes past
 /// those of `dst` where `dst` has less, and for no memory where it has that.

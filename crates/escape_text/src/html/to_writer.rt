@@ -9,7 +9,7 @@ use crate::writer::write_output;
 use escape_simd::simd::HTML_MODE;
 use std::io::{Result, Write};
 
-/// Writes a text as HTML to `writer`, as [`escape_html`](escape_simd::html::escape_html) answers it,
+/// Writes a text as HTML to `writer`, as [`escape_html`](escape_simd::html::escape_html) returns it,
 /// and does not flush.
 ///
 /// It goes through an array of 3106 bytes at most: no memory is asked for, and no text is too large. A write

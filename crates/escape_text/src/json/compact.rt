@@ -9,7 +9,7 @@ use escape_simd::json::EscapeError;
 use escape_simd::simd::{JSON_MODE, SCRIPT_MODE};
 use std::alloc::Allocator;
 
-/// Returns the literal of a text, as [`escape`](escape_simd::json::escape) answers it, in a `String` that
+/// Returns the literal of a text, as [`escape`](escape_simd::json::escape) returns it, in a `String` that
 /// has room for it alone.
 ///
 /// One request is made, of `alloc`, which may be the caller's own: for the literal's own length, from
@@ -33,7 +33,7 @@ pub fn escape_compact<A: Allocator>(alloc: A, value: &str) -> Result<String<A>, 
 }
 
 /// Returns the literal of a text that can stand in a script element, as
-/// [`escape_script`](escape_simd::json::escape_script) answers it, in a `String` that has room for it alone.
+/// [`escape_script`](escape_simd::json::escape_script) returns it, in a `String` that has room for it alone.
 ///
 /// One request is made, of `alloc`, which may be the caller's own: for the literal's own length, from
 /// `n + 2` to `6 * n + 2` bytes for a text of `n` bytes.

@@ -5,7 +5,7 @@ use std::fmt;
 
 /// The JSON string literal of a text for `write!`, `print!` and `format!`, quotation marks included.
 ///
-/// `{}` writes what [`escape`](escape_simd::json::escape) answers, through an array of 3106 bytes at
+/// `{}` writes what [`escape`](escape_simd::json::escape) returns, through an array of 3106 bytes at
 /// most: no memory is asked for, and no text is too large. Width and fill are not applied.
 ///
 /// ```text

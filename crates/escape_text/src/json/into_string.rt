@@ -10,7 +10,7 @@ use escape_simd::json::EscapeError;
 use escape_simd::simd::{JSON_MODE, SCRIPT_MODE};
 use std::alloc::Allocator;
 
-/// Appends the literal of a text to `dst`, as [`escape`](escape_simd::json::escape) answers it.
+/// Appends the literal of a text to `dst`, as [`escape`](escape_simd::json::escape) returns it.
 ///
 /// It asks the allocator of `dst`, which may be the caller's own, for room for `6 * n + 35` bytes past
 /// those of `dst` where `dst` has less, and for no memory where it has that.
@@ -36,7 +36,7 @@ pub fn escape_into_string<A: Allocator>(value: &str, dst: &mut String<A>) -> Res
 }
 
 /// Appends the literal of a text that can stand in a script element to `dst`, as
-/// [`escape_script`](escape_simd::json::escape_script) answers it.
+/// [`escape_script`](escape_simd::json::escape_script) returns it.
 ///
 /// It asks the allocator of `dst`, which may be the caller's own, for room for `6 * n + 35` bytes past
 /// those of `dst` where `dst` has less, and for no memory where it has that.

@@ -10,7 +10,7 @@ use escape_simd::json::EscapeError;
 use escape_simd::simd::{JSON_MODE, SCRIPT_MODE};
 use std::alloc::Allocator;
 
-/// Appends the literals of the texts as [`escape`](escape_simd::json::escape) answers them, with
+/// Appends the literals of the texts as [`escape`](escape_simd::json::escape) returns them, with
 /// `between` between each two, and stops at the first text that is refused. Each text asks for its
 /// own room, of the vector's allocator.
 ///
@@ -46,7 +46,7 @@ pub fn escape_joined_into<A: Allocator>(
 }
 
 /// Appends a JSON array of the texts' literals (RFC 8259, section 5), as
-/// [`escape`](escape_simd::json::escape) answers them.
+/// [`escape`](escape_simd::json::escape) returns them.
 ///
 /// # Errors
 ///
@@ -67,7 +67,7 @@ pub fn escape_array_into<A: Allocator>(
 }
 
 /// Appends a JSON array of the texts' literals that can stand in a script element, as
-/// [`escape_script`](escape_simd::json::escape_script) answers them.
+/// [`escape_script`](escape_simd::json::escape_script) returns them.
 ///
 /// # Errors
 ///

@@ -9,7 +9,7 @@ use crate::writer::write_output;
 use escape_simd::simd::{JSON_MODE, SCRIPT_MODE};
 use std::io::{Result, Write};
 
-/// Writes the literal of a text to `writer`, as [`escape`](escape_simd::json::escape) answers it, and
+/// Writes the literal of a text to `writer`, as [`escape`](escape_simd::json::escape) returns it, and
 /// does not flush.
 ///
 /// It goes through an array of 3106 bytes at most: no memory is asked for, and no text is too large. A write
@@ -34,7 +34,7 @@ pub fn escape_to_writer<W: Write>(value: &str, writer: &mut W) -> Result<()>
 }
 
 /// Writes the literal of a text that can stand in a script element to `writer`, as
-/// [`escape_script`](escape_simd::json::escape_script) answers it, and does not flush.
+/// [`escape_script`](escape_simd::json::escape_script) returns it, and does not flush.
 ///
 /// It goes through an array of 3106 bytes at most: no memory is asked for, and no text is too large. A write
 /// that was interrupted is tried again. Each piece of a long text is a write of its own, so a writer for

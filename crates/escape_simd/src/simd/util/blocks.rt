@@ -24,7 +24,7 @@ const FIRST: [usize; 16] = [0, 1, 2, 3, 4, 5, 6, 7, 16, 17, 18, 19, 20, 21, 22, 
 /// The last eight lanes of a vector, and eight of another.
 const LAST: [usize; 16] = [8, 9, 10, 11, 12, 13, 14, 15, 24, 25, 26, 27, 28, 29, 30, 31];
 
-/// The text's 16 bytes at `at`.
+/// Returns the text's 16 bytes at `at`.
 #[inline(always)]
 fn load(src: &[u8], at: usize) -> u8x16
     requires { at + 16 ≤ length src.now }
@@ -33,7 +33,7 @@ fn load(src: &[u8], at: usize) -> u8x16
     u8x16::from_slice(&src[at..])
 }
 
-/// The letter of the control character's short escape, from its entry in the table, and 0 where it has none.
+/// Returns the letter of the control character's short escape, from its entry in the table, and 0 where it has none.
 #[inline(always)]
 fn letter(control: u8) -> u8
     requires { control < 0x20 }
@@ -43,7 +43,7 @@ fn letter(control: u8) -> u8
     if *length == 2 { escape[1] } else { 0 }
 }
 
-/// The letters of the control characters below 0x10.
+/// Returns the letters of the control characters below 0x10.
 #[rattlefmt::skip]
 #[inline(always)]
 fn letters() -> u8x16
@@ -55,7 +55,7 @@ fn letters() -> u8x16
     ])
 }
 
-/// The bytes, with the letter of its short escape in place of each control character that has one.
+/// Returns the bytes, with the letter of its short escape in place of each control character that has one.
 #[inline(always)]
 fn shorten(bytes: u8x16) -> u8x16
     requires { AreBytes 16 bytes }
@@ -67,7 +67,7 @@ fn shorten(bytes: u8x16) -> u8x16
     bytes.simd_max(letters().swizzle_dyn(places))
 }
 
-/// The text's vector at `at`, shortened, 16 bytes at a time: all of it is loaded before the first block is written.
+/// Returns the text's vector at `at`, shortened, 16 bytes at a time: all of it is loaded before the first block is written.
 #[inline(always)]
 fn shorten_vector<const N: usize>(src: &[u8], at: usize) -> [u8x16; 4]
     requires width { N ≡ 16 * (N / 16) }
@@ -84,7 +84,7 @@ fn shorten_vector<const N: usize>(src: &[u8], at: usize) -> [u8x16; 4]
     pieces
 }
 
-/// The reverse solidus that each short escape begins with, from an entry of the table.
+/// Returns the reverse solidus that each short escape begins with, from an entry of the table.
 #[inline(always)]
 fn solidus() -> u8
     ensures { result ≡ 0x5c }
@@ -92,7 +92,7 @@ fn solidus() -> u8
     json_entry(b'\\').1[0]
 }
 
-/// The half of the bytes that is the vector's block of that number, with eight reverse solidi behind it.
+/// Returns the half of the bytes that is the vector's block of that number, with eight reverse solidi behind it.
 #[inline(always)]
 fn half(bytes: u8x16, block: usize) -> u8x16
     requires { length bytes ≡ 16 }

@@ -2,45 +2,49 @@
 #![tactic(auto)]
 
 mod entries;
+mod filter;
 mod page;
 mod report;
-mod script_page;
 mod stack;
 
-use anyhow::Result;
 use entries::{Entry, append_entry};
-use page::{Row, append_page};
+use escape_simd::Refusal;
+use filter::filter;
+use page::append_page;
 use report::write_report;
-use script_page::append_user;
 use stack::write_label;
-use std::io::{self, Write};
+use std::alloc::Global;
+use std::io::{self, BufReader, ErrorKind, Write};
 
-fn main(rt: HostRuntime) -> Result<()> {
-    let name = "Ann \"</script><b>\" O'Hara";
-    let entries = [Entry {
-        level: "info",
-        message: name,
-    }];
+const NAME: &str = "Ann \"</script><b>\" O'Hara";
 
-    let mut log = Vec::new(rt.alloc());
-    append_entry(&entries[0], &mut log)?;
-    io::writer(&rt).write_all(log.as_slice())?;
+const ENTRIES: [Entry; 1] = [Entry {
+    level: "info",
+    message: NAME,
+}];
 
-    let mut page = String::new(rt.alloc());
-    let rows = [Row {
-        name,
-        note: "a & b",
-    }];
-    append_page("Guests", &[name, "Bo"], &rows, &mut page)?;
-    println!(rt; "{page}")?;
+fn main(rt: HostRuntime) -> io::Result<()> {
+    let mut output = io::writer(&rt);
 
-    let mut script = Vec::new(rt.alloc());
-    append_user(name, &["a<b", "c"], &mut script)?;
-    script.extend_from_slice(b"\n")?;
-    io::writer(&rt).write_all(script.as_slice())?;
+    // So short texts are refused for want of memory alone.
+    let Ok(bytes) = log_and_page(rt.alloc()) else {
+        return Err(ErrorKind::OutOfMemory.into());
+    };
+    output.write_all(bytes.as_slice())?;
 
-    write_report(&entries, &mut io::writer(&rt))?;
-    write_label("tab\there", &mut io::writer(&rt))?;
-    println!(rt; "")?;
-    Ok(())
+    write_report(&ENTRIES, &mut output)?;
+    write_label("tab\there", &mut output)?;
+    output.write_all(b"\n")?;
+
+    let mut input = BufReader::new(rt.alloc(), rt.reader())?;
+    filter(rt.alloc(), &mut input, &mut output)
+}
+
+/// A log and a page, each on a line of its own.
+fn log_and_page(alloc: Global) -> Result<Vec<u8>, Refusal> {
+    let mut bytes = Vec::new(alloc);
+    append_entry(&ENTRIES[0], &mut bytes)?;
+    append_page("Guests", &[NAME, "Bo"], NAME, &mut bytes)?;
+    bytes.push(b'\n')?;
+    Ok(bytes)
 }

@@ -1,69 +1,57 @@
-//! A page that is filled with texts from strangers.
-ghost use Rattle.std.specs.Prelude.{◌≡◌, ◌++◌, All, OnOk, flat_map, string_bytes, codes};
-ghost use Rattle.escape_lanes.specs.Mode.{html};
-ghost use Rattle.escape_simd.specs.Html.{IsMarkupFree};
+//! A page with a table of strangers' texts, and with data in a script element.
+ghost use Rattle.std.specs.Prelude.{◌≡◌, ◌++◌, All, OnOk, take, vec_len};
+ghost use Rattle.std.specs.List.{join_by};
+ghost use Rattle.escape_lanes.specs.Mode.{html, script};
+ghost use Rattle.escape_simd.specs.Escaping.{IsHarmlessHtml};
 ghost use Rattle.escape_simd.specs.Output.{plain};
-ghost use Rattle.escape_callers.specs.Written.{heading_of, item_of, row_of};
+ghost use Rattle.escape_simd.specs.Script.{IsSafeInScript};
 
-use escape_text::html::Escaped;
-use std::alloc::{AllocError, Allocator};
+use escape_simd::Refusal;
+use escape_simd::html::escape_html_into;
+use escape_simd::json::escape_script_into;
+use escape_text::html::escape_html_joined_into;
+use std::alloc::Allocator;
 
-/// A row of the page's table: a name, and a note that shows where one points at it.
-#[derive(Debug, Clone, Copy)]
-pub struct Row<'a> {
-    pub name: &'a str,
-    pub note: &'a str,
-}
+const BEFORE_TITLE: &[u8] = b"<h1>";
 
-/// Appends a heading, a list and a table. None of the texts can be markup.
+const BEFORE_NAMES: &[u8] = b"</h1><table><tr><th>Name</th></tr><tr><td>";
+
+const BETWEEN_NAMES: &str = "</td></tr><tr><td>";
+
+const BEFORE_USER: &[u8] = b"</td></tr></table><script id=\"user\" type=\"application/json\">";
+
+const AFTER_USER: &[u8] = b"</script>";
+
+/// Appends a heading, a table with a row for each name, and the user's name as data for a script.
+///
+/// With no names the table has one empty row. After an error the page holds its old bytes, and a part of
+/// the new ones.
 pub fn append_page<A: Allocator>(
     title: &str,
-    items: &[&str],
-    rows: &[Row<'_>],
-    page: &mut String<A>,
-) -> Result<(), AllocError>
-    ensures exact { OnOk result (string_bytes page.new ≡ string_bytes page.old
-        ++ heading_of title.now ++ flat_map (λ item. item_of item.now) items.now
-        ++ codes "</ul><table>" ++ flat_map row_of rows.now ++ codes "</table>") }
-    ensures title { OnOk result (IsMarkupFree (plain html title.now)) }
-    ensures items { OnOk result (All (λ item. IsMarkupFree (plain html item.now)) items.now) }
-    ensures rows { OnOk result (All (λ r. IsMarkupFree (plain html r.name.now)
-        × IsMarkupFree (plain html r.note.now)) rows.now) }
-{
-    let heading = Escaped(title);
-    write!(page, "<h1>{heading}</h1><ul>")?;
-    append_items(items, page)?;
-    page.push_str("</ul><table>")?;
-    append_rows(rows, page)?;
-    page.push_str("</table>")?;
-    Ok(())
-}
+    names: &[&str],
+    user: &str,
+    page: &mut Vec<u8, A>,
+) -> Result<(), Refusal>
+    ensures exact { OnOk result (page.new.items ≡ page.old.items
+        ++ BEFORE_TITLE.now ++ plain html title.now
+        ++ BEFORE_NAMES.now ++ join_by (λ name. plain html name.now) BETWEEN_NAMES.now names.now
+        ++ BEFORE_USER.now ++ plain script user.now ++ AFTER_USER.now) }
+    ensures front { take (vec_len page.old) page.new.items ≡ page.old.items }
 
-fn append_items<A: Allocator>(items: &[&str], page: &mut String<A>) -> Result<(), AllocError>
-    ensures { OnOk result (string_bytes page.new
-        ≡ string_bytes page.old ++ flat_map (λ item. item_of item.now) items.now) }
-{
-    for item in items {
-        let text = Escaped(item);
-        write!(page, "<li>{text}</li>")?;
-    }
-    Ok(())
-}
+    // No stranger's text is markup where it stands.
+    ensures title_no_markup { OnOk result (IsHarmlessHtml (plain html title.now)) }
+    ensures names_no_markup { OnOk result
+        (All (λ name. IsHarmlessHtml (plain html name.now)) names.now) }
 
-fn append_rows<A: Allocator>(rows: &[Row<'_>], page: &mut String<A>) -> Result<(), AllocError>
-    ensures { OnOk result (string_bytes page.new
-        ≡ string_bytes page.old ++ flat_map row_of rows.now) }
+    // Nothing that stands in the script element ends it.
+    ensures nothing_ends_script { OnOk result (IsSafeInScript (plain script user.now)) }
 {
-    for row in rows {
-        append_row(row, page)?;
-    }
+    page.extend_from_slice(BEFORE_TITLE)?;
+    escape_html_into(title, page)?;
+    page.extend_from_slice(BEFORE_NAMES)?;
+    escape_html_joined_into(names, BETWEEN_NAMES, page)?;
+    page.extend_from_slice(BEFORE_USER)?;
+    escape_script_into(user, page)?;
+    page.extend_from_slice(AFTER_USER)?;
     Ok(())
-}
-
-fn append_row<A: Allocator>(row: &Row<'_>, page: &mut String<A>) -> Result<(), AllocError>
-    ensures { OnOk result (string_bytes page.new ≡ string_bytes page.old ++ row_of row.now) }
-{
-    let note = Escaped(row.note);
-    let name = Escaped(row.name);
-    write!(page, "<tr><td title=\"{note}\">{name}</td></tr>")
 }

@@ -1,8 +1,8 @@
 //! Greets each name of standard input in a line of JSON and in HTML.
 #![tactic(auto)]
 
-use anyhow::Result;
 use escape_text::{html, json};
+use std::io::Result;
 
 fn main(rt: HostRuntime) -> Result<()> {
     for name in rt.lines(rt.alloc()) {

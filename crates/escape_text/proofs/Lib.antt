@@ -1,2 +1,3 @@
 pub mod ToWrite
 pub mod WriterLemmas
+pub mod ScriptLists

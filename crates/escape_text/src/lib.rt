@@ -26,3 +26,4 @@ mod writer;
 
 pub use list::ListError;
 pub use piecewise::{FRONT, PIECE};
+pub use writer::write_whole;

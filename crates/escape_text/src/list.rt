@@ -34,6 +34,15 @@ impl<E: fmt::Display> fmt::Display for ListError<E> {
 
 impl<E: std::error::Error> std::error::Error for ListError<E> {}
 
+impl<E: Into<Refusal>> From<ListError<E>> for Refusal {
+    ghost from_gives = { λ stop refusal. E.converts stop.reason refusal };
+
+    /// Returns the reason as a [`Refusal`]. So `?` serves a caller that also writes single texts.
+    fn from(stop: ListError<E>) -> Refusal {
+        stop.reason.into()
+    }
+}
+
 /// Appends what stands between, and the output for the text.
 fn append_after<const MODE: u8, A: Allocator>(
     between: &str,

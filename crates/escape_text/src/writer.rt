@@ -54,10 +54,19 @@ fn write_pieces<const MODE: u8, W: Write>(value: &str, writer: &mut W) -> Result
     Ok(())
 }
 
-/// Writes all the bytes. A write that was interrupted is tried again.
+/// Writes all the bytes to `writer`, and does not flush: `Write::write_all` with a promise of what an error
+/// leaves. A write that was interrupted is tried again.
 ///
-/// `Write::write_all` says nothing of the writer after an error.
-fn write_whole<W: Write>(bytes: &[u8], writer: &mut W) -> Result<()>
+/// # Errors
+///
+/// That of the first write that failed, and `WriteZero` where one took nothing. The writer has then
+/// taken a beginning of the bytes.
+///
+/// ```text
+/// json::escape_to_writer(name, &mut log)?;
+/// write_whole(b"\n", &mut log)?;
+/// ```
+pub fn write_whole<W: Write>(bytes: &[u8], writer: &mut W) -> Result<()>
     ensures whole { OnOk result
         (Appends (W.contents writer.old) (W.contents writer.new) bytes.now) }
     ensures beginning { OnErr result

@@ -2,6 +2,7 @@
 ghost use Rattle.std.specs.Prelude.{◌≡◌, ◌<◌, ◌≤◌, ◌↔◌, ◌++◌, length, take, All, OnOk, IfErr, IfSome, slice_get};
 ghost use Rattle.std.specs.List.{join_by};
 ghost use Rattle.escape_lanes.specs.Mode.{html};
+ghost use Rattle.escape_simd.specs.Escaping.{IsHarmlessHtml};
 ghost use Rattle.escape_simd.specs.Output.{plain, bound};
 
 use crate::list::{ListError, append_joined};
@@ -28,6 +29,7 @@ pub fn escape_html_joined_into<A: Allocator>(
 ) -> Result<(), ListError<EscapeHtmlError>>
     ensures exact { OnOk result (dst.new.items
         ≡ dst.old.items ++ join_by (λ v. plain html v.now) between.now values.now) }
+    ensures harmless { OnOk result (All (λ v. IsHarmlessHtml (plain html v.now)) values.now) }
     ensures fits { OnOk result (All (λ v. bound html (length v.now) ≤ usize.MAX) values.now) }
     ensures stopped { IfErr result (λ stop. dst.new.items ≡ dst.old.items
         ++ join_by (λ v. plain html v.now) between.now (take stop.written values.now)) }

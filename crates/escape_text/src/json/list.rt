@@ -4,6 +4,7 @@ ghost use Rattle.std.specs.List.{join_by};
 ghost use Rattle.escape_lanes.specs.Mode.{json, script};
 ghost use Rattle.escape_text.specs.Lists.{array_of};
 ghost use Rattle.escape_simd.specs.Output.{plain, bound};
+ghost use Rattle.escape_simd.specs.Script.{IsSafeInScript};
 
 use crate::list::{ListError, append_array, append_joined};
 use escape_simd::json::EscapeError;
@@ -82,6 +83,8 @@ pub fn escape_script_array_into<A: Allocator>(
 ) -> Result<(), EscapeError>
     ensures exact { OnOk result (dst.new.items
         ≡ dst.old.items ++ array_of (λ v. plain script v.now) values.now) }
+    ensures safe { OnOk result
+        (IsSafeInScript (array_of (λ v. plain script v.now) values.now)) }
     ensures unchanged { OnErr result (dst.new.items ≡ dst.old.items) }
 {
     Ok(append_array::<{ SCRIPT_MODE }, A>(values, dst)?)

@@ -75,7 +75,7 @@ impl<T: Drop> From<AllocFailed<T>> for EscapeHtmlError {
 
     ghost from_gives = { λ _ error. error ≡ OutOfMemory };
 
-    /// Returns [`EscapeHtmlError::OutOfMemory`], as for a `push` that was refused. The value is let go.
+    /// Returns [`EscapeHtmlError::OutOfMemory`], as for a `push` that was refused. The value is dropped.
     fn from(_refused: AllocFailed<T>) -> EscapeHtmlError {
         EscapeHtmlError::OutOfMemory
     }

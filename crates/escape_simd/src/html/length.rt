@@ -25,7 +25,7 @@ pub fn escaped_len(value: &str) -> Option<usize>
 /// Returns whether none of the bytes `"`, `&`, `'`, `/`, `<` and `>` is in the text:
 /// [`escape_html`](crate::html::escape_html) returns the text itself.
 ///
-/// No memory is allocated. The answer comes at the first vector that has one of them.
+/// No memory is allocated. The call returns at the first vector that has one of them.
 ///
 /// ```text
 /// is_clean("a\nb") == true

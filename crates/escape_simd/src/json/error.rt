@@ -46,7 +46,7 @@ impl<T: Drop> From<AllocFailed<T>> for EscapeError {
 
     ghost from_gives = { λ _ error. error ≡ OutOfMemory };
 
-    /// Returns [`EscapeError::OutOfMemory`], as for a `push` that was refused. The value is let go.
+    /// Returns [`EscapeError::OutOfMemory`], as for a `push` that was refused. The value is dropped.
     fn from(_refused: AllocFailed<T>) -> EscapeError {
         EscapeError::OutOfMemory
     }

@@ -40,7 +40,7 @@ pub fn script_len(value: &str) -> Option<usize>
 /// Returns whether no byte of the text needs an escape in a JSON string literal (RFC 8259, section 7): the
 /// literal is the text between quotation marks.
 ///
-/// No memory is allocated. The answer comes at the first vector that has a byte that is escaped.
+/// No memory is allocated. The call returns at the first vector that has a byte that is escaped.
 ///
 /// ```text
 /// is_clean("a/b") == true
@@ -55,7 +55,7 @@ pub fn is_clean(value: &str) -> bool
 /// Returns whether no character of the text needs an escape in a literal for a script element: the literal
 /// that [`escape_script`](crate::json::escape_script) returns is the text between quotation marks.
 ///
-/// No memory is allocated. The answer comes at the first vector that has a character that is escaped.
+/// No memory is allocated. The call returns at the first vector that has a character that is escaped.
 ///
 /// ```text
 /// is_script_clean("a\u{2026}") == true

@@ -1,6 +1,6 @@
 //! Appending what stands for a text's bytes, and the last quotation mark, to a vector that has room for it.
 //!
-//! Each form ends with the mark: so the calls of those that follow are the last that is done.
+//! Each form appends the last quotation mark itself, so that its call is the caller's last instruction.
 ghost use Rattle.std.specs.Prelude.{◌≡◌, ◌+◌, ◌*◌, ◌<◌, ◌≤◌, ◌++◌, length, vec_len, vec_capacity};
 ghost use Rattle.escape_simd.specs.Modes.{mode_numbered};
 ghost use Rattle.escape_simd.specs.Output.{inner, quote_of};

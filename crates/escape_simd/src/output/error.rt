@@ -71,7 +71,7 @@ impl<T: Drop> From<AllocFailed<T>> for Refusal {
 
     ghost from_gives = { λ _ refusal. refusal ≡ OutOfMemory };
 
-    /// Returns [`Refusal::OutOfMemory`], as for a `push` that was refused. The value is let go.
+    /// Returns [`Refusal::OutOfMemory`], as for a `push` that was refused. The value is dropped.
     fn from(_refused: AllocFailed<T>) -> Refusal {
         Refusal::from(AllocError)
     }

@@ -1,4 +1,4 @@
-//! Escaping in place: a vector is filled with zeros some way ahead of what is written in them.
+//! Escaping in place: the vector is filled with zeros ahead of what is written.
 ghost use Rattle.std.specs.Prelude.{◌≡◌, ◌+◌, ◌*◌, ◌<◌, ◌≤◌, ◌++◌, length, take, drop, vec_len, vec_capacity};
 ghost use Rattle.escape_lanes.specs.Bits.{bits_of};
 ghost use Rattle.escape_simd.specs.Modes.{mode_numbered};
@@ -10,7 +10,7 @@ use crate::output::{N, V};
 use crate::simd::{escape_at, escape_chunks, escape_flagged};
 use std::alloc::Allocator;
 
-/// What may stand for a chunk of four vectors, and a vector more.
+/// How many bytes the output for a chunk of four vectors may have, and a vector more.
 const CHUNK_ROOM: usize = 25 * N;
 
 /// Appends what stands for a text of fewer bytes than two vectors have, and the last quotation mark. Its flags are

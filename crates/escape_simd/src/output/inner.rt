@@ -1,4 +1,4 @@
-//! What stands for a text in the midst of a slice, with no quotation marks, and whether vectors of it are clean.
+//! An output without its quotation marks, written to a slice, and whether vectors of a text are clean.
 ghost use Rattle.std.specs.Prelude.{◌≡◌, ◌+◌, ◌*◌, ◌<◌, ◌≤◌, ◌++◌, true, false, length, take};
 ghost use Rattle.std.specs.List.{count_by};
 ghost use Rattle.escape_lanes.specs.Replacement.{needs_escape};

@@ -1,4 +1,4 @@
-//! How long the output for a text is, and whether the text stands for itself.
+//! The length of an output, and whether a text needs no escape.
 ghost use Rattle.std.specs.Prelude.{◌≡◌, ◌+◌, ◌<◌, ◌≤◌, ◌↔◌, true, false, length, IfSome, IsNone};
 ghost use Rattle.std.specs.List.{count_by};
 ghost use Rattle.escape_lanes.specs.Bits.{bits_of};
@@ -114,10 +114,10 @@ pub fn escaped_len<const MODE: u8>(value: &str) -> Option<usize>
     Some(total)
 }
 
-/// Returns whether the text stands for itself: the output for it is the text, between quotation marks where
-/// the mode has any.
+/// Returns whether nothing in the text needs an escape: the output is the text itself, between quotation marks in
+/// the modes that have them.
 ///
-/// No memory is allocated. The answer comes at the first vector that has a byte that is escaped.
+/// No memory is allocated. The call returns at the first vector that needs an escape.
 #[inline(never)]
 pub fn stands_for_itself<const MODE: u8>(value: &str) -> bool
     ensures itself { (result ≡ true) ↔ (inner (mode_numbered MODE) value.now ≡ value.now) }

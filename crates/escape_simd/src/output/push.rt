@@ -7,15 +7,16 @@ use crate::output::{N, V};
 use crate::simd::{HTML_MODE, Vector};
 use std::alloc::Allocator;
 
-/// How many bytes of a vector the calls that append fill with zeros at a time, where it has room for them.
+/// How many bytes of a vector are filled with zeros at a time, if it has room for them.
 ///
-/// What may stand for a text of fewer bytes than two vectors have is no longer. So many are stores and no call.
+/// The output for a text shorter than two vectors has at most as many bytes. The compiler makes stores of so many, and
+/// no call.
 pub const PIECE: usize = 448;
 
 /// Appends the bytes to a vector that has room for them.
 ///
-/// That it has room is asked all the same, and answered by `return`: so the compiler leaves out the call that
-/// asks for more, and the vector's length can stay in a register.
+/// It tests for room all the same, and returns if there is none: so the compiler removes the call that allocates,
+/// and keeps the vector's length in a register.
 #[inline(always)]
 pub(super) fn push_all<A: Allocator>(dst: &mut Vec<u8, A>, bytes: &[u8])
     requires { vec_len dst.old + length bytes.now ≤ vec_capacity dst.old }

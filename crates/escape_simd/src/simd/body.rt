@@ -35,7 +35,7 @@ pub(crate) fn escape_bytes<V: Vector<N>, const MODE: u8, const N: usize>(
 
 /// Escapes chunks of the text to `dst` from `to` on, as long as one more has room. Returns the places after them.
 ///
-/// The target is made here, so that its counts stay in registers, and are left out where no one asks for them.
+/// The target is made here: so the compiler keeps its counts in registers, or removes them.
 #[inline(never)]
 pub(crate) fn escape_chunks<V: Vector<N>, const MODE: u8, const N: usize>(
     src: &[u8],

@@ -13,8 +13,8 @@ use escape_lanes::simd::BitMask;
 use escape_lanes::simd::lane_bits::count_gaps;
 use escape_lanes::simd::target::{Target, Ticks};
 
-/// Returns how many blocks of eight a vector's first `valid` bytes take, but for the two that need no run to pay for their
-/// stores: one of them has an escape, and the vector itself pays for the other.
+/// Returns how many blocks of eight a vector's first `valid` bytes take, less two. A block without an escape counts as a
+/// stored vector: of the first two one has an escape, and the other counts for the vector itself.
 #[inline(always)]
 fn further_blocks(valid: usize) -> usize
     requires { valid ≤ 64 }
@@ -23,8 +23,8 @@ fn further_blocks(valid: usize) -> usize
     ((valid + 7) / 8).saturating_sub(2)
 }
 
-/// Returns whether the stores that turns would need after the vector's runs pay for those of its blocks. Of two blocks
-/// that is always so: then nothing has to be guessed of the flags.
+/// Returns whether the vector has a run that ends for each further block, so that its blocks count as no more stored
+/// vectors than its turns would. Up to 16 bytes take no further block, and then there is no branch on the flags.
 #[inline(always)]
 fn pay_for_blocks(flags: u64, valid: usize) -> bool
     requires { valid ≤ 64 }
@@ -33,8 +33,8 @@ fn pay_for_blocks(flags: u64, valid: usize) -> bool
     further_blocks(valid) <= count_gaps(flags, valid)
 }
 
-/// Classifies the text's vector at `at` for the count alone, as often as the blocks of its first `valid` bytes may count
-/// as stores, less the one time that it was classified.
+/// Classifies the text's vector at `at` once more for each further block of its first `valid` bytes: for the ticks alone,
+/// since each stored vector has to be classified.
 #[inline(always)]
 fn tick_for_blocks<V: Vector<N>, const MODE: u8, const N: usize>(
     src: &[u8],
@@ -81,8 +81,8 @@ pub(crate) fn escape_by_mask<V: Vector<N>, const MODE: u8, const N: usize, const
     (past_border::<MODE>(at + valid, at + passed), end)
 }
 
-/// Returns the place past a vector that ends at `border`: `next`, which is the border but in script mode. So in the other
-/// modes the place of the next vector is known without what was done to this one.
+/// Returns the place after a vector that ends at `border`: `next` in script mode, and the border in the other modes, where
+/// both are the same. So the next vector's address does not depend on this one's bytes.
 #[inline(always)]
 fn past_border<const MODE: u8>(border: usize, next: usize) -> usize
     requires { IsByteWise (mode_numbered MODE) → next ≡ border }

@@ -9,7 +9,7 @@ use escape_lanes::tables::{
     LINE_SEPARATOR, PARAGRAPH_SEPARATOR, html_entry, json_entry, script_entry,
 };
 
-/// Returns how many bytes stand for the byte, 0 where it stands for itself, and these bytes with zeros
+/// Returns how many bytes stand for the byte, 0 where it needs no escape, and these bytes with zeros
 /// after them.
 #[inline(always)]
 pub(crate) fn entry<const MODE: u8>(b: u8) -> &'static (u8, [u8; 8])

@@ -15,7 +15,7 @@ use escape_lanes::simd::lane_bits::shift_lanes;
 use escape_lanes::simd::target::{Target, Ticks};
 use escape_lanes::simd::{BitMask, Flags};
 
-/// Returns the lanes, and zeros after them: further vectors can be loaded there.
+/// Returns the lanes with zeros after them, so that a vector can be loaded from each lane on.
 #[inline(always)]
 fn hold<V: Vector<N>, const N: usize>(v: &V) -> [[u8; N]; 2]
     ensures { flat_map (λ row. row) result ≡ V.lanes v.now ++ replicate N 0 }

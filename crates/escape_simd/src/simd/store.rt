@@ -68,9 +68,9 @@ pub(crate) fn store<V: Vector<N>, const N: usize, const LAST: bool>(
     store_loaded::<V, N, LAST>(&v, src, from, left, target, to);
 }
 
-/// Classifies the text's vector at `from` for the count alone: what it returns is known from the mask that is held.
+/// Classifies the text's vector at `from` for the ticks alone: the caller's mask has its flags already.
 ///
-/// Nothing is left of it where it is built.
+/// The compiler removes the classification.
 #[inline]
 pub(crate) fn tick<V: Vector<N>, const MODE: u8, const N: usize>(
     src: &[u8],

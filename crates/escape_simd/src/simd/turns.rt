@@ -79,8 +79,8 @@ fn finish_vector<V: Vector<N>, const MODE: u8, const N: usize, const LAST: bool>
 ///
 /// The vector is stored. Then each turn passes the clean bytes before the next flagged one, writes what stands
 /// for that one, clears its lane, and where the next byte is clean stores the vector that begins there. The
-/// loop is left in its midst: so the compiler takes its first turn out, and a vector with one escape takes no
-/// branch.
+/// loop ends in the middle of a turn: so the compiler peels the first turn, and a vector with one escape takes no
+/// branch of the loop.
 #[inline(always)]
 pub(crate) fn turns<V: Vector<N>, const MODE: u8, const N: usize, const LAST: bool>(
     text: &[u8],

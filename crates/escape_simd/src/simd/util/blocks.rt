@@ -1,4 +1,4 @@
-//! The escapes of a vector in blocks: eight bytes at a time, with no question about a single one.
+//! The escapes of a vector in blocks of eight bytes, with no branch on a single byte.
 ghost use Rattle.std.specs.Prelude.{◌≡◌, ◌≢◌, ℕ, ◌+◌, ◌-◌, ◌*◌, ◌/◌, ◌%◌, ◌<◌, ◌≤◌, ◌++◌, false, true, List, [], length, take, drop, map, replicate, slice_index, slice_index_or};
 ghost use Rattle.std.specs.List.{range_with_len};
 ghost use Rattle.escape_lanes.specs.Bits.{bits_of};
@@ -125,8 +125,8 @@ fn put_block<const N: usize>(
     to + 8 + escapes
 }
 
-/// A bit for each of the text's 16 bytes at `at` that has no short escape. Of the bytes that need no escape
-/// it has some, and others not.
+/// Returns a bit for each of the text's 16 bytes at `at`: it is set if the byte needs an escape and has no short one. For a
+/// byte that needs no escape the bit means nothing.
 #[inline(always)]
 fn long_lanes<const MODE: u8>(src: &[u8], at: usize) -> u64
     requires mode { MODE ≢ 1 }

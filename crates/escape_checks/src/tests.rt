@@ -1,6 +1,8 @@
 //! What no clause says, over the public calls.
 mod borders;
+mod compact;
 mod differential;
+mod lengths;
 mod memory;
 mod messages;
 mod numbers;

@@ -18,11 +18,13 @@
 mod adapter;
 mod appended_text;
 mod compact;
+mod exact;
 pub mod html;
 pub mod json;
 mod list;
 mod piecewise;
 mod writer;
 
+pub use exact::write_exact;
 pub use list::ListError;
 pub use piecewise::{FRONT, PIECE};

@@ -13,10 +13,12 @@
  *
  * What every call keeps to:
  *
- * - Where the status is not ESCAPE_OK, the buffer is as it was, and `*count` is 0.
+ * - Where the status is not ESCAPE_OK, the buffer is as it was, and `*count` is 0. There is one exception:
+ *   at ESCAPE_TOO_SHORT of an `_exact` call, `*count` is the size that the output needs.
  * - Where it is ESCAPE_OK, the first `*count` bytes of the buffer are the output. No byte from the bound
  *   on has changed, and none that is a vector of the kernel (16, 32 or 64 bytes) or more past the output's
- *   end. The bytes between the output's end and these two limits may have changed.
+ *   end. The bytes between the output's end and these two limits may have changed; of an `_exact` call,
+ *   no byte past the output's end has.
  * - No memory is taken and no state is kept, so any thread may call at any time.
  *
  * What the caller owes: `text` points to `length` bytes, `buffer` to `room` bytes and `count` to one
@@ -44,14 +46,28 @@
 extern "C" {
 #endif
 
-/* What a call answers. Of several reasons to refuse, the one with the greatest number is told. */
+/* What a call answers. Of several reasons to refuse, the one with the greatest number is told. Bytes that
+ * are not UTF-8 have no output: for them the `_length` and `_exact` calls answer ESCAPE_NOT_UTF8. */
 typedef uint32_t escape_status;
 
-#define ESCAPE_OK UINT32_C(0)        /* the output is in the buffer */
+#define ESCAPE_OK UINT32_C(0)        /* the output is in the buffer; of `_length`, its size in the count */
 #define ESCAPE_NOT_UTF8 UINT32_C(1)  /* the text is not valid UTF-8 */
-#define ESCAPE_TOO_SHORT UINT32_C(2) /* the buffer has fewer bytes than the bound for this length */
-#define ESCAPE_TOO_LARGE UINT32_C(3) /* the bound for this length passes SIZE_MAX */
+#define ESCAPE_TOO_SHORT UINT32_C(2) /* the buffer is shorter than the bound; of `_exact`, than the output */
+#define ESCAPE_TOO_LARGE UINT32_C(3) /* the bound passes SIZE_MAX; of `_length` and `_exact`, the output */
 #define ESCAPE_NO_KERNEL UINT32_C(4) /* the number names no kernel */
+
+/* Returns the status in words, and "no such status" for a number that is none. It is here and not in the
+ * library, since a function that Rattle exports cannot return a pointer. */
+static inline const char *escape_status_text(escape_status status) {
+    switch (status) {
+    case ESCAPE_OK: return "escaped";
+    case ESCAPE_NOT_UTF8: return "the text is not valid UTF-8";
+    case ESCAPE_TOO_SHORT: return "the buffer is too short";
+    case ESCAPE_TOO_LARGE: return "the text is too large";
+    case ESCAPE_NO_KERNEL: return "there is no such kernel";
+    default: return "no such status";
+    }
+}
 
 /* The body that does the work. */
 typedef uint32_t escape_kernel;
@@ -93,6 +109,17 @@ escape_status escape_json_inner(escape_kernel kernel, const char *text, size_t l
 escape_status escape_json_inner_unchecked(escape_kernel kernel, const char *text, size_t length,
                                           char *buffer, size_t room, size_t *count);
 
+/* Writes to `*count` how many bytes the literal of the `length` bytes at `text` has, its quotation marks
+ * included. It reads the text once, and writes no output. */
+escape_status escape_json_length(const char *text, size_t length, size_t *count);
+
+/* Writes the literal to the front of the buffer, as escape_json does, and its size to `*count`. The buffer
+ * may be as short as the literal. Where it is shorter, the status is ESCAPE_TOO_SHORT, the buffer is as it
+ * was, and `*count` is the size that is needed. No byte past the literal is changed. There is no kernel to
+ * choose. It reads the text twice, so escape_json is faster. */
+escape_status escape_json_exact(const char *text, size_t length, char *buffer, size_t room,
+                                size_t *count);
+
 /* HTML, for text and for attribute values in quotation marks: `"`, `&`, `'`, `/`, `<` and `>` become
  * `&quot;`, `&amp;`, `&#x27;`, `&#x2f;`, `&lt;` and `&gt;`. */
 
@@ -109,6 +136,13 @@ escape_status escape_html(escape_kernel kernel, const char *text, size_t length,
 /* As escape_html, for a text that the caller knows to be UTF-8; see escape_json_unchecked. */
 escape_status escape_html_unchecked(escape_kernel kernel, const char *text, size_t length,
                                     char *buffer, size_t room, size_t *count);
+
+/* As escape_json_length, for HTML. */
+escape_status escape_html_length(const char *text, size_t length, size_t *count);
+
+/* As escape_json_exact, for HTML. */
+escape_status escape_html_exact(const char *text, size_t length, char *buffer, size_t room,
+                                size_t *count);
 
 /* Script: as JSON, and besides `<`, `>`, `&`, U+2028 and U+2029 are `\u003c`, `\u003e`, `\u0026`, `\u2028`
  * and `\u2029`. So the literal can stand in a script element of an HTML page: neither `</script` nor
@@ -135,6 +169,13 @@ escape_status escape_script_inner(escape_kernel kernel, const char *text, size_t
 /* As escape_script_inner, for a piece that the caller knows to be UTF-8; see escape_json_unchecked. */
 escape_status escape_script_inner_unchecked(escape_kernel kernel, const char *text, size_t length,
                                             char *buffer, size_t room, size_t *count);
+
+/* As escape_json_length, for the literal that escape_script writes. */
+escape_status escape_script_length(const char *text, size_t length, size_t *count);
+
+/* As escape_json_exact, for the literal that escape_script writes. */
+escape_status escape_script_exact(const char *text, size_t length, char *buffer, size_t room,
+                                  size_t *count);
 
 #ifdef __cplusplus
 }

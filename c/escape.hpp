@@ -22,26 +22,10 @@
 
 namespace escape {
 
-namespace detail {
-
-// Says in words what a status means.
-inline const char *escape_status_text(escape_status status) noexcept {
-    switch (status) {
-    case ESCAPE_OK: return "the output is in the buffer";
-    case ESCAPE_NOT_UTF8: return "the text is not valid UTF-8";
-    case ESCAPE_TOO_SHORT: return "the buffer is too short";
-    case ESCAPE_TOO_LARGE: return "the text is too large";
-    case ESCAPE_NO_KERNEL: return "there is no such kernel";
-    default: return "unknown status";
-    }
-}
-
-} // namespace detail
-
 // A call's status that is not ESCAPE_OK. what() is its text.
 class error : public std::runtime_error {
 public:
-    explicit error(escape_status status) : std::runtime_error(detail::escape_status_text(status)), status_(status) {}
+    explicit error(escape_status status) : std::runtime_error(escape_status_text(status)), status_(status) {}
     escape_status status() const noexcept { return status_; }
 
 private:

@@ -14,6 +14,8 @@ typedef unsigned char byte;
 enum { LONGEST = 700, KERNELS = 6, THREADS = 4, RANDOM_TEXTS = 100000 };
 
 typedef escape_status call(escape_kernel, const char *, size_t, char *, size_t, size_t *);
+typedef escape_status length_call(const char *, size_t, size_t *);
+typedef escape_status exact_call(const char *, size_t, char *, size_t, size_t *);
 
 /* What a byte loop writes for the byte at the front of a text, and how many bytes of it that stands for. */
 typedef size_t replacement(const byte *text, size_t length, char out[8], size_t *passed);
@@ -24,6 +26,8 @@ struct mode {
     call *checked, *unchecked;
     /* of a piece; HTML has no quotation marks, so its pieces are texts */
     call *inner, *inner_unchecked;
+    length_call *length;
+    exact_call *exact;
     replacement *replace;
     size_t quotes, slack;
 };
@@ -88,11 +92,11 @@ static size_t script_replacement(const byte *text, size_t length, char out[8], s
 
 static const struct mode MODES[] = {
     {"json", escape_json_bound, escape_json, escape_json_unchecked, escape_json_inner, escape_json_inner_unchecked,
-     json_replacement, 2, 35},
+     escape_json_length, escape_json_exact, json_replacement, 2, 35},
     {"html", escape_html_bound, escape_html, escape_html_unchecked, escape_html, escape_html_unchecked,
-     html_replacement, 0, 32},
+     escape_html_length, escape_html_exact, html_replacement, 0, 32},
     {"script", escape_script_bound, escape_script, escape_script_unchecked, escape_script_inner, escape_script_inner_unchecked,
-     script_replacement, 2, 35},
+     escape_script_length, escape_script_exact, script_replacement, 2, 35},
 };
 enum { MODE_COUNT = sizeof MODES / sizeof MODES[0] };
 
@@ -207,6 +211,37 @@ static void refused(const struct mode *mode, const char *what, call *escape, esc
     if (count != 0) fault("%s, %s, kernel %u: a count of %zu", mode->name, what, (unsigned)kernel, count);
     for (at = 0; at < sizeof buffer; at++)
         if (buffer[at] != CANARY) { fault("%s, %s, kernel %u: the buffer has changed", mode->name, what, (unsigned)kernel); break; }
+}
+
+/* Whether the bytes are all as they were before a call. */
+static int is_untouched(const byte *bytes, size_t size) {
+    size_t at;
+    for (at = 0; at < size; at++)
+        if (bytes[at] != CANARY) return 0;
+    return 1;
+}
+
+/* An `_exact` call into a buffer of `room` bytes that ends at `end`, with a canary before it. What it writes is
+ * to be `expected`, and it is to be refused where the buffer is shorter. Answers whether all is right. */
+static int fills(const struct mode *mode, const byte *text, size_t length, byte *end, size_t room, const char *expected, size_t size) {
+    byte *buffer = end - room;
+    size_t count = 12345;
+    escape_status status;
+    memset(buffer - 1, CANARY, room + 1);
+    status = mode->exact((const char *)text, length, (char *)buffer, room, &count);
+    if (count != size || !is_untouched(buffer - 1, 1)) return 0;
+    if (room < size) return status == ESCAPE_TOO_SHORT && is_untouched(buffer, room);
+    return status == ESCAPE_OK && !memcmp(buffer, expected, size) && is_untouched(buffer + size, room - size);
+}
+
+/* The calls by the output's own length: that length, and buffers at `end` of the length, a byte shorter, of none,
+ * and longer by one byte and by PAST. Answers whether all is right. */
+static int is_exact(const struct mode *mode, const byte *text, size_t length, byte *end, const char *expected, size_t size) {
+    size_t count = 12345;
+    if (mode->length((const char *)text, length, &count) != ESCAPE_OK || count != size) return 0;
+    return fills(mode, text, length, end, size, expected, size) && fills(mode, text, length, end, size + 1, expected, size)
+        && fills(mode, text, length, end, size + PAST, expected, size) && fills(mode, text, length, end, 0, expected, size)
+        && (!size || fills(mode, text, length, end, size - 1, expected, size));
 }
 
 /* --- the tests ----------------------------------------------------------------------------------- */
@@ -341,6 +376,7 @@ static void test_kernels(void) {
 /* Random texts through one mode and kernel each, all of them in turn. Answers how many were wrong. */
 static size_t random_texts(uint64_t seed, size_t texts) {
     byte text[LONGEST + 8], buffer[6 * LONGEST + 35 + PAST];
+    char expected[6 * LONGEST + 16];
     uint64_t state = seed;
     size_t n, wrong = 0;
     for (n = 0; n < texts; n++) {
@@ -351,13 +387,14 @@ static size_t random_texts(uint64_t seed, size_t texts) {
         wrong += !is_right(mode, mode->unchecked, kernel, text, length, buffer, 1);
         wrong += !is_right(mode, mode->inner, kernel, text, length, buffer, 1);
         wrong += !is_right(mode, mode->inner_unchecked, kernel, text, length, buffer, 1);
+        wrong += !is_exact(mode, text, length, buffer + sizeof buffer, expected, model(mode, text, length, expected));
     }
     return wrong;
 }
 
 static void test_random_texts(void) {
     size_t wrong = random_texts(2463534242u, RANDOM_TEXTS);
-    if (wrong) fault("%zu of %d", wrong, 4 * RANDOM_TEXTS);
+    if (wrong) fault("%zu of %d", wrong, 5 * RANDOM_TEXTS);
 }
 
 /* The outputs of a text's pieces, one after another in one buffer, between the quotation marks. */
@@ -383,6 +420,164 @@ static void test_pieces(void) {
         if (mode->quotes) output[end++] = '"';
         if (end != size || memcmp(output, expected, size)) fault("%s, kernel %u, %zu bytes", mode->name, (unsigned)kernel, length);
     }
+}
+
+/* A text, its size, and what is written for it in each mode, in the order of MODES: RFC 8259, section 7, the six
+ * entities of HTML, and the escapes of a script element. */
+struct row {
+    const char *text;
+    size_t length;
+    const char *outputs[MODE_COUNT];
+};
+
+static const struct row ROWS[] = {
+    {"", 0, {"\"\"", "", "\"\""}},
+    {"a", 1, {"\"a\"", "a", "\"a\""}},
+    {"\"", 1, {"\"\\\"\"", "&quot;", "\"\\\"\""}},
+    {"\\", 1, {"\"\\\\\"", "\\", "\"\\\\\""}},
+    {"/", 1, {"\"/\"", "&#x2f;", "\"/\""}},
+    {"a'b", 3, {"\"a'b\"", "a&#x27;b", "\"a'b\""}},
+    {"a&b", 3, {"\"a&b\"", "a&amp;b", "\"a\\u0026b\""}},
+    {"<b>", 3, {"\"<b>\"", "&lt;b&gt;", "\"\\u003cb\\u003e\""}},
+    {"\b\t\n\f\r", 5, {"\"\\b\\t\\n\\f\\r\"", "\b\t\n\f\r", "\"\\b\\t\\n\\f\\r\""}},
+    {"\x01\x1f\x7f", 3, {"\"\\u0001\\u001f\x7f\"", "\x01\x1f\x7f", "\"\\u0001\\u001f\x7f\""}},
+    {"\xc3\xa9\xf0\x9f\x98\x80", 6, {"\"\xc3\xa9\xf0\x9f\x98\x80\"", "\xc3\xa9\xf0\x9f\x98\x80", "\"\xc3\xa9\xf0\x9f\x98\x80\""}},
+    {"\xe2\x80\xa8\xe2\x80\xa9\xe2\x80\xa7", 9,
+     {"\"\xe2\x80\xa8\xe2\x80\xa9\xe2\x80\xa7\"", "\xe2\x80\xa8\xe2\x80\xa9\xe2\x80\xa7", "\"\\u2028\\u2029\xe2\x80\xa7\""}},
+};
+
+/* Both pages of a test: `source` for texts and `target` for buffers. Each ends before a page that is forbidden. */
+struct pages {
+    byte *source, *target;
+    size_t size;
+};
+
+static struct pages pages_for(size_t longest) {
+    size_t page = (size_t)sysconf(_SC_PAGESIZE), count = (6 * longest + 35 + PAST) / page + 2;
+    struct pages pages;
+    pages.source = fenced(count);
+    pages.target = fenced(count);
+    pages.size = count * page;
+    return pages;
+}
+
+/* `is_exact` with the text and each buffer at a page's end. */
+static int is_exact_at_end(const struct pages *pages, const struct mode *mode, const byte *text, size_t length, const char *expected, size_t size) {
+    byte *text_at = pages->source + pages->size - length;
+    memcpy(text_at, text, length);
+    return is_exact(mode, text_at, length, pages->target + pages->size, expected, size);
+}
+
+static void test_exact_rows(void) {
+    struct pages pages = pages_for(16);
+    size_t r, m;
+    for (r = 0; r < sizeof ROWS / sizeof ROWS[0]; r++)
+        for (m = 0; m < MODE_COUNT; m++) {
+            const char *output = ROWS[r].outputs[m];
+            if (!is_exact_at_end(&pages, &MODES[m], (const byte *)ROWS[r].text, ROWS[r].length, output, strlen(output))) fault("%s, row %zu", MODES[m].name, r);
+        }
+}
+
+/* A byte 0 is a character like others, also the last one. */
+static void test_exact_zeros(void) {
+    static const char *const OUTPUTS[MODE_COUNT] = {"\"a\\u0000\\u0000\"", "a\0\0", "\"a\\u0000\\u0000\""};
+    static const size_t SIZES[MODE_COUNT] = {15, 3, 15};
+    struct pages pages = pages_for(3);
+    size_t m;
+    for (m = 0; m < MODE_COUNT; m++)
+        if (!is_exact_at_end(&pages, &MODES[m], (const byte *)"a\0\0", 3, OUTPUTS[m], SIZES[m])) fault("%s", MODES[m].name);
+}
+
+enum { LONG = 16384 + 4 };
+
+/* Long texts of nine lengths one after another, so that a character of each size stands at each place where a
+ * piece can end: in the text's last bytes, and throughout. */
+static void test_exact_lengths(void) {
+    static const size_t NEAR[] = {79, 512, 1024, 8192, 16384};
+    static const char *const CHARACTERS[] = {"a", "\"", "<", "\x01", "\xc3\xa9", "\xe2\x80\xa8", "\xf0\x9f\x98\x80"};
+    static char expected[6 * (LONG + 8) + 2];
+    static byte text[LONG + 8];
+    struct pages pages = pages_for(LONG + 8);
+    size_t n, c, length, way, m, at;
+    for (n = 0; n < sizeof NEAR / sizeof NEAR[0]; n++)
+        for (length = NEAR[n] - 4; length <= NEAR[n] + 4; length++)
+            for (c = 0; c < sizeof CHARACTERS / sizeof CHARACTERS[0]; c++)
+                for (way = 0; way < 3; way++) {
+                    /* letters, and at the end eight of the character; letters, and one; the character throughout */
+                    size_t size = strlen(CHARACTERS[c]), marked = way == 0 ? 8 * size : way == 1 ? size : length;
+                    memset(text, 'a', length);
+                    for (at = length - marked; at + size <= length; at += size) memcpy(text + at, CHARACTERS[c], size);
+                    for (m = 0; m < MODE_COUNT; m++)
+                        if (!is_exact_at_end(&pages, &MODES[m], text, length, expected, model(&MODES[m], text, length, expected))) fault("%s, %zu bytes, character %zu, way %zu", MODES[m].name, length, c, way);
+                }
+}
+
+/* Text and buffer at a page's end, and then at a page's start, at each size of a few vectors. */
+static void test_exact_forbidden_pages(void) {
+    struct pages pages = pages_for(LONGEST);
+    byte text[LONGEST + 8];
+    char expected[6 * LONGEST + 16];
+    uint64_t state = 88172645463325252u;
+    size_t length, m, count;
+    for (length = 0; length < 330; length++) {
+        size_t filled = 0;
+        while (filled < length) {
+            uint64_t pick = next(&state);
+            size_t size = pick % 4 ? (text[filled] = 'a', 1) : character(pick >> 2, text + filled);
+            if (filled + size <= length) filled += size;
+        }
+        for (m = 0; m < MODE_COUNT; m++) {
+            size_t size = model(&MODES[m], text, length, expected);
+            if (!is_exact_at_end(&pages, &MODES[m], text, length, expected, size)) fault("%s, %zu bytes at a page's end", MODES[m].name, length);
+            memcpy(pages.source, text, length);
+            if (MODES[m].exact((const char *)pages.source, length, (char *)pages.target, size, &count) != ESCAPE_OK || count != size || memcmp(pages.target, expected, size)) fault("%s, %zu bytes at a page's start", MODES[m].name, length);
+        }
+    }
+}
+
+/* Bytes that are no text: that is told, and not that the buffer is too short. */
+static void test_exact_not_utf8(void) {
+    static const char *const BROKEN[] = {"\xff", "\x80", "\xc0\x80", "\xe2\x80", "\xe2\x82z", "\xed\xa0\x80", "\xf4\x90\x80\x80", "\xf0\x9f\x98"};
+    static const size_t BEFORE[] = {0, 1, 31, 32, 78, 79, 511, 512, 8191, 8192, 9000};
+    static byte text[9010], buffer[6 * 9010 + 2];
+    size_t b, m, n, end, room, count;
+    for (b = 0; b < sizeof BROKEN / sizeof BROKEN[0]; b++)
+        for (n = 0; n < sizeof BEFORE / sizeof BEFORE[0]; n++)
+            for (m = 0; m < MODE_COUNT; m++) {
+                end = BEFORE[n] + strlen(BROKEN[b]);
+                memset(text, '<', BEFORE[n]);
+                memcpy(text + BEFORE[n], BROKEN[b], end - BEFORE[n]);
+                count = 12345;
+                if (MODES[m].length((const char *)text, end, &count) != ESCAPE_NOT_UTF8 || count != 0) fault("%s, %zu bytes, text %zu: its length", MODES[m].name, end, b);
+                for (room = 0; room <= sizeof buffer; room += sizeof buffer) {
+                    memset(buffer, CANARY, sizeof buffer);
+                    count = 12345;
+                    if (MODES[m].exact((const char *)text, end, (char *)buffer, room, &count) != ESCAPE_NOT_UTF8 || count != 0 || !is_untouched(buffer, sizeof buffer)) fault("%s, %zu bytes, text %zu", MODES[m].name, end, b);
+                }
+            }
+}
+
+/* A null pointer is an empty text, and with a room of 0 a buffer of no bytes: HTML needs none, a literal two. */
+static void test_exact_null(void) {
+    static const size_t SIZES[MODE_COUNT] = {2, 0, 2};
+    size_t m, count;
+    char buffer[2];
+    for (m = 0; m < MODE_COUNT; m++) {
+        count = 12345;
+        if (MODES[m].length(NULL, 0, &count) != ESCAPE_OK || count != SIZES[m]) fault("%s: a length of %zu", MODES[m].name, count);
+        count = 12345;
+        if (MODES[m].exact(NULL, 0, NULL, 0, &count) != (SIZES[m] ? ESCAPE_TOO_SHORT : ESCAPE_OK) || count != SIZES[m]) fault("%s: no buffer", MODES[m].name);
+        count = 12345;
+        if (MODES[m].exact(NULL, 0, buffer, 2, &count) != ESCAPE_OK || count != SIZES[m] || memcmp(buffer, "\"\"", SIZES[m])) fault("%s: no text", MODES[m].name);
+    }
+}
+
+static void test_status_texts(void) {
+    static const char *const TEXTS[] = {"escaped", "the text is not valid UTF-8", "the buffer is too short", "the text is too large", "there is no such kernel", "no such status"};
+    escape_status status;
+    for (status = ESCAPE_OK; status <= ESCAPE_NO_KERNEL + 1; status++)
+        if (strcmp(escape_status_text(status), TEXTS[status])) fault("%u: %s", (unsigned)status, escape_status_text(status));
+    if (strcmp(escape_status_text(UINT32_MAX), "no such status")) fault("the greatest number: %s", escape_status_text(UINT32_MAX));
 }
 
 static void *run_thread(void *seed) {
@@ -416,6 +611,13 @@ int main(void) {
     test("every kernel at every border, canaries past both limits", test_kernels);
     test("100,000 random texts against a byte loop", test_random_texts);
     test("texts in pieces", test_pieces);
+    test("exact: worked rows in each mode", test_exact_rows);
+    test("exact: bytes 0", test_exact_zeros);
+    test("exact: long texts, with characters at the ends of pieces", test_exact_lengths);
+    test("exact: source and target flush against forbidden pages", test_exact_forbidden_pages);
+    test("exact: bytes that are not UTF-8", test_exact_not_utf8);
+    test("exact: null is an empty text", test_exact_null);
+    test("what a status says", test_status_texts);
     test("four threads at once", test_threads);
     return failed_tests != 0;
 }

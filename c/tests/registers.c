@@ -10,6 +10,17 @@ enum { LONGEST = 200, TEXTS = 12, KERNELS = 6 };
 
 typedef escape_status call(escape_kernel, const char *, size_t, char *, size_t, size_t *);
 
+/* The calls that take no kernel. Of all modes they are one function in the library. */
+static escape_status json_length(escape_kernel kernel, const char *text, size_t length, char *buffer, size_t room, size_t *count) {
+    (void)kernel, (void)buffer, (void)room;
+    return escape_json_length(text, length, count);
+}
+
+static escape_status json_exact(escape_kernel kernel, const char *text, size_t length, char *buffer, size_t room, size_t *count) {
+    (void)kernel;
+    return escape_json_exact(text, length, buffer, room, count);
+}
+
 static const struct {
     const char *name;
     call *escape;
@@ -18,6 +29,8 @@ static const struct {
     {"json_unchecked", escape_json_unchecked},
     {"json_inner", escape_json_inner},
     {"json_inner_unchecked", escape_json_inner_unchecked},
+    {"json_length", json_length},
+    {"json_exact", json_exact},
     {"html", escape_html},
     {"html_unchecked", escape_html_unchecked},
     {"script", escape_script},

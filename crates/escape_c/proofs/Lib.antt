@@ -1,1 +1,2 @@
+pub mod ExactLemmas
 pub mod PieceLemmas

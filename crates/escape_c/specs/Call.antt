@@ -4,7 +4,7 @@ use Rattle.std.proofs.Common.{zero, suc}
 use Rattle.escape_lanes.specs.Mode.{json, html, script}
 use Rattle.escape_lanes.specs.Mode as meaning
 use Rattle.escape_simd.specs.Kernels.{lanes_of}
-use Rattle.escape_simd.specs.Output.{bound, inner}
+use Rattle.escape_simd.specs.Output.{bound, inner, plain}
 use Rattle.escape_simd.specs.declared.Kernel.{Kernel}
 use Rattle.escape_simd.specs.declared.Kernel.TheVariants.{V128, Sse2, Neon, Avx2, Avx512}
 use Rattle.escape_c.specs.declared.call.Mode.{Mode}
@@ -62,3 +62,27 @@ Refuses mode kernel text room NotUtf8 =
 abbrev pub JoinsPieces : meaning.Mode → List ℕ → List ℕ → Type 0
 JoinsPieces mode text output = (before after : List ℕ) → IsUtf8 before
     → inner mode (before ++ (text ++ after)) ≡ inner mode before ++ (output ++ inner mode after)
+
+-- The bytes are a text, and the output for it has a length that can be told. Only a text has an output.
+pub record HasLength (mode : meaning.Mode) (text : List ℕ) : Type 0 where
+  pub is_text : IsUtf8 text
+  pub fits : length (plain mode text) < 2 ^ 64
+
+-- why they have none
+abbrev pub RefusesLength : meaning.Mode → List ℕ → Refusal → Type 0
+RefusesLength mode text NoKernel = ⊥
+RefusesLength mode text TooLarge = IsUtf8 text × (2 ^ 64 ≤ length (plain mode text))
+RefusesLength mode text TooShort = ⊥
+RefusesLength mode text NotUtf8 = ¬ (IsUtf8 text)
+
+-- they have, and a buffer of so many bytes has room for the output
+pub record AcceptsExact (mode : meaning.Mode) (text : List ℕ) (room : ℕ) : Type 0 where
+  pub has_length : HasLength mode text
+  pub has_room : length (plain mode text) ≤ room
+
+-- why it is not written to that buffer
+abbrev pub RefusesExact : meaning.Mode → List ℕ → ℕ → Refusal → Type 0
+RefusesExact mode text room NoKernel = ⊥
+RefusesExact mode text room TooLarge = RefusesLength mode text TooLarge
+RefusesExact mode text room TooShort = HasLength mode text × (room < length (plain mode text))
+RefusesExact mode text room NotUtf8 = RefusesLength mode text NotUtf8

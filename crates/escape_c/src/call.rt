@@ -93,7 +93,7 @@ fn kernel_for(mode: Mode, kernel: u32, len: usize, room: usize) -> Result<Kernel
 
 /// The bytes as a text, where they are one.
 #[inline(always)]
-fn as_text(bytes: &[u8]) -> Result<&str, Refusal>
+pub(crate) fn as_text(bytes: &[u8]) -> Result<&str, Refusal>
     ensures text { IfOk result (λ text. text.now ≡ bytes.now) }
     ensures ok { IsOk result ↔ IsUtf8 bytes.now }
     ensures err { OnErr result (result ≡ Err Refusal.NotUtf8) }
@@ -139,7 +139,7 @@ fn format_inner(mode: Mode, kernel: Kernel, text: &str, buffer: &mut [u8]) -> us
 }
 
 /// The count goes out through `count`, which is 0 after a refusal. Answers the status.
-fn status(written: Result<usize, Refusal>, count: &mut usize) -> u32
+pub(crate) fn status(written: Result<usize, Refusal>, count: &mut usize) -> u32
     ensures refused { (why : Refusal) → (result ≡ status_of why) ↔ (written ≡ Err why) }
     ensures ok { (result ≡ 0) ↔ IsOk written }
     ensures count { IfOk written (λ bytes. count.new ≡ bytes) }

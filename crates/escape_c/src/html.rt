@@ -1,14 +1,17 @@
 //! HTML.
-ghost use Rattle.std.specs.Prelude.{◌≡◌, ◌≢◌, ◌≤◌, ◌<◌, ◌^◌, ◌↔◌, length, take, chars, IsUtf8};
+ghost use Rattle.std.specs.Prelude.{◌≡◌, ◌≢◌, ◌≤◌, ◌<◌, ◌^◌, ◌↔◌, length, take, drop, chars, IsUtf8};
 ghost use Rattle.escape_lanes.specs.Mode.{html};
+ghost use Rattle.escape_simd.specs.Escaping.{IsEscaping};
 ghost use Rattle.escape_simd.specs.Formatted.{IsWritten};
 ghost use Rattle.escape_simd.specs.Html.{IsOnlyHtml};
 ghost use Rattle.escape_simd.specs.Laws.{IsOfOneText, AgreesWithEach};
-ghost use Rattle.escape_simd.specs.Output.{bound};
+ghost use Rattle.escape_simd.specs.Output.{bound, plain};
 ghost use Rattle.escape_c.specs.declared.call.Refusal.{Refusal};
-ghost use Rattle.escape_c.specs.Call.{lanes_numbered, status_of, Accepts, Refuses};
+ghost use Rattle.escape_c.specs.Call.{lanes_numbered, status_of, Accepts, AcceptsExact, HasLength, Refuses, RefusesExact, RefusesLength};
 
 use crate::call::{self, Mode};
+use crate::exact::{escape_exact, escape_length};
+use escape_simd::simd::HTML_MODE;
 
 /// Returns how many bytes a buffer must have for a text of `length` bytes: `6 * length + 32`, or
 /// 0 where that passes `SIZE_MAX`.
@@ -67,4 +70,41 @@ pub extern "C" fn escape_html_unchecked(
     ensures unchanged { result ≢ 0 → (buffer.new ≡ buffer.old) × (count.new ≡ 0) }
 {
     call::escape_unchecked(Mode::Html, kernel, text, buffer, count)
+}
+
+/// Writes to `count` how many bytes the HTML of the text has, and returns the status.
+///
+/// # Errors
+///
+/// 1: the text is not UTF-8. 3: the length exceeds `SIZE_MAX`. `count` is then 0.
+#[unsafe(no_mangle)]
+pub extern "C" fn escape_html_length(text: &[u8], count: &mut usize) -> u32
+    ensures refused { (why : Refusal) → (result ≡ status_of why) ↔ RefusesLength html text.now why }
+    ensures ok { (result ≡ 0) ↔ HasLength html text.now }
+    ensures exact { result ≡ 0 → count.new ≡ length (plain html text.now) }
+    ensures none { result ≢ 0 → count.new ≡ 0 }
+{
+    escape_length::<{ HTML_MODE }>(text, count)
+}
+
+/// Writes the text as HTML to the front of `buffer`, which has room for it, and returns the status.
+/// `count` gets how many bytes that has. The bytes after it are unchanged.
+///
+/// # Errors
+///
+/// 1: the text is not UTF-8. 2: `buffer` is shorter than the output. 3: the output's length exceeds `SIZE_MAX`.
+/// `buffer` is then unchanged. `count` is the output's length at 2, and 0 at 1 and 3.
+#[unsafe(no_mangle)]
+pub extern "C" fn escape_html_exact(text: &[u8], buffer: &mut [u8], count: &mut usize) -> u32
+    ensures refused { (why : Refusal) → (result ≡ status_of why)
+        ↔ RefusesExact html text.now (length buffer.old) why }
+    ensures ok { (result ≡ 0) ↔ AcceptsExact html text.now (length buffer.old) }
+    ensures len { result ≡ 0 → count.new ≡ length (plain html text.now) }
+    ensures output { result ≡ 0 → IsEscaping html text.now (take count.new buffer.new) }
+    ensures kept { result ≡ 0 → drop count.new buffer.new ≡ drop count.new buffer.old }
+    ensures unchanged { result ≢ 0 → buffer.new ≡ buffer.old }
+    ensures needed { result ≡ status_of Refusal.TooShort → count.new ≡ length (plain html text.now) }
+    ensures none { result ≢ 0 → result ≢ status_of Refusal.TooShort → count.new ≡ 0 }
+{
+    escape_exact::<{ HTML_MODE }>(text, buffer, count)
 }

@@ -1,14 +1,17 @@
 //! JSON string literals.
-ghost use Rattle.std.specs.Prelude.{◌≡◌, ◌≢◌, ◌≤◌, ◌<◌, ◌^◌, ◌↔◌, length, take, chars, IsUtf8};
+ghost use Rattle.std.specs.Prelude.{◌≡◌, ◌≢◌, ◌≤◌, ◌<◌, ◌^◌, ◌↔◌, length, take, drop, chars, IsUtf8};
 ghost use Rattle.escape_lanes.specs.Mode.{json};
+ghost use Rattle.escape_simd.specs.Escaping.{IsEscaping};
 ghost use Rattle.escape_simd.specs.Formatted.{IsInnerWritten, IsWritten};
 ghost use Rattle.escape_simd.specs.Json.{IsOnlyJson};
 ghost use Rattle.escape_simd.specs.Laws.{IsOfOneText, AgreesWithEach};
-ghost use Rattle.escape_simd.specs.Output.{bound, quoted};
+ghost use Rattle.escape_simd.specs.Output.{bound, plain, quoted};
 ghost use Rattle.escape_c.specs.declared.call.Refusal.{Refusal};
-ghost use Rattle.escape_c.specs.Call.{lanes_numbered, status_of, Accepts, JoinsPieces, Refuses};
+ghost use Rattle.escape_c.specs.Call.{lanes_numbered, status_of, Accepts, AcceptsExact, HasLength, JoinsPieces, Refuses, RefusesExact, RefusesLength};
 
 use crate::call::{self, Mode};
+use crate::exact::{escape_exact, escape_length};
+use escape_simd::simd::JSON_MODE;
 
 /// Returns how many bytes a buffer must have for a text of `length` bytes: `6 * length + 35`, or
 /// 0 where that passes `SIZE_MAX`.
@@ -119,4 +122,41 @@ pub extern "C" fn escape_json_inner_unchecked(
     ensures unchanged { result ≢ 0 → (buffer.new ≡ buffer.old) × (count.new ≡ 0) }
 {
     call::escape_inner_unchecked(Mode::Json, kernel, text, buffer, count)
+}
+
+/// Writes to `count` how many bytes the literal of the text has, its quotation marks included, and returns the status.
+///
+/// # Errors
+///
+/// 1: the text is not UTF-8. 3: the length exceeds `SIZE_MAX`. `count` is then 0.
+#[unsafe(no_mangle)]
+pub extern "C" fn escape_json_length(text: &[u8], count: &mut usize) -> u32
+    ensures refused { (why : Refusal) → (result ≡ status_of why) ↔ RefusesLength json text.now why }
+    ensures ok { (result ≡ 0) ↔ HasLength json text.now }
+    ensures exact { result ≡ 0 → count.new ≡ length (plain json text.now) }
+    ensures none { result ≢ 0 → count.new ≡ 0 }
+{
+    escape_length::<{ JSON_MODE }>(text, count)
+}
+
+/// Writes the text as a JSON string literal, its quotation marks included, to the front of `buffer`, which has room for it, and returns the status.
+/// `count` gets how many bytes that has. The bytes after it are unchanged.
+///
+/// # Errors
+///
+/// 1: the text is not UTF-8. 2: `buffer` is shorter than the output. 3: the output's length exceeds `SIZE_MAX`.
+/// `buffer` is then unchanged. `count` is the output's length at 2, and 0 at 1 and 3.
+#[unsafe(no_mangle)]
+pub extern "C" fn escape_json_exact(text: &[u8], buffer: &mut [u8], count: &mut usize) -> u32
+    ensures refused { (why : Refusal) → (result ≡ status_of why)
+        ↔ RefusesExact json text.now (length buffer.old) why }
+    ensures ok { (result ≡ 0) ↔ AcceptsExact json text.now (length buffer.old) }
+    ensures len { result ≡ 0 → count.new ≡ length (plain json text.now) }
+    ensures output { result ≡ 0 → IsEscaping json text.now (take count.new buffer.new) }
+    ensures kept { result ≡ 0 → drop count.new buffer.new ≡ drop count.new buffer.old }
+    ensures unchanged { result ≢ 0 → buffer.new ≡ buffer.old }
+    ensures needed { result ≡ status_of Refusal.TooShort → count.new ≡ length (plain json text.now) }
+    ensures none { result ≢ 0 → result ≢ status_of Refusal.TooShort → count.new ≡ 0 }
+{
+    escape_exact::<{ JSON_MODE }>(text, buffer, count)
 }

@@ -7,6 +7,7 @@
 #![tactic(auto)]
 
 mod call;
+mod exact;
 mod html;
 mod json;
 mod script;

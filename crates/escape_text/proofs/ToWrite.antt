@@ -1,11 +1,12 @@
 -- An output that is made piece by piece.
-use Rattle.std.proofs.Common.{◌≡◌, ◌≤◌, Bool, true, false, not, if◌then◌else◌, List, ℕ, [], ◌∷◌, ◌++◌, length, IsUtf8, refl, sym, ap, ◌∙◌, append-nil, append_assoc, arith}
+use Rattle.std.proofs.Common.{◌≡◌, ◌≤◌, ◌<◌, Bool, true, false, not, if◌then◌else◌, List, ℕ, [], ◌∷◌, ◌++◌, length, IsUtf8, refl, sym, ap, ◌∙◌, append-nil, append_assoc, length-append, arith}
 use Rattle.std.proofs.lemmas.Str.{IsUtf8-append, IsUtf8-nil}
 use Rattle.escape_lanes.specs.Mode.{Mode, json, html, script}
 use Rattle.escape_simd.specs.Output.{inner, plain, quote_of, bound}
 use Rattle.escape_text.specs.ToWrite.{quote_if, rest_to_write}
 use Rattle.escape_simd.proofs.OutputLemmas.{IsUtf8-inner, IsUtf8-quote, inner-append, HasOutputLength-output}
 use Rattle.escape_simd.proofs.Pieces.{cut-text}
+use Rattle.escape_simd.proofs.Texts.{length-inner}
 
 -- at first that is the whole output
 pub rest_to_write-whole : (mode : Mode) (text : List ℕ) → rest_to_write mode false text ≡ plain mode text
@@ -78,3 +79,13 @@ pub length-plain : (mode : Mode) (bytes : List ℕ) → length (plain mode bytes
 length-plain json bytes = let most = (HasOutputLength-output json bytes (plain json bytes) refl).at_most in omega arith
 length-plain html bytes = let most = (HasOutputLength-output html bytes (plain html bytes) refl).at_most in omega arith
 length-plain script bytes = let most = (HasOutputLength-output script bytes (plain script bytes) refl).at_most in omega arith
+
+-- what is left to write has no fewer bytes than what is left of the text
+pub length-rest_to_write : (mode : Mode) (begun : Bool) (rest : List ℕ) → length rest ≤ length (rest_to_write mode begun rest)
+length-rest_to_write mode begun rest =
+    omega (arith, length-inner mode rest, length-append (quote_if mode (not begun)) (inner mode rest ++ quote_of mode), length-append (inner mode rest) (quote_of mode))
+
+-- where more than a quotation mark is left to write, some of the text is left
+pub some-rest_to_write : (mode : Mode) (rest : List ℕ) → 1 < length (rest_to_write mode true rest) → 0 < length rest
+some-rest_to_write mode rest some =
+    omega (arith, some, length-inner mode rest, length-append (inner mode rest) (quote_of mode), length-quote_if mode true)

@@ -18,12 +18,14 @@
 mod adapter;
 mod appended_text;
 mod compact;
+mod exact;
 pub mod html;
 pub mod json;
 mod list;
 mod piecewise;
 mod writer;
 
+pub use exact::write_exact;
 pub use list::ListError;
 pub use piecewise::{FRONT, PIECE};
 pub use writer::write_whole;

@@ -75,14 +75,14 @@ impl<'a> Pieces<'a> {
             return None;
         }
         if self.begun && self.flagged == 0 && !self.rest.is_empty() {
-            let (front, behind) = split_front::<FRONT>(self.rest);
+            let (front, behind) = split_front(self.rest, FRONT);
             if stands_for_itself::<MODE>(front) {
                 self.rest = behind;
                 return Some(front);
             }
             self.flagged = front.len();
         }
-        let (piece, rest) = split_front::<PIECE>(self.rest);
+        let (piece, rest) = split_front(self.rest, PIECE);
         let first = !self.begun;
         let last = rest.is_empty();
         self.rest = rest;
@@ -93,15 +93,15 @@ impl<'a> Pieces<'a> {
     }
 }
 
-/// Returns the front of a text, of at most `N` bytes, and what is left of it.
-fn split_front<const N: usize>(text: &str) -> (&str, &str)
-    requires { 4 ≤ N }
+/// Returns the front of a text, of at most `most` bytes, and what is left of it.
+pub(crate) fn split_front(text: &str, most: usize) -> (&str, &str)
+    requires { 4 ≤ most }
     ensures joined { text.now ≡ result.0.now ++ result.1.now }
     ensures cut { IsUtf8 result.0.now }
-    ensures few { length result.0.now ≤ N }
+    ensures few { length result.0.now ≤ most }
     ensures shorter { 0 < length text.now → length result.1.now < length text.now }
 {
-    text.split_at(text.floor_char_boundary(N.min(text.len())))
+    text.split_at(text.floor_char_boundary(most.min(text.len())))
 }
 
 /// Returns the output for a text in the mode numbered `MODE`, written in `room` at once.
@@ -115,7 +115,7 @@ pub(crate) fn escape_short<'r, const MODE: u8>(text: &str, room: &'r mut [u8]) -
 
 /// Returns what stands for a piece, with the quotation marks that are wanted before and after it.
 #[inline(always)]
-fn escape_piece<'r, const MODE: u8>(
+pub(crate) fn escape_piece<'r, const MODE: u8>(
     piece: &str,
     first: bool,
     last: bool,
@@ -142,7 +142,7 @@ pub(crate) fn quote<const MODE: u8>() -> &'static str
 
 /// Writes a quotation mark to `room` where one is wanted, and the mode has any. Returns the place after
 /// it.
-fn quote_at<const MODE: u8>(wanted: bool, room: &mut [u8], at: usize) -> usize
+pub(crate) fn quote_at<const MODE: u8>(wanted: bool, room: &mut [u8], at: usize) -> usize
     requires { at < length room.old }
     ensures end { result ≡ at + length (quote_if (mode_numbered MODE) wanted) }
     ensures written { take result room.new

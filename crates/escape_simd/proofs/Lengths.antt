@@ -31,6 +31,10 @@ module _ (mode : Mode) (src : List ℕ) (at : ℕ) (inside : at < length src) wh
   pub added-separator : mode ≡ script → begins_separator (drop at src) ≡ true → IsPartLength mode src at (at + 1) 4
   added-separator is begins = grind (arith, rest-added, length-separator)
 
+-- six bytes at most stand for each byte of a part
+pub part-few : (mode : Mode) (src : List ℕ) (at next len : ℕ) → at ≤ next → next ≤ length src → IsPartLength mode src at next len → len ≤ 6 * (next - at)
+part-few mode src at next len forward inside part = omega (arith, rest-between mode src at next forward inside, part)
+
 -- The last bytes
 
 -- their mask, told of the whole text

@@ -9,8 +9,8 @@ use crate::simd::HTML_MODE;
 /// Returns how many bytes the text has as [`escape_html`](crate::html::escape_html) writes it, and `None`
 /// where that passes `usize::MAX`.
 ///
-/// No memory is allocated. Room for so many bytes is what `escape_text`'s calls ask for; the calls of this
-/// crate need [`html_capacity`](crate::html::html_capacity).
+/// No memory is allocated. A target needs [`html_capacity`](crate::html::html_capacity) bytes all the same;
+/// `escape_html_compact` of `escape_text` asks for the output's length alone.
 ///
 /// ```text
 /// escaped_len("a<b") == Some(6) // a&lt;b
@@ -25,7 +25,7 @@ pub fn escaped_len(value: &str) -> Option<usize>
 /// Returns whether none of the bytes `"`, `&`, `'`, `/`, `<` and `>` is in the text:
 /// [`escape_html`](crate::html::escape_html) returns the text itself.
 ///
-/// No memory is allocated. The call returns at the first vector that has one of them.
+/// No memory is allocated. The call reads the text up to the first 128 bytes that need an escape.
 ///
 /// ```text
 /// is_clean("a\nb") == true

@@ -9,8 +9,8 @@ use crate::simd::{JSON_MODE, SCRIPT_MODE};
 /// Returns how many bytes the literal that [`escape`](crate::json::escape) returns has, quotation marks
 /// included, and `None` where that passes `usize::MAX`.
 ///
-/// No memory is allocated. Room for so many bytes is what `escape_text`'s calls ask for; the calls of this
-/// crate need [`json_capacity`](crate::json::json_capacity).
+/// No memory is allocated. A target needs [`json_capacity`](crate::json::json_capacity) bytes all the same;
+/// `escape_compact` of `escape_text` asks for the literal's length alone.
 ///
 /// ```text
 /// escaped_len("a\"\n") == Some(7) // "a\"\n"
@@ -40,7 +40,7 @@ pub fn script_len(value: &str) -> Option<usize>
 /// Returns whether no byte of the text needs an escape in a JSON string literal (RFC 8259, section 7): the
 /// literal is the text between quotation marks.
 ///
-/// No memory is allocated. The call returns at the first vector that has a byte that is escaped.
+/// No memory is allocated. The call reads the text up to the first 128 bytes that need an escape.
 ///
 /// ```text
 /// is_clean("a/b") == true
@@ -55,7 +55,7 @@ pub fn is_clean(value: &str) -> bool
 /// Returns whether no character of the text needs an escape in a literal for a script element: the literal
 /// that [`escape_script`](crate::json::escape_script) returns is the text between quotation marks.
 ///
-/// No memory is allocated. The call returns at the first vector that has a character that is escaped.
+/// No memory is allocated. The call reads the text up to the first 128 bytes that need an escape.
 ///
 /// ```text
 /// is_script_clean("a\u{2026}") == true

@@ -1,5 +1,5 @@
 //! The length of an output, and whether a text needs no escape.
-ghost use Rattle.std.specs.Prelude.{◌≡◌, ◌+◌, ◌<◌, ◌≤◌, ◌↔◌, true, false, length, IfSome, IsNone};
+ghost use Rattle.std.specs.Prelude.{◌≡◌, ◌+◌, ◌*◌, ◌<◌, ◌≤◌, ◌↔◌, true, false, length, IfSome, IsNone};
 ghost use Rattle.std.specs.List.{count_by};
 ghost use Rattle.escape_lanes.specs.Bits.{bits_of};
 ghost use Rattle.escape_lanes.specs.Replacement.{needs_escape};
@@ -58,6 +58,21 @@ fn vector_len<const MODE: u8>(src: &[u8], at: usize) -> usize
     flagged_len::<MODE>(src, at, N, flags)
 }
 
+/// Returns how many bytes stand for the text's four vectors from `at` on. They are tested at once, since most
+/// are clean.
+#[inline(always)]
+fn chunk_len<const MODE: u8>(src: &[u8], at: usize) -> usize
+    requires { at + 4 * N ≤ length src.now }
+    ensures { IsPartLength (mode_numbered MODE) src.now at (at + 4 * N) result }
+{
+    if is_clean_chunk::<MODE>(src, at) {
+        return 4 * N;
+    }
+    let first = vector_len::<MODE>(src, at) + vector_len::<MODE>(src, at + N);
+    let last = vector_len::<MODE>(src, at + 2 * N) + vector_len::<MODE>(src, at + 3 * N);
+    first + last
+}
+
 /// Returns how many bytes stand for the text's last bytes, those from `at` on, fewer than a vector has.
 #[inline(always)]
 fn rest_len<const MODE: u8>(src: &[u8], at: usize) -> usize
@@ -70,8 +85,8 @@ fn rest_len<const MODE: u8>(src: &[u8], at: usize) -> usize
     flagged_len::<MODE>(src, at, count, flags.clear_high_bits(64 - count))
 }
 
-/// Returns where the next part of the text ends, and how many bytes stand for it: four clean vectors, one
-/// vector, or the last bytes.
+/// Returns where the next part of the text ends, and how many bytes stand for it: four vectors, one vector,
+/// or the last bytes.
 #[inline(always)]
 fn part<const MODE: u8>(src: &[u8], at: usize) -> (usize, usize)
     requires { at < length src.now }
@@ -79,8 +94,8 @@ fn part<const MODE: u8>(src: &[u8], at: usize) -> (usize, usize)
     ensures len { IsPartLength (mode_numbered MODE) src.now at result.0 result.1 }
 {
     let left = src.len() - at;
-    if 4 * N <= left && is_clean_chunk::<MODE>(src, at) {
-        return (at + 4 * N, 4 * N);
+    if 4 * N <= left {
+        return (at + 4 * N, chunk_len::<MODE>(src, at));
     }
     if N <= left {
         return (at + N, vector_len::<MODE>(src, at));
@@ -117,7 +132,7 @@ pub fn escaped_len<const MODE: u8>(value: &str) -> Option<usize>
 /// Returns whether nothing in the text needs an escape: the output is the text itself, between quotation marks in
 /// the modes that have them.
 ///
-/// No memory is allocated. The call returns at the first vector that needs an escape.
+/// No memory is allocated. The call reads the text up to the first 128 bytes that need an escape.
 #[inline(never)]
 pub fn stands_for_itself<const MODE: u8>(value: &str) -> bool
     ensures itself { (result ≡ true) ↔ (inner (mode_numbered MODE) value.now ≡ value.now) }

@@ -14,7 +14,7 @@ use page::append_page;
 use report::write_report;
 use stack::write_label;
 use std::alloc::Global;
-use std::io::{self, BufReader, ErrorKind, Write};
+use std::io::{self, BufReader, BufWriter, ErrorKind, Write};
 
 const NAME: &str = "Ann \"</script><b>\" O'Hara";
 
@@ -24,7 +24,7 @@ const ENTRIES: [Entry; 1] = [Entry {
 }];
 
 fn main(rt: HostRuntime) -> io::Result<()> {
-    let mut output = io::writer(&rt);
+    let mut output = BufWriter::new(rt.alloc(), io::writer(&rt))?;
 
     // So short texts are refused for want of memory alone.
     let Ok(bytes) = log_and_page(rt.alloc()) else {

@@ -1,9 +1,9 @@
 //! A page with a table of strangers' texts, and with data in a script element.
-ghost use Rattle.std.specs.Prelude.{◌≡◌, ◌++◌, All, OnOk, take, vec_len};
+ghost use Rattle.std.specs.Prelude.{◌≡◌, ◌≤◌, ◌++◌, length, All, IfErr, OnOk, take, vec_len};
 ghost use Rattle.std.specs.List.{join_by};
 ghost use Rattle.escape_lanes.specs.Mode.{html, script};
 ghost use Rattle.escape_simd.specs.Escaping.{IsHarmlessHtml};
-ghost use Rattle.escape_simd.specs.Output.{plain};
+ghost use Rattle.escape_simd.specs.Output.{plain, bound};
 ghost use Rattle.escape_simd.specs.Script.{IsSafeInScript};
 
 use escape_simd::Refusal;
@@ -37,6 +37,12 @@ pub fn append_page<A: Allocator>(
         ++ BEFORE_NAMES.now ++ join_by (λ name. plain html name.now) BETWEEN_NAMES.now names.now
         ++ BEFORE_USER.now ++ plain script user.now ++ AFTER_USER.now) }
     ensures front { take (vec_len page.old) page.new.items ≡ page.old.items }
+
+    // Texts that are not too large are refused for want of memory alone.
+    ensures refused { bound html (length title.now) ≤ usize.MAX
+        → All (λ name. bound html (length name.now) ≤ usize.MAX) names.now
+        → bound script (length user.now) ≤ usize.MAX
+        → IfErr result (λ refusal. refusal ≡ Refusal.OutOfMemory) }
 
     // No stranger's text is markup where it stands.
     ensures title_no_markup { OnOk result (IsHarmlessHtml (plain html title.now)) }

@@ -35,7 +35,7 @@ pub(crate) enum Refusal {
     NoKernel = 4,
 }
 
-/// The kernel that the number names: 0 names the default one.
+/// Returns the kernel that the number names: 0 names the default one.
 fn kernel_of_number(kernel: u32) -> Result<Kernel, Refusal>
     ensures kernel { IfOk result (λ k. k ≡ kernel_numbered kernel) }
     ensures ok { IsOk result ↔ NamesKernel kernel }
@@ -51,7 +51,7 @@ fn kernel_of_number(kernel: u32) -> Result<Kernel, Refusal>
     }
 }
 
-/// How many bytes a buffer must have for a text of `len` bytes.
+/// Returns how many bytes a buffer must have for a text of `len` bytes.
 fn capacity(mode: Mode, len: usize) -> Result<usize, Refusal>
     ensures exact { IfOk result (λ capacity. capacity ≡ bound (escaping mode) len) }
     ensures ok { IsOk result ↔ (bound (escaping mode) len < 2 ^ 64) }
@@ -64,7 +64,7 @@ fn capacity(mode: Mode, len: usize) -> Result<usize, Refusal>
     capacity.ok_or(Refusal::TooLarge)
 }
 
-/// How many bytes a buffer must have for a text of `len` bytes, or 0 where that passes `usize::MAX`.
+/// Returns how many bytes a buffer must have for a text of `len` bytes, or 0 where that passes `usize::MAX`.
 pub(crate) fn bound_or_zero(mode: Mode, len: usize) -> usize
     ensures exact { bound (escaping mode) len < 2 ^ 64 → result ≡ bound (escaping mode) len }
     ensures too_large { 2 ^ 64 ≤ bound (escaping mode) len → result ≡ 0 }
@@ -72,7 +72,7 @@ pub(crate) fn bound_or_zero(mode: Mode, len: usize) -> usize
     capacity(mode, len).unwrap_or(0)
 }
 
-/// Whether the kernel's number, the size and the buffer allow the call. Answers the kernel.
+/// Returns the kernel, if its number, the size and the buffer allow the call.
 fn kernel_for(mode: Mode, kernel: u32, len: usize, room: usize) -> Result<Kernel, Refusal>
     ensures kernel { IfOk result (λ k. k ≡ kernel_numbered kernel) }
     ensures ok { IsOk result ↔ (NamesKernel kernel × (bound (escaping mode) len ≤ room)) }
@@ -91,7 +91,7 @@ fn kernel_for(mode: Mode, kernel: u32, len: usize, room: usize) -> Result<Kernel
     Ok(kernel)
 }
 
-/// The bytes as a text, where they are one.
+/// Returns the bytes as a text, if they are one.
 #[inline(always)]
 pub(crate) fn as_text(bytes: &[u8]) -> Result<&str, Refusal>
     ensures text { IfOk result (λ text. text.now ≡ bytes.now) }
@@ -104,7 +104,7 @@ pub(crate) fn as_text(bytes: &[u8]) -> Result<&str, Refusal>
     }
 }
 
-/// Escapes the text to the front of `buffer` by the kernel, and answers how many bytes it became.
+/// Escapes the text to the front of `buffer` by the kernel, and returns how many bytes it became.
 #[inline(always)]
 fn format(mode: Mode, kernel: Kernel, text: &str, buffer: &mut [u8]) -> usize
     requires { bound (escaping mode) (length text.now) ≤ length buffer.old }
@@ -120,7 +120,7 @@ fn format(mode: Mode, kernel: Kernel, text: &str, buffer: &mut [u8]) -> usize
     }
 }
 
-/// The same of the inner part of a literal, which has no quotation marks.
+/// As [`format`], without quotation marks.
 #[inline(always)]
 fn format_inner(mode: Mode, kernel: Kernel, text: &str, buffer: &mut [u8]) -> usize
     requires literal { mode ≢ Mode.Html }
@@ -138,7 +138,7 @@ fn format_inner(mode: Mode, kernel: Kernel, text: &str, buffer: &mut [u8]) -> us
     }
 }
 
-/// The count goes out through `count`, which is 0 after a refusal. Answers the status.
+/// Writes the count to `count`, or 0 after a refusal. Returns the status.
 pub(crate) fn status(written: Result<usize, Refusal>, count: &mut usize) -> u32
     ensures refused { (why : Refusal) → (result ≡ status_of why) ↔ (written ≡ Err why) }
     ensures ok { (result ≡ 0) ↔ IsOk written }

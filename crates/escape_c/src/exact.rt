@@ -10,7 +10,7 @@ use crate::call::{Refusal, as_text, status};
 use escape_simd::output::escaped_len;
 use escape_text::write_exact;
 
-/// The bytes as a text, where they are one, and the length of the output for it.
+/// Returns the bytes as a text, if they are one, and the length of its output.
 fn measured<const MODE: u8>(bytes: &[u8]) -> Result<(&str, usize), Refusal>
     ensures text { IfOk result (λ measured. measured.0.now ≡ bytes.now) }
     ensures exact { IfOk result (λ measured. measured.1 ≡ length (plain (mode_numbered MODE) bytes.now)) }
@@ -22,8 +22,7 @@ fn measured<const MODE: u8>(bytes: &[u8]) -> Result<(&str, usize), Refusal>
     Ok((text, len))
 }
 
-/// The length of the output for the bytes, where they are a text, goes out through `count`, which is 0 after
-/// a refusal. Answers the status.
+/// Writes the length of the output for the bytes to `count`, or 0 after a refusal. Returns the status.
 pub(crate) fn escape_length<const MODE: u8>(text: &[u8], count: &mut usize) -> u32
     ensures refused { (why : Refusal) → (result ≡ status_of why)
         ↔ RefusesLength (mode_numbered MODE) text.now why }
@@ -37,8 +36,8 @@ pub(crate) fn escape_length<const MODE: u8>(text: &[u8], count: &mut usize) -> u
     }
 }
 
-/// Escapes the bytes to the front of `buffer`, where they are a text, and `buffer` has the output's own
-/// length. `count` gets that length, also where `buffer` is shorter. Answers the status.
+/// Escapes the bytes to the front of `buffer`, if they are a text and `buffer` has at least the output's length.
+/// Writes that length to `count`, also if `buffer` is shorter. Returns the status.
 pub(crate) fn escape_exact<const MODE: u8>(text: &[u8], buffer: &mut [u8], count: &mut usize) -> u32
     ensures refused { (why : Refusal) → (result ≡ status_of why)
         ↔ RefusesExact (mode_numbered MODE) text.now (length buffer.old) why }

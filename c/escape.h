@@ -46,8 +46,8 @@
 extern "C" {
 #endif
 
-/* What a call answers. Of several reasons to refuse, the one with the greatest number is told. Bytes that
- * are not UTF-8 have no output: for them the `_length` and `_exact` calls answer ESCAPE_NOT_UTF8. */
+/* What a call returns. If several apply, it is the greatest. Bytes that are not UTF-8 have no output: for
+ * them the `_length` and `_exact` calls return ESCAPE_NOT_UTF8. */
 typedef uint32_t escape_status;
 
 #define ESCAPE_OK UINT32_C(0)        /* the output is in the buffer; of `_length`, its size in the count */
@@ -69,15 +69,15 @@ static inline const char *escape_status_text(escape_status status) {
     }
 }
 
-/* The body that does the work. */
+/* The kernel that escapes the text. All kernels write the same bytes. */
 typedef uint32_t escape_kernel;
 
 #define ESCAPE_DEFAULT UINT32_C(0) /* ESCAPE_AVX2 */
-#define ESCAPE_V128 UINT32_C(1)    /* vectors of 16 bytes in two words, one at a time */
-#define ESCAPE_SSE2 UINT32_C(2)    /* vectors of 16 bytes, four at a time */
+#define ESCAPE_V128 UINT32_C(1)    /* vectors of 16 bytes, as two words of 64 bits */
+#define ESCAPE_SSE2 UINT32_C(2)    /* vectors of 16 bytes */
 #define ESCAPE_NEON UINT32_C(3)    /* the same, with four bits for a byte in its masks */
-#define ESCAPE_AVX2 UINT32_C(4)    /* vectors of 32 bytes, four at a time */
-#define ESCAPE_AVX512 UINT32_C(5)  /* vectors of 64 bytes, four at a time */
+#define ESCAPE_AVX2 UINT32_C(4)    /* vectors of 32 bytes */
+#define ESCAPE_AVX512 UINT32_C(5)  /* vectors of 64 bytes */
 
 /* Returns ESCAPE_VERSION of the library that is linked. */
 uint32_t escape_version(void);

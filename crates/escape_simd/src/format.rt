@@ -1,4 +1,5 @@
-//! The output for a text in a slice, by the kernel that is told.
+//! Calls that write an output to a slice, with the kernel that the caller names. They allocate nothing and do not
+//! fail.
 ghost use Rattle.std.specs.Prelude.{◌+◌, ◌*◌, ◌≤◌, length, take, chars};
 ghost use Rattle.escape_lanes.specs.Mode.{json, html, script};
 ghost use Rattle.escape_simd.specs.Escaping.{IsEscaping};
@@ -13,12 +14,14 @@ ghost use Rattle.escape_simd.specs.Script.{IsOnlyScript};
 use crate::kernel::Kernel;
 use crate::simd::{HTML_MODE, JSON_MODE, SCRIPT_MODE, avx2, avx512, neon, sse2, v128};
 
-/// Writes the text as a JSON string literal (RFC 8259, section 7), its quotation marks included, to the
-/// front of `dst` by the kernel, and returns how many bytes it became.
+/// Writes the JSON string literal of a text (RFC 8259, section 7), with its quotation marks, to the front of `dst`,
+/// with the kernel `kernel`. Returns the length of the literal in bytes. The call allocates nothing and does not
+/// fail.
 ///
-/// `dst` must have at least `6 * n + 35` bytes for a text of `n` bytes:
-/// [`json_capacity`](crate::json::json_capacity). No byte from that place on changes, and none that is
-/// a vector or more past the last one written. Every kernel writes the same bytes.
+/// For a text of `n` bytes, `dst` must have at least `6 * n + 35` bytes
+/// ([`json_capacity`](crate::json::json_capacity)). The bytes of `dst` from index `6 * n + 35` on are unchanged, and
+/// so are those that are a vector (16, 32 or 64 bytes) or more past the end of the literal. The bytes between may
+/// have changed. All kernels write the same literal.
 ///
 /// ```text
 /// let mut dst = [0; 41];
@@ -34,7 +37,9 @@ pub fn format_json_string(kernel: Kernel, value: &str, dst: &mut [u8]) -> usize
     format_by::<{ JSON_MODE }>(kernel, value, dst)
 }
 
-/// As [`format_json_string`], and returns the output as text, which it is.
+/// Writes what [`format_json_string`] writes, and returns the literal as a `&str` that borrows `dst`.
+///
+/// For a text of `n` bytes, `dst` must have at least `6 * n + 35` bytes.
 ///
 /// ```text
 /// let mut dst = [0; 41];
@@ -49,12 +54,13 @@ pub fn format_json_str<'a>(kernel: Kernel, value: &str, dst: &'a mut [u8]) -> &'
     unsafe { str::from_utf8_unchecked(&dst[..count]) }
 }
 
-/// Writes the text as HTML with `"`, `&`, `'`, `/`, `<` and `>` as entities to the front of `dst` by the
-/// kernel, and returns how many bytes it became.
+/// Writes a text as HTML, with `"`, `&`, `'`, `/`, `<` and `>` as entities, to the front of `dst`, with the kernel
+/// `kernel`. Returns the length of the output in bytes. The call allocates nothing and does not fail.
 ///
-/// `dst` must have at least `6 * n + 32` bytes for a text of `n` bytes:
-/// [`html_capacity`](crate::html::html_capacity). No byte from that place on changes, and none that is
-/// a vector or more past the last one written. Every kernel writes the same bytes.
+/// For a text of `n` bytes, `dst` must have at least `6 * n + 32` bytes
+/// ([`html_capacity`](crate::html::html_capacity)). The bytes of `dst` from index `6 * n + 32` on are unchanged, and
+/// so are those that are a vector (16, 32 or 64 bytes) or more past the end of the output. The bytes between may have
+/// changed. All kernels write the same output.
 ///
 /// ```text
 /// let mut dst = [0; 38];
@@ -70,7 +76,9 @@ pub fn format_html_string(kernel: Kernel, value: &str, dst: &mut [u8]) -> usize
     format_by::<{ HTML_MODE }>(kernel, value, dst)
 }
 
-/// As [`format_html_string`], and returns the output as text, which it is.
+/// Writes what [`format_html_string`] writes, and returns the output as a `&str` that borrows `dst`.
+///
+/// For a text of `n` bytes, `dst` must have at least `6 * n + 32` bytes.
 ///
 /// ```text
 /// let mut dst = [0; 38];
@@ -85,12 +93,14 @@ pub fn format_html_str<'a>(kernel: Kernel, value: &str, dst: &'a mut [u8]) -> &'
     unsafe { str::from_utf8_unchecked(&dst[..count]) }
 }
 
-/// Writes the text as a JSON string literal that can stand in a script element of an HTML page, its
-/// quotation marks included, to the front of `dst` by the kernel, and returns how many bytes it became.
+/// Writes a JSON string literal of a text that is safe inside a script element of an HTML page, with its quotation
+/// marks, to the front of `dst`, with the kernel `kernel`. Returns the length of the literal in bytes. The call
+/// allocates nothing and does not fail.
 ///
-/// `dst` must have at least `6 * n + 35` bytes for a text of `n` bytes:
-/// [`json_capacity`](crate::json::json_capacity). No byte from that place on changes, and none that is
-/// a vector or more past the last one written. Every kernel writes the same bytes.
+/// For a text of `n` bytes, `dst` must have at least `6 * n + 35` bytes
+/// ([`json_capacity`](crate::json::json_capacity)). The bytes of `dst` from index `6 * n + 35` on are unchanged, and
+/// so are those that are a vector (16, 32 or 64 bytes) or more past the end of the literal. The bytes between may
+/// have changed. All kernels write the same literal.
 ///
 /// ```text
 /// let mut dst = [0; 41];
@@ -106,7 +116,9 @@ pub fn format_script_string(kernel: Kernel, value: &str, dst: &mut [u8]) -> usiz
     format_by::<{ SCRIPT_MODE }>(kernel, value, dst)
 }
 
-/// As [`format_script_string`], and returns the output as text, which it is.
+/// Writes what [`format_script_string`] writes, and returns the literal as a `&str` that borrows `dst`.
+///
+/// For a text of `n` bytes, `dst` must have at least `6 * n + 35` bytes.
 ///
 /// ```text
 /// let mut dst = [0; 41];
@@ -121,14 +133,16 @@ pub fn format_script_str<'a>(kernel: Kernel, value: &str, dst: &'a mut [u8]) -> 
     unsafe { str::from_utf8_unchecked(&dst[..count]) }
 }
 
-/// Writes what [`format_json_string`] writes between its quotation marks to the front of `dst` by the
-/// kernel, and returns how many bytes it became. So a literal can be written in parts: what stands for
-/// texts joined is what stands for each of them, joined.
+/// Writes the JSON string literal of a text without its quotation marks to the front of `dst`, with the kernel
+/// `kernel`. Returns the number of bytes written. The call allocates nothing and does not fail.
 ///
-/// `dst` must have at least `6 * n + 32` bytes for a text of `n` bytes:
-/// [`html_capacity`](crate::html::html_capacity). No byte from that place on changes, and none that is
-/// a vector or more past the last one written. Every kernel writes the same bytes. HTML has no quotation
-/// marks, so [`format_html_string`] is the like of it.
+/// Use it to write a literal in pieces: a quotation mark, the outputs of the pieces one after another, and a
+/// quotation mark are the literal of the whole text. For HTML, use [`format_html_string`].
+///
+/// For a text of `n` bytes, `dst` must have at least `6 * n + 32` bytes, the same number as
+/// [`html_capacity`](crate::html::html_capacity) returns. The bytes of `dst` from index `6 * n + 32` on are
+/// unchanged, and so are those that are a vector (16, 32 or 64 bytes) or more past the end of the output. The bytes
+/// between may have changed. All kernels write the same output.
 ///
 /// ```text
 /// let mut dst = [0; 38];
@@ -143,14 +157,17 @@ pub fn format_json_inner(kernel: Kernel, value: &str, dst: &mut [u8]) -> usize
     inner_by::<{ JSON_MODE }>(kernel, value, dst)
 }
 
-/// Writes what [`format_script_string`] writes between its quotation marks to the front of `dst` by the
-/// kernel, and returns how many bytes it became. So a literal can be written in parts: what stands for
-/// texts joined is what stands for each of them, joined.
+/// Writes the literal of a text that is safe inside a script element (see [`format_script_string`]) without its
+/// quotation marks to the front of `dst`, with the kernel `kernel`. Returns the number of bytes written. The call
+/// allocates nothing and does not fail.
 ///
-/// `dst` must have at least `6 * n + 32` bytes for a text of `n` bytes:
-/// [`html_capacity`](crate::html::html_capacity). No byte from that place on changes, and none that is
-/// a vector or more past the last one written. Every kernel writes the same bytes. HTML has no quotation
-/// marks, so [`format_html_string`] is the like of it.
+/// Use it to write a literal in pieces: a quotation mark, the outputs of the pieces one after another, and a
+/// quotation mark are the literal of the whole text. For HTML, use [`format_html_string`].
+///
+/// For a text of `n` bytes, `dst` must have at least `6 * n + 32` bytes, the same number as
+/// [`html_capacity`](crate::html::html_capacity) returns. The bytes of `dst` from index `6 * n + 32` on are
+/// unchanged, and so are those that are a vector (16, 32 or 64 bytes) or more past the end of the output. The bytes
+/// between may have changed. All kernels write the same output.
 ///
 /// ```text
 /// let mut dst = [0; 38];

@@ -16,9 +16,10 @@ pub use error::{EscapeHtmlError, InputTooLarge};
 pub use length::{escaped_len, is_clean};
 use std::alloc::{Allocator, Global};
 
-/// How many bytes of a target each byte of a text may need in HTML.
+/// The largest number of output bytes for one byte of text in HTML: 6.
 ///
-/// With [`CAPACITY_SLACK`] it makes an array of the size that [`html_capacity`] tells:
+/// For a text of `n` bytes, the slice of [`format_html_string`](crate::format_html_string) needs
+/// `CAPACITY_FACTOR * n + CAPACITY_SLACK` bytes. The two constants give the size of an array:
 ///
 /// ```text
 /// const ROOM: usize = CAPACITY_FACTOR * 80 + CAPACITY_SLACK;
@@ -26,12 +27,14 @@ use std::alloc::{Allocator, Global};
 /// ```
 pub const CAPACITY_FACTOR: usize = 6;
 
-/// How many bytes of a target are needed besides [`CAPACITY_FACTOR`] for each byte of the text in HTML.
+/// The bytes that such a slice needs in addition: 32. See [`CAPACITY_FACTOR`].
 pub const CAPACITY_SLACK: usize = 32;
 
-/// Returns how many bytes a target must have for a text of `len` bytes: `6 * len + 32`.
+/// Returns the size in bytes that a slice must have for a text of `len` bytes as HTML: `6 * len + 32`.
 ///
-/// The error says that this passes `usize::MAX`.
+/// # Errors
+///
+/// [`InputTooLarge`] if `6 * len + 32` exceeds `usize::MAX`.
 ///
 /// ```text
 /// html_capacity(10) == Ok(92)
@@ -44,16 +47,17 @@ pub fn html_capacity(len: usize) -> Result<usize, InputTooLarge>
     scratch_bound::<{ HTML_MODE }>(len).ok_or(InputTooLarge)
 }
 
-/// Returns the text as HTML without markup: none of `"`, `'`, `/`, `<` and `>` stands in it, and each `&`
-/// begins an entity. It is the only such that reads as the text.
+/// Returns the text as HTML: `"`, `&`, `'`, `/`, `<` and `>` are written as entities.
 ///
-/// An entity that already stands in the text is escaped again. The output has from `n` to `6 * n`
-/// bytes for a text of `n` bytes, and one request for `6 * n + 32` bytes is made.
+/// The output is safe between tags, and in an attribute value between quotation marks. It has none of `"`, `'`, `/`,
+/// `<` and `>`, and each `&` in it begins an entity. No other output without these bytes reads as the text. An `&`
+/// that begins an entity in the text is escaped too: `&amp;` becomes `&amp;amp;`. For a text of `n` bytes the output
+/// has `n` to `6 * n` bytes. The call makes one allocation, of `6 * n + 32` bytes.
 ///
 /// # Errors
 ///
-/// - [`EscapeHtmlError::TooLarge`]: `6 * n + 32` passes `usize::MAX`.
-/// - [`EscapeHtmlError::OutOfMemory`]: the request was refused.
+/// - [`EscapeHtmlError::TooLarge`]: `6 * n + 32` exceeds `usize::MAX`.
+/// - [`EscapeHtmlError::OutOfMemory`]: the allocator refused the memory.
 ///
 /// ```text
 /// escape_html(alloc, "<a href='/x'>")? == "&lt;a href=&#x27;&#x2f;x&#x27;&gt;"
@@ -66,8 +70,8 @@ pub fn escape_html(alloc: Global, value: &str) -> Result<String, EscapeHtmlError
     escape_html_in(alloc, value)
 }
 
-/// Returns what [`escape_html`] returns, in memory of the caller's allocator, as an arena or a pool: to it alone the
-/// one request is made.
+/// Returns what [`escape_html`] returns, in memory of `alloc`: an arena or a pool, for example. The call makes one
+/// allocation, of `6 * n + 32` bytes for a text of `n` bytes, and only from `alloc`.
 ///
 /// # Errors
 ///
@@ -84,14 +88,14 @@ pub fn escape_html_in<A: Allocator>(alloc: A, value: &str) -> Result<String<A>, 
     Ok(text::<{ HTML_MODE }, A>(alloc, value)?)
 }
 
-/// Appends the text as [`escape_html`] writes it to `dst`, whatever bytes `dst` holds.
+/// Appends the output that [`escape_html`] returns to `dst`. The bytes that `dst` has are kept, and may be any bytes.
 ///
-/// It asks the allocator of `dst`, which may be the caller's own, for room for `6 * n + 32` bytes past
-/// those of `dst` where `dst` has less, and for no memory where it has that.
+/// If `dst` has room for less than `6 * n + 32` more bytes, for a text of `n` bytes, the call reserves them from the
+/// allocator of `dst`. Else it allocates nothing.
 ///
 /// # Errors
 ///
-/// Those of [`escape_html`]. `dst` then holds its old bytes.
+/// Those of [`escape_html`]. `dst` is then unchanged.
 ///
 /// ```text
 /// let mut dst = vec![in alloc; 0xff]?;

@@ -1,4 +1,4 @@
-//! JSON string literals, as RFC 8259 has them in section 7.
+//! JSON string literals (RFC 8259, section 7), and literals that are safe inside a script element.
 ghost use Rattle.std.specs.Prelude.{◌≡◌, ◌+◌, ◌*◌, ◌<◌, ◌≤◌, ◌↔◌, ◌++◌, length, string_bytes, vec_len, vec_capacity, Err, IsOk, IsOkUnless, IfOk, OnOk, OnErr};
 ghost use Rattle.escape_lanes.specs.Mode.{json, script};
 ghost use Rattle.escape_simd.specs.Output.{plain, bound};
@@ -15,9 +15,10 @@ pub use error::EscapeError;
 pub use length::{escaped_len, is_clean, is_script_clean, script_len};
 use std::alloc::{Allocator, Global};
 
-/// How many bytes of a target each byte of a text may need, in JSON and script literals.
+/// The largest number of output bytes for one byte of text in a JSON or script literal: 6.
 ///
-/// With [`CAPACITY_SLACK`] it makes an array of the size that [`json_capacity`] tells:
+/// For a text of `n` bytes, the slice of [`format_json_string`](crate::format_json_string) needs
+/// `CAPACITY_FACTOR * n + CAPACITY_SLACK` bytes. The two constants give the size of an array:
 ///
 /// ```text
 /// const ROOM: usize = CAPACITY_FACTOR * 80 + CAPACITY_SLACK;
@@ -25,13 +26,15 @@ use std::alloc::{Allocator, Global};
 /// ```
 pub const CAPACITY_FACTOR: usize = 6;
 
-/// How many bytes of a target are needed besides [`CAPACITY_FACTOR`] for each byte of the text, in JSON
-/// and script literals.
+/// The bytes that such a slice needs in addition: 35. See [`CAPACITY_FACTOR`].
 pub const CAPACITY_SLACK: usize = 35;
 
-/// Returns how many bytes a target must have for the literal of a text of `len` bytes: `6 * len + 35`.
+/// Returns the size in bytes that a slice must have for the JSON or script literal of a text of `len` bytes:
+/// `6 * len + 35`.
 ///
-/// The error is [`EscapeError::TooLarge`], where that passes `usize::MAX`.
+/// # Errors
+///
+/// [`EscapeError::TooLarge`] if `6 * len + 35` exceeds `usize::MAX`.
 ///
 /// ```text
 /// json_capacity(10) == Ok(95)
@@ -45,16 +48,16 @@ pub fn json_capacity(len: usize) -> Result<usize, EscapeError>
     scratch_bound::<{ JSON_MODE }>(len).ok_or(EscapeError::TooLarge)
 }
 
-/// Returns the JSON string literal of a text, quotation marks included: the shortest with lower-case hex
-/// digits that denotes it (RFC 8259, section 7), and the only one.
+/// Returns the JSON string literal of a text, with its quotation marks (RFC 8259, section 7).
 ///
-/// Only `"`, `\` and the characters below U+0020 are escaped. The literal has from `n + 2` to
-/// `6 * n + 2` bytes for a text of `n` bytes, and one request for `6 * n + 35` bytes is made.
+/// Only `"`, `\` and the characters below U+0020 are escaped, each in the shortest way and with lower-case hex
+/// digits. Any other literal of the text is longer, or has an upper-case hex digit. For a text of `n` bytes the
+/// literal has `n + 2` to `6 * n + 2` bytes. The call makes one allocation, of `6 * n + 35` bytes.
 ///
 /// # Errors
 ///
-/// - [`EscapeError::TooLarge`]: `6 * n + 35` passes `usize::MAX`.
-/// - [`EscapeError::OutOfMemory`]: the request was refused.
+/// - [`EscapeError::TooLarge`]: `6 * n + 35` exceeds `usize::MAX`.
+/// - [`EscapeError::OutOfMemory`]: the allocator refused the memory.
 ///
 /// ```text
 /// escape(alloc, "a\"\n")? == "\"a\\\"\\n\""
@@ -67,8 +70,8 @@ pub fn escape(alloc: Global, value: &str) -> Result<String, EscapeError>
     escape_in(alloc, value)
 }
 
-/// Returns what [`escape`] returns, in memory of the caller's allocator, as an arena or a pool: to it alone the
-/// one request is made.
+/// Returns what [`escape`] returns, in memory of `alloc`: an arena or a pool, for example. The call makes one
+/// allocation, of `6 * n + 35` bytes for a text of `n` bytes, and only from `alloc`.
 ///
 /// # Errors
 ///
@@ -85,14 +88,14 @@ pub fn escape_in<A: Allocator>(alloc: A, value: &str) -> Result<String<A>, Escap
     Ok(text::<{ JSON_MODE }, A>(alloc, value)?)
 }
 
-/// Appends the literal that [`escape`] returns to `dst`, whatever bytes `dst` holds.
+/// Appends the literal that [`escape`] returns to `dst`. The bytes that `dst` has are kept, and may be any bytes.
 ///
-/// It asks the allocator of `dst`, which may be the caller's own, for room for `6 * n + 35` bytes past
-/// those of `dst` where `dst` has less, and for no memory where it has that.
+/// If `dst` has room for less than `6 * n + 35` more bytes, for a text of `n` bytes, the call reserves them from the
+/// allocator of `dst`. Else it allocates nothing.
 ///
 /// # Errors
 ///
-/// Those of [`escape`]. `dst` then holds its old bytes.
+/// Those of [`escape`]. `dst` is then unchanged.
 ///
 /// ```text
 /// let mut dst = vec![in alloc; 0xff]?;
@@ -112,17 +115,13 @@ pub fn escape_into<A: Allocator>(value: &str, dst: &mut Vec<u8, A>) -> Result<()
     Ok(append::<{ JSON_MODE }, A>(value, dst)?)
 }
 
-/// Returns the JSON string literal of a text that can stand in a script element of an HTML page, quotation
-/// marks included.
+/// Returns a JSON string literal of a text that is safe inside a script element of an HTML page, with its quotation
+/// marks.
 ///
-/// It is a JSON string literal of the same text as [`escape`] returns. Besides what is escaped there,
-/// `<`, `>` and `&` and the separators U+2028 and U+2029 are written by hex escapes. So neither
-/// `</script` nor `<!--` stands in it, which would end the element or begin a comment in it, and it can
-/// be read as JavaScript of any age. It is the shortest such literal with lower-case hex digits, and
-/// the only one.
-///
-/// The literal has from `n + 2` to `6 * n + 2` bytes for a text of `n` bytes, and one request for
-/// `6 * n + 35` bytes is made.
+/// As [`escape`], and the characters `<`, `>`, `&`, U+2028 and U+2029 are written as hex escapes. So the literal has
+/// no `</script`, which would end the element, and no `<!--`, which would begin a comment. JavaScript of every
+/// version reads it as the same string. Any other literal of the text with these escapes is longer, or has an
+/// upper-case hex digit. Sizes and memory are those of [`escape`].
 ///
 /// # Errors
 ///
@@ -141,12 +140,12 @@ pub fn escape_script(alloc: Global, value: &str) -> Result<String, EscapeError>
     escape_script_in(alloc, value)
 }
 
-/// Returns what [`escape_script`] returns, in memory of the caller's allocator, as an arena or a pool: to it
-/// alone the one request is made.
+/// Returns what [`escape_script`] returns, in memory of `alloc`: an arena or a pool, for example. The call makes one
+/// allocation, of `6 * n + 35` bytes for a text of `n` bytes, and only from `alloc`.
 ///
 /// # Errors
 ///
-/// Those of [`escape`].
+/// Those of [`escape_script`].
 ///
 /// ```text
 /// escape_script_in(&arena, "a<b")? == "\"a\\u003cb\""
@@ -160,14 +159,15 @@ pub fn escape_script_in<A: Allocator>(alloc: A, value: &str) -> Result<String<A>
     Ok(text::<{ SCRIPT_MODE }, A>(alloc, value)?)
 }
 
-/// Appends the literal that [`escape_script`] returns to `dst`, whatever bytes `dst` holds.
+/// Appends the literal that [`escape_script`] returns to `dst`. The bytes that `dst` has are kept, and may be any
+/// bytes.
 ///
-/// It asks the allocator of `dst`, which may be the caller's own, for room for `6 * n + 35` bytes past
-/// those of `dst` where `dst` has less, and for no memory where it has that.
+/// If `dst` has room for less than `6 * n + 35` more bytes, for a text of `n` bytes, the call reserves them from the
+/// allocator of `dst`. Else it allocates nothing.
 ///
 /// # Errors
 ///
-/// Those of [`escape`]. `dst` then holds its old bytes.
+/// Those of [`escape_script`]. `dst` is then unchanged.
 ///
 /// ```text
 /// let mut page = Vec::new(alloc);

@@ -1,21 +1,25 @@
-//! The bodies that a text can be escaped by.
+//! The kernels, which escape a text in vectors of different sizes.
 
-/// A body of a certain width and shape. All write the same bytes, on every processor.
+/// A kernel: the code that escapes a text in vectors of one size. All kernels write the same bytes.
 ///
-/// A name says how many bytes a vector has, and how its bytes are classified. It does not say which instructions are used:
-/// each kernel is built for every target, and the build's `--cpu` decides what its steps become. So each kernel runs on every
-/// processor.
+/// Use `Kernel::default()` if you have no reason for another. The name tells the size of a vector and how its bytes
+/// are classified. It does not tell which instructions run: each kernel is built for every target, and the build's
+/// `--cpu` decides. So each kernel runs on every processor.
+///
+/// ```text
+/// format_json_string(Kernel::default(), "x", &mut dst)
+/// ```
 #[derive(Debug, Clone, Copy, PartialEq, Eq)]
 pub enum Kernel {
-    /// 16 lanes in two words of 64 bits.
+    /// Vectors of 16 bytes, held as two `u64`.
     V128,
-    /// 16 lanes.
+    /// Vectors of 16 bytes.
     Sse2,
-    /// 16 lanes, with four bits a lane in its bit mask.
+    /// Vectors of 16 bytes. Its public bit masks have four bits for each byte.
     Neon,
-    /// 32 lanes.
+    /// Vectors of 32 bytes. The default.
     Avx2,
-    /// 64 lanes.
+    /// Vectors of 64 bytes.
     Avx512,
 }
 
@@ -25,7 +29,7 @@ impl Default for Kernel {
 
     ghost is_default = { λ kernel. kernel ≡ Avx2 };
 
-    /// Returns [`Kernel::Avx2`], by which the calls that allocate and the program escape.
+    /// Returns [`Kernel::Avx2`]. The calls that allocate use this kernel, and the program does if none is named.
     fn default() -> Kernel {
         Kernel::Avx2
     }

@@ -1,18 +1,20 @@
-//! Escapes text as a JSON string literal, also one for a script element, or as HTML.
+//! Escapes text as a JSON string literal (RFC 8259, section 7), as HTML, or as a JSON string literal that is safe
+//! inside a script element.
 //!
-//! [`json::escape`] returns the string literal of a text (RFC 8259, section 7),
-//! [`json::escape_script`] one that can stand in a script element of an HTML page, and
-//! [`html::escape_html`] the text with `"`, `&`, `'`, `/`, `<` and `>` as entities.
-//! [`json::escape_in`], [`json::escape_script_in`] and [`html::escape_html_in`] take an allocator of
-//! the caller's own. [`json::escape_into`], [`json::escape_script_into`],
-//! [`html::escape_html_into`] and [`html::escape_html_each`] append to a vector of bytes instead, of
-//! any allocator. [`format_json_string`], [`format_script_string`] and [`format_html_string`] write
-//! to a slice by the kernel that they are told, and take no memory; [`format_json_inner`] and
-//! [`format_script_inner`] write what stands between the quotation marks, and [`format_json_str`] and
-//! its kin answer the output there as text.
+//! - [`json::escape`], [`html::escape_html`] and [`json::escape_script`] return a `String`. [`json::escape_in`],
+//!   [`html::escape_html_in`] and [`json::escape_script_in`] do the same with an allocator of the caller.
+//! - [`json::escape_into`], [`html::escape_html_into`] and [`json::escape_script_into`] append to a `Vec<u8>` of any
+//!   allocator. [`html::escape_html_each`] appends many texts.
+//! - [`format_json_string`], [`format_html_string`] and [`format_script_string`] write to a slice and allocate
+//!   nothing. Their first argument is the [`Kernel`]. [`format_json_str`], [`format_html_str`] and
+//!   [`format_script_str`] return the output as a `&str`. [`format_json_inner`] and [`format_script_inner`] leave out
+//!   the quotation marks.
+//! - [`json::escaped_len`], [`html::escaped_len`] and [`json::script_len`] return the length of an output.
+//!   [`json::is_clean`], [`html::is_clean`] and [`json::is_script_clean`] return whether nothing needs an escape.
 //!
-//! `escape_text` has what stands over these: adapters for `write!`, calls to writers and `String`s, and
-//! lists. What it is built on, in any mode, is [`output`].
+//! Each call that allocates returns an error if memory is refused. [`Refusal`] is the one error for functions that
+//! write both JSON and HTML. The crate `escape_text` has adapters for `write!`, and calls for writers, `String`s and
+//! lists. It is built on [`output`], whose functions take the mode as a constant.
 //!
 //! ```text
 //! escape(alloc, "a\n")? == "\"a\\n\""

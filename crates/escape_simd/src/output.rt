@@ -1,8 +1,6 @@
-//! The output for a whole text: its refusals, its one reservation and its bytes, for each mode.
-//!
-//! Further calls are built on this. Each function serves every mode, by the mode's number:
-//! [`JSON_MODE`](crate::simd::JSON_MODE), [`HTML_MODE`] or [`SCRIPT_MODE`](crate::simd::SCRIPT_MODE).
-//! Greater numbers are script too.
+//! The calls on which further calls are built. Each has the mode as its constant parameter `MODE`:
+//! [`JSON_MODE`](crate::simd::JSON_MODE), [`HTML_MODE`] or [`SCRIPT_MODE`](crate::simd::SCRIPT_MODE). A number above
+//! `SCRIPT_MODE` means script too.
 ghost use Rattle.std.specs.Prelude.{◌≡◌, ◌+◌, ◌*◌, ◌<◌, ◌≤◌, ◌↔◌, ◌++◌, length, take, chars, string_bytes, vec_len, vec_capacity, Err, IsOk, IfOk, OnOk, OnErr, IfSome, IsNone};
 ghost use Rattle.escape_simd.specs.Modes.{mode_numbered};
 ghost use Rattle.escape_simd.specs.Output.{plain, inner, quote_of, bound};
@@ -34,7 +32,12 @@ type V = Simd256u;
 
 const N: usize = 32;
 
-/// Returns how many bytes a target must have for a text of `len` bytes, where a `usize` can tell.
+/// Returns the bound for a text of `len` bytes, which is the size in bytes that a slice needs for the output:
+/// `6 * len + 35`, in HTML `6 * len + 32`. Returns `None` if that exceeds `usize::MAX`.
+///
+/// ```text
+/// scratch_bound::<{ HTML_MODE }>(10) == Some(92)
+/// ```
 pub fn scratch_bound<const MODE: u8>(len: usize) -> Option<usize>
     ensures fits { IfSome result (λ n. n ≡ bound (mode_numbered MODE) len) }
     ensures passes { IsNone result ↔ (usize.MAX < bound (mode_numbered MODE) len) }
@@ -59,17 +62,21 @@ fn append_output<const MODE: u8, A: Allocator>(value: &str, dst: &mut Vec<u8, A>
     append_bytes::<MODE, A>(value.as_bytes(), dst);
 }
 
-/// Appends the output for the text to `dst`, whatever bytes `dst` holds.
+/// Appends the output of a text in the mode `MODE` to `dst`. The bytes that `dst` has are kept, and may be any bytes.
 ///
-/// It asks the allocator of `dst` for room for [`scratch_bound`] bytes past those of `dst` where `dst` has
-/// less, and for no memory where it has that.
+/// If `dst` has room for fewer bytes than the bound ([`scratch_bound`]) past those that it has, the call reserves
+/// them from the allocator of `dst`. Else it allocates nothing.
 ///
 /// # Errors
 ///
-/// - [`Refusal::TooLarge`]: the scratch bound passes `usize::MAX`.
-/// - [`Refusal::OutOfMemory`]: the request was refused.
+/// - [`Refusal::TooLarge`]: the bound exceeds `usize::MAX`.
+/// - [`Refusal::OutOfMemory`]: the allocator refused the memory.
 ///
-/// `dst` then holds its old bytes.
+/// `dst` is unchanged after each.
+///
+/// ```text
+/// append::<{ HTML_MODE }, _>("<", &mut dst)?; // dst ends with &lt;
+/// ```
 pub fn append<const MODE: u8, A: Allocator>(
     value: &str,
     dst: &mut Vec<u8, A>,

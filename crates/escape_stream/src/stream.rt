@@ -14,20 +14,30 @@ use std::alloc::{Allocator, Global};
 use std::io::{Read, Write};
 use std::str;
 
-/// Reads the input to its end, escapes it by the kernel, writes the output and flushes it once.
+/// Reads `input` to its end, escapes it in the mode `mode`, writes the result to `output` and flushes once.
 ///
-/// Nothing is written before the whole input is read. Beside it one piece of the output is held at a
-/// time. No newline is added, and a
-/// newline at the input's end or a byte order mark is part of the text. The kernel changes no byte
-/// of the output.
+/// The whole input is read before the first write. The call holds the input in memory, and one piece of the output,
+/// of at most `6 * min(n, 65536) + 32` bytes for an input of `n` bytes. It adds no newline. A newline at the end of
+/// the input and a byte order mark are part of the text. The output is the same for every kernel.
 ///
 /// # Errors
 ///
-/// While it reads, a failed read (`ReadFailed`, of any kind, `Interrupted` too) and memory that is
-/// refused (`OutOfMemory`) end the run in the order in which they come. How much was read by then
-/// isn't said. After that the refusals are decided in this order: `NotUtf8`, `TooLarge`,
-/// `OutOfMemory`, `WriteFailed`. An input that never ends is answered by `OutOfMemory`, at the
-/// latest where it passes the greatest size of a vector.
+/// `output` is unchanged after each error but `WriteFailed`.
+///
+/// - `ReadFailed`: a read returned an error, also `Interrupted`. How much was read before is not promised.
+/// - `NotUtf8`: the input is not UTF-8.
+/// - `TooLarge`: `6 * n + 35`, in HTML `6 * n + 32`, exceeds `usize::MAX`.
+/// - `OutOfMemory`: memory for the input or for the piece was refused. An input that never ends leads to this error.
+/// - `WriteFailed`: a write returned an error, also `Interrupted`, or took no bytes, or the flush returned an error.
+///   `output` has then taken a prefix of the result, or all of it.
+///
+/// If several apply after the input is read, the first of `NotUtf8`, `TooLarge`, `OutOfMemory`, `WriteFailed` is
+/// returned.
+///
+/// ```text
+/// let mut input = b"<a".as_slice();
+/// run(alloc, Mode::Html, Kernel::default(), &mut input, &mut output)?; // output has &lt;a
+/// ```
 pub fn run<R: Read, W: Write>(
     alloc: Global,
     mode: Mode,
@@ -60,14 +70,18 @@ pub fn run<R: Read, W: Write>(
     run_in(alloc, mode, kernel, input, output)
 }
 
-/// Does what [`run`] does, in memory of the caller's allocator. One that can't be copied, as an arena, is
-/// lent: `&arena` is an allocator too.
+/// Does what [`run`] does, in memory of `alloc`. If your allocator is not `Copy`, as an arena, pass a reference to
+/// it: `&arena` is an allocator too.
 ///
-/// It asks for room for the input, and once for what a piece of it may become.
+/// All memory is from `alloc`: the input, in a vector that grows as it is read, and one piece of the output.
 ///
 /// # Errors
 ///
 /// Those of [`run`].
+///
+/// ```text
+/// run_in(&arena, Mode::Json, Kernel::default(), &mut input, &mut output)?;
+/// ```
 pub fn run_in<A: Allocator + Copy, R: Read, W: Write>(
     alloc: A,
     mode: Mode,

@@ -1,4 +1,4 @@
-//! The words that a program on this crate takes.
+//! The arguments of the program: the mode, and the kernel.
 ghost use Rattle.std.specs.Prelude.{◌≡◌, ◌↔◌, Some};
 ghost use Rattle.escape_simd.specs.declared.Kernel.{Kernel};
 ghost use Rattle.escape_stream.specs.declared.words.Mode.{Mode};
@@ -6,7 +6,7 @@ ghost use Rattle.escape_stream.specs.Words.{NamesKernel, mode_word, kernel_word}
 
 use escape_simd::Kernel;
 
-/// What the output is.
+/// The kind of output.
 #[derive(Clone, Copy, Debug, PartialEq, Eq)]
 pub enum Mode {
     /// A JSON string literal (RFC 8259, section 7), its quotation marks included.
@@ -18,11 +18,12 @@ pub enum Mode {
     Script,
 }
 
-/// What a program on this crate says where [`choose`] returns `None`.
+/// The usage message of the program, for a caller to print if [`choose`] returns `None`.
 pub const USAGE: &str = "usage: escape_tool json|html|script [v128|sse2|neon|avx2|avx512]";
 
-/// Returns the mode and the kernel that the two words name, where each is a word of its table, in lower
-/// case and with nothing around it. With no second word the kernel is `Avx2`.
+/// Returns the mode and the kernel that two arguments name. The modes are `json`, `html` and `script`, the kernels
+/// `v128`, `sse2`, `neon`, `avx2` and `avx512`, in lower case and without blanks. If `kernel` is `None`, the kernel
+/// is `Avx2`. Returns `None` if an argument is no such name.
 ///
 /// `choose("html", Some("neon"))` is `Some((Mode::Html, Kernel::Neon))`.
 pub fn choose(mode: &str, kernel: Option<&str>) -> Option<(Mode, Kernel)>

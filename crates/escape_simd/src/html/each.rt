@@ -9,13 +9,15 @@ use crate::output::append;
 use crate::simd::HTML_MODE;
 use std::alloc::Allocator;
 
-/// Appends the texts one after another as [`escape_html`](crate::html::escape_html) writes them,
-/// and stops at the first that is refused. Each text asks for its own room, of the vector's allocator.
+/// Appends the outputs of the texts to `dst`, one after another, each as [`escape_html`](crate::html::escape_html)
+/// returns it. The call stops at the first text that is refused.
+///
+/// For each text of `n` bytes it reserves `6 * n + 32` bytes if `dst` has less room, from the allocator of `dst`.
 ///
 /// # Errors
 ///
-/// The number `k` of texts that were written, and why the next was not: see
-/// [`EscapeHtmlError`]. `dst` then holds its first bytes and the output for those `k` texts.
+/// `(k, error)`: the first `k` texts were appended, and text `k` (counted from 0) was refused for the reason `error`,
+/// an [`EscapeHtmlError`]. `dst` then has the bytes that it had before, and the outputs of these `k` texts.
 ///
 /// ```text
 /// let mut dst = vec![in alloc; b'A']?;

@@ -3,8 +3,8 @@ use crate::output::Refusal;
 use std::alloc::{AllocError, AllocFailed};
 use std::fmt;
 
-/// What was to be reserved passes `usize::MAX`: the scratch bound, `6 * n + 32` for a text of `n` bytes, or
-/// where a call reserves less, the output's own length.
+/// The error that a size exceeds `usize::MAX`: `6 * n + 32` for a text of `n` bytes, or in the compact calls of
+/// `escape_text` the length of the output.
 #[derive(Debug, Clone, Copy, PartialEq, Eq)]
 pub struct InputTooLarge;
 
@@ -14,6 +14,7 @@ impl fmt::Display for InputTooLarge {
 
     ghost output = { λ _. Some input_too_large_text };
 
+    /// Writes the reason: the input is too large.
     fn fmt<W: fmt::Write>(&self, f: &mut fmt::Formatter<W>) -> fmt::Result {
         f.write_str("input is too large to HTML-escape")
     }
@@ -21,12 +22,12 @@ impl fmt::Display for InputTooLarge {
 
 impl std::error::Error for InputTooLarge {}
 
-/// Why a text was not written as HTML.
+/// The error of the HTML calls.
 #[derive(Debug, Clone, Copy, PartialEq, Eq)]
 pub enum EscapeHtmlError {
-    /// What was to be reserved passes `usize::MAX`.
+    /// The size that is needed exceeds `usize::MAX`: see [`InputTooLarge`].
     TooLarge(InputTooLarge),
-    /// The reservation was refused.
+    /// The allocator refused the memory.
     OutOfMemory,
 }
 
@@ -36,6 +37,7 @@ impl From<InputTooLarge> for EscapeHtmlError {
 
     ghost from_gives = { λ too_large error. error ≡ TooLarge too_large };
 
+    /// Returns [`EscapeHtmlError::TooLarge`].
     fn from(too_large: InputTooLarge) -> EscapeHtmlError {
         EscapeHtmlError::TooLarge(too_large)
     }
@@ -48,6 +50,7 @@ impl From<Refusal> for EscapeHtmlError {
 
     ghost from_gives = { λ refusal error. (error ≡ TooLarge (record {})) ↔ (refusal ≡ too_large) };
 
+    /// Returns the variant of the same name.
     fn from(refusal: Refusal) -> EscapeHtmlError {
         match refusal {
             Refusal::TooLarge => EscapeHtmlError::TooLarge(InputTooLarge),
@@ -62,8 +65,8 @@ impl From<AllocError> for EscapeHtmlError {
 
     ghost from_gives = { λ _ error. error ≡ OutOfMemory };
 
-    /// Returns [`EscapeHtmlError::OutOfMemory`]. So `?` serves a caller that also pushes bytes of its
-    /// own.
+    /// Returns [`EscapeHtmlError::OutOfMemory`], so that `?` also converts the errors of the caller's own
+    /// reservations.
     fn from(_refused: AllocError) -> EscapeHtmlError {
         EscapeHtmlError::OutOfMemory
     }
@@ -75,7 +78,8 @@ impl<T: Drop> From<AllocFailed<T>> for EscapeHtmlError {
 
     ghost from_gives = { λ _ error. error ≡ OutOfMemory };
 
-    /// Returns [`EscapeHtmlError::OutOfMemory`], as for a `push` that was refused. The value is dropped.
+    /// Returns [`EscapeHtmlError::OutOfMemory`], so that `?` also converts the error of the caller's own `push`. The
+    /// value that was not pushed is dropped.
     fn from(_refused: AllocFailed<T>) -> EscapeHtmlError {
         EscapeHtmlError::OutOfMemory
     }
@@ -87,6 +91,7 @@ impl fmt::Display for EscapeHtmlError {
 
     ghost output = { λ error. Some (escape_html_error_text error) };
 
+    /// Writes the reason, as "out of memory".
     fn fmt<W: fmt::Write>(&self, f: &mut fmt::Formatter<W>) -> fmt::Result {
         match self {
             EscapeHtmlError::TooLarge(reason) => reason.fmt(f),

@@ -1,4 +1,4 @@
-//! How long a text is as HTML, and whether it is HTML without markup as it is.
+//! The length of a text as HTML, and whether a text needs no escape in HTML.
 ghost use Rattle.std.specs.Prelude.{◌≡◌, ◌<◌, ◌↔◌, true, length, IfSome, IsNone};
 ghost use Rattle.escape_lanes.specs.Mode.{html};
 ghost use Rattle.escape_simd.specs.Output.{plain};
@@ -6,11 +6,11 @@ ghost use Rattle.escape_simd.specs.Output.{plain};
 use crate::output;
 use crate::simd::HTML_MODE;
 
-/// Returns how many bytes the text has as [`escape_html`](crate::html::escape_html) writes it, and `None`
-/// where that passes `usize::MAX`.
+/// Returns the length in bytes of the output that [`escape_html`](crate::html::escape_html) returns. Returns `None`
+/// if it exceeds `usize::MAX`. The call makes one pass over the text and allocates nothing.
 ///
-/// No memory is allocated. A target needs [`html_capacity`](crate::html::html_capacity) bytes all the same;
-/// `escape_html_compact` of `escape_text` asks for the output's length alone.
+/// `escape_html_compact` of `escape_text` reserves exactly this length. The calls of this crate that write the output
+/// need [`html_capacity`](crate::html::html_capacity) bytes, which is more.
 ///
 /// ```text
 /// escaped_len("a<b") == Some(6) // a&lt;b
@@ -22,10 +22,11 @@ pub fn escaped_len(value: &str) -> Option<usize>
     output::escaped_len::<{ HTML_MODE }>(value)
 }
 
-/// Returns whether none of the bytes `"`, `&`, `'`, `/`, `<` and `>` is in the text:
-/// [`escape_html`](crate::html::escape_html) returns the text itself.
+/// Returns whether the text has none of `"`, `&`, `'`, `/`, `<` and `>`. If so,
+/// [`escape_html`](crate::html::escape_html) returns a copy of the text.
 ///
-/// No memory is allocated. The call reads the text up to the first 128 bytes that need an escape.
+/// The call allocates nothing. It reads the text in parts of at most 128 bytes, returns `false` at the first part in
+/// which something needs an escape, and else reads the whole text.
 ///
 /// ```text
 /// is_clean("a\nb") == true

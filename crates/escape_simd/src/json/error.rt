@@ -3,13 +3,13 @@ use crate::output::Refusal;
 use std::alloc::{AllocError, AllocFailed};
 use std::fmt;
 
-/// Why a text was not written as a JSON string literal.
+/// The error of the calls for JSON and script literals.
 #[derive(Debug, Clone, Copy, PartialEq, Eq)]
 pub enum EscapeError {
-    /// What was to be reserved passes `usize::MAX`: the scratch bound, `6 * n + 35` for a text of `n` bytes,
-    /// or where a call reserves less, the literal's own length.
+    /// The size that is needed exceeds `usize::MAX`. The size is `6 * n + 35` for a text of `n` bytes, and in the
+    /// compact calls of `escape_text` the length of the literal.
     TooLarge,
-    /// The reservation was refused.
+    /// The allocator refused the memory.
     OutOfMemory,
 }
 
@@ -20,6 +20,7 @@ impl From<Refusal> for EscapeError {
 
     ghost from_gives = { λ refusal error. (error ≡ TooLarge) ↔ (refusal ≡ too_large) };
 
+    /// Returns the variant of the same name.
     fn from(refusal: Refusal) -> EscapeError {
         match refusal {
             Refusal::TooLarge => EscapeError::TooLarge,
@@ -34,7 +35,7 @@ impl From<AllocError> for EscapeError {
 
     ghost from_gives = { λ _ error. error ≡ OutOfMemory };
 
-    /// Returns [`EscapeError::OutOfMemory`]. So `?` serves a caller that also pushes bytes of its own.
+    /// Returns [`EscapeError::OutOfMemory`], so that `?` also converts the errors of the caller's own reservations.
     fn from(_refused: AllocError) -> EscapeError {
         EscapeError::OutOfMemory
     }
@@ -46,7 +47,8 @@ impl<T: Drop> From<AllocFailed<T>> for EscapeError {
 
     ghost from_gives = { λ _ error. error ≡ OutOfMemory };
 
-    /// Returns [`EscapeError::OutOfMemory`], as for a `push` that was refused. The value is dropped.
+    /// Returns [`EscapeError::OutOfMemory`], so that `?` also converts the error of the caller's own `push`. The
+    /// value that was not pushed is dropped.
     fn from(_refused: AllocFailed<T>) -> EscapeError {
         EscapeError::OutOfMemory
     }
@@ -58,6 +60,7 @@ impl fmt::Display for EscapeError {
 
     ghost output = { λ error. Some (escape_error_text error) };
 
+    /// Writes the reason, as "out of memory".
     fn fmt<W: fmt::Write>(&self, f: &mut fmt::Formatter<W>) -> fmt::Result {
         f.write_str(match self {
             EscapeError::TooLarge => "input is too large to JSON-escape",

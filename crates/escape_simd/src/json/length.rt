@@ -6,11 +6,11 @@ ghost use Rattle.escape_simd.specs.Output.{plain, inner};
 use crate::output;
 use crate::simd::{JSON_MODE, SCRIPT_MODE};
 
-/// Returns how many bytes the literal that [`escape`](crate::json::escape) returns has, quotation marks
-/// included, and `None` where that passes `usize::MAX`.
+/// Returns the length in bytes of the literal that [`escape`](crate::json::escape) returns, with its quotation marks.
+/// Returns `None` if it exceeds `usize::MAX`. The call makes one pass over the text and allocates nothing.
 ///
-/// No memory is allocated. A target needs [`json_capacity`](crate::json::json_capacity) bytes all the same;
-/// `escape_compact` of `escape_text` asks for the literal's length alone.
+/// `escape_compact` of `escape_text` reserves exactly this length. The calls of this crate that write the literal
+/// need [`json_capacity`](crate::json::json_capacity) bytes, which is more.
 ///
 /// ```text
 /// escaped_len("a\"\n") == Some(7) // "a\"\n"
@@ -22,10 +22,12 @@ pub fn escaped_len(value: &str) -> Option<usize>
     output::escaped_len::<{ JSON_MODE }>(value)
 }
 
-/// Returns how many bytes the literal that [`escape_script`](crate::json::escape_script) returns has,
-/// quotation marks included, and `None` where that passes `usize::MAX`.
+/// Returns the length in bytes of the literal that [`escape_script`](crate::json::escape_script) returns, with its
+/// quotation marks. Returns `None` if it exceeds `usize::MAX`. The call makes one pass over the text and allocates
+/// nothing.
 ///
-/// No memory is allocated.
+/// `escape_script_compact` of `escape_text` reserves exactly this length. The calls of this crate that write the
+/// literal need [`json_capacity`](crate::json::json_capacity) bytes, which is more.
 ///
 /// ```text
 /// script_len("a<b") == Some(10) // "a\u003cb"
@@ -37,10 +39,11 @@ pub fn script_len(value: &str) -> Option<usize>
     output::escaped_len::<{ SCRIPT_MODE }>(value)
 }
 
-/// Returns whether no byte of the text needs an escape in a JSON string literal (RFC 8259, section 7): the
+/// Returns whether no byte of the text needs an escape in a JSON string literal (RFC 8259, section 7). If so, the
 /// literal is the text between quotation marks.
 ///
-/// No memory is allocated. The call reads the text up to the first 128 bytes that need an escape.
+/// The call allocates nothing. It reads the text in parts of at most 128 bytes, returns `false` at the first part in
+/// which something needs an escape, and else reads the whole text.
 ///
 /// ```text
 /// is_clean("a/b") == true
@@ -52,10 +55,11 @@ pub fn is_clean(value: &str) -> bool
     output::stands_for_itself::<{ JSON_MODE }>(value)
 }
 
-/// Returns whether no character of the text needs an escape in a literal for a script element: the literal
+/// Returns whether no character of the text needs an escape in a literal for a script element. If so, the literal
 /// that [`escape_script`](crate::json::escape_script) returns is the text between quotation marks.
 ///
-/// No memory is allocated. The call reads the text up to the first 128 bytes that need an escape.
+/// The call allocates nothing. It reads the text in parts of at most 128 bytes, returns `false` at the first part in
+/// which something needs an escape, and else reads the whole text.
 ///
 /// ```text
 /// is_script_clean("a\u{2026}") == true

@@ -1,4 +1,4 @@
-//! HTML in a `String` of its own length, and with no copy where none is needed.
+//! HTML in a `String` of its own length, or the text itself if it needs no escape.
 ghost use Rattle.std.specs.Prelude.{◌≡◌, ◌≢◌, ◌<◌, ◌↔◌, length, string_bytes, Err, IsOk, IfOk};
 ghost use Rattle.std.specs.Cow.{cow_str_bytes, IsOwnedStr};
 ghost use Rattle.escape_lanes.specs.Mode.{html};
@@ -11,17 +11,16 @@ use escape_simd::simd::HTML_MODE;
 use std::alloc::Allocator;
 use std::borrow::CowStr;
 
-/// Returns the text as HTML, as [`escape_html`](escape_simd::html::escape_html) returns it, in a `String`
-/// that has room for it alone.
+/// Returns the text as HTML, as [`escape_html`](escape_simd::html::escape_html) returns it, in a `String` that
+/// reserves the length of the output and no more.
 ///
-/// One request is made, of `alloc`, which may be the caller's own: for the output's own length, from `n` to
-/// `6 * n` bytes for a text of `n` bytes. The text is read twice, and the output is made through an array:
-/// [`escape_html`](escape_simd::html::escape_html) is faster, and keeps `6 * n + 32` bytes.
+/// The call makes one allocation, from `alloc`, of `n` to `6 * n` bytes for a text of `n` bytes. It reads the text at
+/// least twice. [`escape_html`](escape_simd::html::escape_html) is faster, and its `String` keeps `6 * n + 32` bytes.
 ///
 /// # Errors
 ///
-/// - [`EscapeHtmlError::TooLarge`]: the output's length passes `usize::MAX`.
-/// - [`EscapeHtmlError::OutOfMemory`]: the request was refused.
+/// - [`EscapeHtmlError::TooLarge`]: the length of the output exceeds `usize::MAX`.
+/// - [`EscapeHtmlError::OutOfMemory`]: the allocator refused the memory.
 ///
 /// ```text
 /// escape_html_compact(alloc, "a<b")? == "a&lt;b" // 6 bytes, and a capacity of 6
@@ -37,10 +36,10 @@ pub fn escape_html_compact<A: Allocator>(
     Ok(compact_text::<{ HTML_MODE }, A>(alloc, value)?)
 }
 
-/// Returns the text as HTML: the text itself where no byte of it is escaped, and otherwise what
+/// Returns the text as HTML. If nothing in the text needs an escape, the result borrows the text. Else it owns what
 /// [`escape_html_compact`] returns.
 ///
-/// A clean text is borrowed. It asks for no memory, and is never refused.
+/// For a text that needs no escape, the call allocates nothing and returns no error.
 ///
 /// # Errors
 ///

@@ -3,10 +3,15 @@ use crate::adapter::display;
 use escape_simd::simd::HTML_MODE;
 use std::fmt;
 
-/// A text as HTML for `write!`, `print!` and `format!`.
+/// A text as HTML, for `write!`, `print!` and `format!`.
 ///
-/// `{}` writes what [`escape_html`](escape_simd::html::escape_html) returns, through an array of 3106 bytes
-/// at most: no memory is asked for, and no text is too large. Width and fill are not applied.
+/// `{}` writes what [`escape_html`](escape_simd::html::escape_html) returns. It makes the output in an array of at
+/// most 3106 bytes on the stack, allocates nothing, and takes a text of any size. A width or fill in the format
+/// string has no effect.
+///
+/// # Errors
+///
+/// An error of the formatter, which is returned at once.
 ///
 /// ```text
 /// write!(page, "<p title=\"{}\">", Escaped("a \"b\""))?; // <p title="a &quot;b&quot;">

@@ -12,12 +12,12 @@ use std::alloc::Allocator;
 
 /// Appends a text as HTML to `dst`, as [`escape_html`](escape_simd::html::escape_html) returns it.
 ///
-/// It asks the allocator of `dst`, which may be the caller's own, for room for `6 * n + 32` bytes past
-/// those of `dst` where `dst` has less, and for no memory where it has that.
+/// If `dst` has room for less than `6 * n + 32` more bytes, for a text of `n` bytes, the call reserves them from the
+/// allocator of `dst`. Else it allocates nothing.
 ///
 /// # Errors
 ///
-/// Those of [`escape_html`](escape_simd::html::escape_html). `dst` then holds its old text.
+/// Those of [`escape_html`](escape_simd::html::escape_html). `dst` is then unchanged.
 ///
 /// ```text
 /// escape_html_into_string("a<b", &mut page)?; // page ends with a&lt;b

@@ -10,14 +10,17 @@ use escape_simd::html::EscapeHtmlError;
 use escape_simd::simd::HTML_MODE;
 use std::alloc::Allocator;
 
-/// Appends the texts as [`escape_html`](escape_simd::html::escape_html) writes them, with `between`,
-/// which is not escaped, between each two, and stops at the first text that is refused. Each text
-/// asks for its own room, of the vector's allocator.
+/// Appends the outputs of the texts to `dst`, each as [`escape_html`](escape_simd::html::escape_html) returns it, and
+/// between each two of them the text `between` as it is. `between` may be markup, so do not take it from input that
+/// you do not trust. No text becomes markup. The call stops at the first text that is refused.
+///
+/// For each text of `n` bytes it reserves `6 * n + 32` bytes if `dst` has less room, and room for `between`, from the
+/// allocator of `dst`.
 ///
 /// # Errors
 ///
-/// How many texts were written, and why the next was not: see [`ListError`]. `dst` then holds its old
-/// bytes, and after them those texts with what is between them.
+/// A [`ListError`]: `written` texts were appended, and the next one was refused for `reason`. `dst` then has the
+/// bytes that it had before, and these outputs with `between` between each two.
 ///
 /// ```text
 /// escape_html_joined_into(&["a", "<"], "</li><li>", &mut page)?; // a</li><li>&lt;

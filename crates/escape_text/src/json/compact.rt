@@ -9,17 +9,16 @@ use escape_simd::json::EscapeError;
 use escape_simd::simd::{JSON_MODE, SCRIPT_MODE};
 use std::alloc::Allocator;
 
-/// Returns the literal of a text, as [`escape`](escape_simd::json::escape) returns it, in a `String` that
-/// has room for it alone.
+/// Returns the literal of a text, as [`escape`](escape_simd::json::escape) returns it, in a `String` that reserves
+/// the length of the literal and no more.
 ///
-/// One request is made, of `alloc`, which may be the caller's own: for the literal's own length, from
-/// `n + 2` to `6 * n + 2` bytes for a text of `n` bytes. The text is read twice, and the literal is made
-/// through an array: [`escape`](escape_simd::json::escape) is faster, and keeps `6 * n + 35` bytes.
+/// The call makes one allocation, from `alloc`, of `n + 2` to `6 * n + 2` bytes for a text of `n` bytes. It reads the
+/// text at least twice. [`escape`](escape_simd::json::escape) is faster, and its `String` keeps `6 * n + 35` bytes.
 ///
 /// # Errors
 ///
-/// - [`EscapeError::TooLarge`]: the literal's length passes `usize::MAX`.
-/// - [`EscapeError::OutOfMemory`]: the request was refused.
+/// - [`EscapeError::TooLarge`]: the length of the literal exceeds `usize::MAX`.
+/// - [`EscapeError::OutOfMemory`]: the allocator refused the memory.
 ///
 /// ```text
 /// escape_compact(alloc, "a\n")? == "\"a\\n\"" // 5 bytes, and a capacity of 5
@@ -32,11 +31,13 @@ pub fn escape_compact<A: Allocator>(alloc: A, value: &str) -> Result<String<A>, 
     Ok(compact_text::<{ JSON_MODE }, A>(alloc, value)?)
 }
 
-/// Returns the literal of a text that can stand in a script element, as
-/// [`escape_script`](escape_simd::json::escape_script) returns it, in a `String` that has room for it alone.
+/// Returns the literal of a text that is safe inside a script element, as
+/// [`escape_script`](escape_simd::json::escape_script) returns it, in a `String` that reserves the length of the
+/// literal and no more.
 ///
-/// One request is made, of `alloc`, which may be the caller's own: for the literal's own length, from
-/// `n + 2` to `6 * n + 2` bytes for a text of `n` bytes.
+/// The call makes one allocation, from `alloc`, of `n + 2` to `6 * n + 2` bytes for a text of `n` bytes. It reads the
+/// text at least twice. [`escape_script`](escape_simd::json::escape_script) is faster, and its `String` keeps
+/// `6 * n + 35` bytes.
 ///
 /// # Errors
 ///

@@ -3,10 +3,15 @@ use crate::adapter::display;
 use escape_simd::simd::{JSON_MODE, SCRIPT_MODE};
 use std::fmt;
 
-/// The JSON string literal of a text for `write!`, `print!` and `format!`, quotation marks included.
+/// A text as a JSON string literal, with its quotation marks, for `write!`, `print!` and `format!`.
 ///
-/// `{}` writes what [`escape`](escape_simd::json::escape) returns, through an array of 3106 bytes at
-/// most: no memory is asked for, and no text is too large. Width and fill are not applied.
+/// `{}` writes what [`escape`](escape_simd::json::escape) returns. It makes the output in an array of at most 3106
+/// bytes on the stack, allocates nothing, and takes a text of any size. A width or fill in the format string has no
+/// effect.
+///
+/// # Errors
+///
+/// An error of the formatter, which is returned at once.
 ///
 /// ```text
 /// write!(out, "{{\"name\":{}}}", Escaped("Ann \"A\""))?; // {"name":"Ann \"A\""}
@@ -26,11 +31,14 @@ impl fmt::Display for Escaped<'_> {
     }
 }
 
-/// The literal of a text that can stand in a script element, as [`Escaped`] for
-/// [`escape_script`](escape_simd::json::escape_script).
+/// A text as a JSON string literal that is safe inside a script element, with its quotation marks, for `write!`,
+/// `print!` and `format!`.
+///
+/// `{}` writes what [`escape_script`](escape_simd::json::escape_script) returns. Memory, width, fill and errors are
+/// as in [`Escaped`].
 ///
 /// ```text
-/// write!(out, "<script>const user = {};</script>", EscapedScript(name))?;
+/// write!(out, "<script>const user = {};</script>", EscapedScript("a<b"))?; // .. = "a\u003cb";</script>
 /// ```
 #[derive(Debug, Clone, Copy, PartialEq, Eq)]
 pub struct EscapedScript<'a>(pub &'a str);

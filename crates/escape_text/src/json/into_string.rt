@@ -12,12 +12,12 @@ use std::alloc::Allocator;
 
 /// Appends the literal of a text to `dst`, as [`escape`](escape_simd::json::escape) returns it.
 ///
-/// It asks the allocator of `dst`, which may be the caller's own, for room for `6 * n + 35` bytes past
-/// those of `dst` where `dst` has less, and for no memory where it has that.
+/// If `dst` has room for less than `6 * n + 35` more bytes, for a text of `n` bytes, the call reserves them from the
+/// allocator of `dst`. Else it allocates nothing.
 ///
 /// # Errors
 ///
-/// Those of [`escape`](escape_simd::json::escape). `dst` then holds its old text.
+/// Those of [`escape`](escape_simd::json::escape). `dst` is then unchanged.
 ///
 /// ```text
 /// escape_into_string("a\n", &mut line)?; // line ends with "a\n", with its quotes
@@ -35,15 +35,15 @@ pub fn escape_into_string<A: Allocator>(value: &str, dst: &mut String<A>) -> Res
     Ok(append_text::<{ JSON_MODE }, A>(value, dst)?)
 }
 
-/// Appends the literal of a text that can stand in a script element to `dst`, as
+/// Appends the literal of a text that is safe inside a script element to `dst`, as
 /// [`escape_script`](escape_simd::json::escape_script) returns it.
 ///
-/// It asks the allocator of `dst`, which may be the caller's own, for room for `6 * n + 35` bytes past
-/// those of `dst` where `dst` has less, and for no memory where it has that.
+/// If `dst` has room for less than `6 * n + 35` more bytes, for a text of `n` bytes, the call reserves them from the
+/// allocator of `dst`. Else it allocates nothing.
 ///
 /// # Errors
 ///
-/// Those of [`escape_script`](escape_simd::json::escape_script). `dst` then holds its old text.
+/// Those of [`escape_script`](escape_simd::json::escape_script). `dst` is then unchanged.
 ///
 /// ```text
 /// escape_script_into_string("a<b", &mut page)?; // page ends with "a\u003cb"

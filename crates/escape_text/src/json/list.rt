@@ -11,14 +11,16 @@ use escape_simd::json::EscapeError;
 use escape_simd::simd::{JSON_MODE, SCRIPT_MODE};
 use std::alloc::Allocator;
 
-/// Appends the literals of the texts as [`escape`](escape_simd::json::escape) returns them, with
-/// `between` between each two, and stops at the first text that is refused. Each text asks for its
-/// own room, of the vector's allocator.
+/// Appends the literals of the texts to `dst`, each as [`escape`](escape_simd::json::escape) returns it, and between
+/// each two of them the text `between` as it is. The call stops at the first text that is refused.
+///
+/// For each text of `n` bytes it reserves `6 * n + 35` bytes if `dst` has less room, and room for `between`, from the
+/// allocator of `dst`.
 ///
 /// # Errors
 ///
-/// How many texts were written, and why the next was not: see [`ListError`]. `dst` then holds its old
-/// bytes, and after them those texts with what is between them.
+/// A [`ListError`]: `written` texts were appended, and the next one was refused for `reason`. `dst` then has the
+/// bytes that it had before, and these literals with `between` between each two.
 ///
 /// ```text
 /// escape_joined_into(&["a", "\n"], ", ", &mut dst)?; // "a", "\n"
@@ -46,12 +48,15 @@ pub fn escape_joined_into<A: Allocator>(
     }
 }
 
-/// Appends a JSON array of the texts' literals (RFC 8259, section 5), as
-/// [`escape`](escape_simd::json::escape) returns them.
+/// Appends a JSON array of the literals of the texts (RFC 8259, section 5), each as
+/// [`escape`](escape_simd::json::escape) returns it.
+///
+/// For each text of `n` bytes it reserves `6 * n + 35` bytes if `dst` has less room, and room for the brackets and
+/// commas.
 ///
 /// # Errors
 ///
-/// Those of [`escape`](escape_simd::json::escape), of any of the texts. `dst` then holds its old bytes.
+/// The error for the first text that is refused, or `OutOfMemory` for a bracket or a comma. `dst` is then unchanged.
 ///
 /// ```text
 /// escape_array_into(&["a", "\n"], &mut dst)?; // ["a","\n"]
@@ -67,12 +72,15 @@ pub fn escape_array_into<A: Allocator>(
     Ok(append_array::<{ JSON_MODE }, A>(values, dst)?)
 }
 
-/// Appends a JSON array of the texts' literals that can stand in a script element, as
-/// [`escape_script`](escape_simd::json::escape_script) returns them.
+/// Appends a JSON array of the literals of the texts (RFC 8259, section 5), each as
+/// [`escape_script`](escape_simd::json::escape_script) returns it. The whole array is safe inside a script element.
+///
+/// For each text of `n` bytes it reserves `6 * n + 35` bytes if `dst` has less room, and room for the brackets and
+/// commas.
 ///
 /// # Errors
 ///
-/// Those of [`escape`](escape_simd::json::escape), of any of the texts. `dst` then holds its old bytes.
+/// The error for the first text that is refused, or `OutOfMemory` for a bracket or a comma. `dst` is then unchanged.
 ///
 /// ```text
 /// escape_script_array_into(&["a", "<"], &mut page)?; // ["a","\u003c"]

@@ -9,17 +9,16 @@ use crate::writer::write_output;
 use escape_simd::simd::{JSON_MODE, SCRIPT_MODE};
 use std::io::{Result, Write};
 
-/// Writes the literal of a text to `writer`, as [`escape`](escape_simd::json::escape) returns it, and
-/// does not flush.
+/// Writes the literal of a text to `writer`, as [`escape`](escape_simd::json::escape) returns it, and does not flush.
 ///
-/// It goes through an array of 3106 bytes at most: no memory is asked for, and no text is too large. A write
-/// that was interrupted is tried again. Each piece of a long text is a write of its own, so a writer for
-/// which writes are dear wants a `BufWriter` around it.
+/// The call makes the output in an array of at most 3106 bytes on the stack, allocates nothing, and takes a text of
+/// any size. It repeats a write that was interrupted. A long text is written in pieces, each by a write of its own:
+/// if a write of `writer` is slow, wrap it in a `BufWriter`.
 ///
 /// # Errors
 ///
-/// That of the first write that failed, and `WriteZero` where one took nothing. The writer has then
-/// taken a beginning of the output.
+/// The error of the first write that fails, or `WriteZero` if a write takes no bytes. `writer` has then taken a
+/// prefix of the literal.
 ///
 /// ```text
 /// escape_to_writer("a\"b", &mut socket)?; // "a\"b"
@@ -33,17 +32,17 @@ pub fn escape_to_writer<W: Write>(value: &str, writer: &mut W) -> Result<()>
     write_output::<{ JSON_MODE }, W>(value, writer)
 }
 
-/// Writes the literal of a text that can stand in a script element to `writer`, as
+/// Writes the literal of a text that is safe inside a script element to `writer`, as
 /// [`escape_script`](escape_simd::json::escape_script) returns it, and does not flush.
 ///
-/// It goes through an array of 3106 bytes at most: no memory is asked for, and no text is too large. A write
-/// that was interrupted is tried again. Each piece of a long text is a write of its own, so a writer for
-/// which writes are dear wants a `BufWriter` around it.
+/// The call makes the output in an array of at most 3106 bytes on the stack, allocates nothing, and takes a text of
+/// any size. It repeats a write that was interrupted. A long text is written in pieces, each by a write of its own:
+/// if a write of `writer` is slow, wrap it in a `BufWriter`.
 ///
 /// # Errors
 ///
-/// That of the first write that failed, and `WriteZero` where one took nothing. The writer has then
-/// taken a beginning of the output.
+/// The error of the first write that fails, or `WriteZero` if a write takes no bytes. `writer` has then taken a
+/// prefix of the literal.
 ///
 /// ```text
 /// escape_script_to_writer("a<b", &mut socket)?; // "a\u003cb"

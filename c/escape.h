@@ -110,13 +110,13 @@ escape_status escape_json_inner_unchecked(escape_kernel kernel, const char *text
                                           char *buffer, size_t room, size_t *count);
 
 /* Writes to `*count` how many bytes the literal of the `length` bytes at `text` has, its quotation marks
- * included. It reads the text once, and writes no output. */
+ * included. It writes no output. */
 escape_status escape_json_length(const char *text, size_t length, size_t *count);
 
 /* Writes the literal to the front of the buffer, as escape_json does, and its size to `*count`. The buffer
  * may be as short as the literal. Where it is shorter, the status is ESCAPE_TOO_SHORT, the buffer is as it
  * was, and `*count` is the size that is needed. No byte past the literal is changed. There is no kernel to
- * choose. It reads the text twice, so escape_json is faster. */
+ * choose. It measures the text before it writes, so escape_json is faster. */
 escape_status escape_json_exact(const char *text, size_t length, char *buffer, size_t room,
                                 size_t *count);
 

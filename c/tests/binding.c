@@ -327,6 +327,16 @@ static byte *fenced(size_t pages) {
     return all + page;
 }
 
+/* Makes a text of `length` bytes, of letters and other characters. `text` has room for three bytes more. */
+static void fill(byte *text, size_t length, uint64_t *state) {
+    size_t filled = 0;
+    while (filled < length) {
+        uint64_t pick = next(state);
+        size_t size = pick % 4 ? (text[filled] = 'a', 1) : character(pick >> 2, text + filled);
+        if (filled + size <= length) filled += size;
+    }
+}
+
 /* Source and target each end at a page that is forbidden, and then begin at one. */
 static void test_forbidden_pages(void) {
     size_t page = (size_t)sysconf(_SC_PAGESIZE), pages = 6 * LONGEST / page + 2, m, length;
@@ -335,12 +345,7 @@ static void test_forbidden_pages(void) {
     uint64_t state = 88172645463325252u;
     escape_kernel kernel;
     for (length = 0; length < 330; length++) {
-        size_t filled = 0;
-        while (filled < length) {
-            uint64_t pick = next(&state);
-            size_t size = pick % 4 ? (text[filled] = 'a', 1) : character(pick >> 2, text + filled);
-            if (filled + size <= length) filled += size;
-        }
+        fill(text, length, &state);
         for (m = 0; m < MODE_COUNT; m++)
             for (kernel = 0; kernel < KERNELS; kernel++) {
                 const struct mode *mode = &MODES[m];
@@ -520,12 +525,7 @@ static void test_exact_forbidden_pages(void) {
     uint64_t state = 88172645463325252u;
     size_t length, m, count;
     for (length = 0; length < 330; length++) {
-        size_t filled = 0;
-        while (filled < length) {
-            uint64_t pick = next(&state);
-            size_t size = pick % 4 ? (text[filled] = 'a', 1) : character(pick >> 2, text + filled);
-            if (filled + size <= length) filled += size;
-        }
+        fill(text, length, &state);
         for (m = 0; m < MODE_COUNT; m++) {
             size_t size = model(&MODES[m], text, length, expected);
             if (!is_exact_at_end(&pages, &MODES[m], text, length, expected, size)) fault("%s, %zu bytes at a page's end", MODES[m].name, length);

@@ -28,7 +28,7 @@ pub(super) fn append_flagged<const MODE: u8, A: Allocator>(
         ++ (inner (mode_numbered MODE) text.now ++ quote_of (mode_numbered MODE)) }
 {
     let old = dst.len();
-    fill::<A>(dst, old + 6 * text.len() + N);
+    fill(dst, old + 6 * text.len() + N);
     let end = escape_flagged::<V, MODE, N>(text, first, last, dst, old);
     dst.truncate(end);
     push_quote::<MODE, A>(dst);
@@ -44,12 +44,12 @@ pub(super) fn append_in_place<const MODE: u8, A: Allocator>(src: &[u8], dst: &mu
     let mut left = src;
     let mut end = dst.len();
     'parts: while 5 * N <= left.len() {
-        fill::<A>(dst, end + CHUNK_ROOM);
+        fill(dst, end + CHUNK_ROOM);
         let (passed, next) = escape_chunks::<V, MODE, N>(left, dst, end);
         left = &left[passed..];
         end = next;
     }
-    fill::<A>(dst, end + 6 * left.len() + N);
+    fill(dst, end + 6 * left.len() + N);
     end = escape_at::<V, MODE, N>(left, dst, end);
     dst.truncate(end);
     push_quote::<MODE, A>(dst);

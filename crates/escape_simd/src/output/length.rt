@@ -1,5 +1,5 @@
 //! The length of an output, and whether a text needs no escape.
-ghost use Rattle.std.specs.Prelude.{◌≡◌, ◌+◌, ◌*◌, ◌<◌, ◌≤◌, ◌↔◌, true, false, length, IfSome, IsNone};
+ghost use Rattle.std.specs.Prelude.{◌≡◌, ◌+◌, ◌-◌, ◌*◌, ◌<◌, ◌≤◌, ◌↔◌, true, false, length, IfSome, IsNone};
 ghost use Rattle.std.specs.List.{count_by};
 ghost use Rattle.escape_lanes.specs.Bits.{bits_of};
 ghost use Rattle.escape_lanes.specs.Replacement.{needs_escape};
@@ -58,16 +58,29 @@ fn vector_len<const MODE: u8>(src: &[u8], at: usize) -> usize
     flagged_len::<MODE>(src, at, N, flags)
 }
 
-/// Returns how many bytes stand for the text's four vectors from `at` on. They are tested at once, since most
-/// are clean.
+/// Returns where the clean chunks of four vectors end that begin at `at`.
+#[inline(always)]
+fn clean_end<const MODE: u8>(src: &[u8], at: usize) -> usize
+    requires { at ≤ length src.now }
+    ensures inside { (at ≤ result) × (result ≤ length src.now) }
+    ensures len { IsPartLength (mode_numbered MODE) src.now at result (result - at) }
+{
+    let mut end = at;
+    'chunks: while 4 * N <= src.len() - end {
+        if !is_clean_chunk::<MODE>(src, end) {
+            break;
+        }
+        end += 4 * N;
+    }
+    end
+}
+
+/// Returns how many bytes stand for the text's four vectors from `at` on.
 #[inline(always)]
 fn chunk_len<const MODE: u8>(src: &[u8], at: usize) -> usize
     requires { at + 4 * N ≤ length src.now }
     ensures { IsPartLength (mode_numbered MODE) src.now at (at + 4 * N) result }
 {
-    if is_clean_chunk::<MODE>(src, at) {
-        return 4 * N;
-    }
     let first = vector_len::<MODE>(src, at) + vector_len::<MODE>(src, at + N);
     let last = vector_len::<MODE>(src, at + 2 * N) + vector_len::<MODE>(src, at + 3 * N);
     first + last
@@ -85,14 +98,18 @@ fn rest_len<const MODE: u8>(src: &[u8], at: usize) -> usize
     flagged_len::<MODE>(src, at, count, flags.clear_high_bits(64 - count))
 }
 
-/// Returns where the next part of the text ends, and how many bytes stand for it: four vectors, one vector,
-/// or the last bytes.
+/// Returns where the next part of the text ends, and how many bytes stand for it: clean chunks, four vectors,
+/// one vector, or the last bytes.
 #[inline(always)]
 fn part<const MODE: u8>(src: &[u8], at: usize) -> (usize, usize)
     requires { at < length src.now }
     ensures forward { (at < result.0) × (result.0 ≤ length src.now) }
     ensures len { IsPartLength (mode_numbered MODE) src.now at result.0 result.1 }
 {
+    let clean = clean_end::<MODE>(src, at);
+    if at < clean {
+        return (clean, clean - at);
+    }
     let left = src.len() - at;
     if 4 * N <= left {
         return (at + 4 * N, chunk_len::<MODE>(src, at));

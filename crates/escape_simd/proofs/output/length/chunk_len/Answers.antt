@@ -1,13 +1,7 @@
 use Rattle.std.proofs.Common.{ℕ, ◌+◌, arith}
 use Rattle.escape_simd.proofs.Words.{mode_numbered}
 use Rattle.escape_simd.proofs.Lengths.{part-few}
-use Rattle.escape_simd.proofs.RestSteps.{clean_rest}
 use Rattle.escape_simd.proofs.output.length.chunk_len.Goals as goal
-
-pub returns-then-is_clean_chunk : goal.returns-then-is_clean_chunk
-returns-then-is_clean_chunk g c =
-    let clean = c.is_clean_chunk.ensures.clean c.if-is_clean_chunk.true in
-    omega (arith, clean_rest (mode_numbered g.row.MODE) c.args.src.now c.args.at (c.args.at + 128) (omega arith) clean c.requires)
 
 pub overflow_add-first : goal.overflow_add-first
 overflow_add-first g c =

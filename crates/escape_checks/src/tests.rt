@@ -1,7 +1,11 @@
 //! What no clause says, over the public calls.
+mod arguments;
+mod bit_masks;
 mod borders;
+mod classifiers;
 mod compact;
 mod differential;
+mod faults;
 mod lengths;
 mod memory;
 mod messages;
@@ -11,6 +15,9 @@ mod random_texts;
 mod rationed;
 mod rows;
 mod runs;
+mod tables;
+mod target_calls;
 mod targets;
 mod texts;
+mod vectors;
 mod whole_targets;

@@ -74,7 +74,7 @@ fn format_inner(kernel: Kernel, mode: Mode, text: &str, target: &mut [u8]) -> us
 }
 
 /// A literal's bytes between its quotation marks, and all of HTML.
-fn between_quotes(mode: Mode, output: &[u8]) -> Option<&[u8]> {
+pub(crate) fn between_quotes(mode: Mode, output: &[u8]) -> Option<&[u8]> {
     match mode {
         Mode::Html => Some(output),
         Mode::Json | Mode::Script => output.get(1..output.len().saturating_sub(1)),

@@ -4,5 +4,3 @@
 
 pub mod simd;
 pub mod tables;
-#[cfg(test)]
-mod tests;

@@ -13,8 +13,6 @@ pub mod last;
 pub mod neon;
 pub mod sse2;
 pub mod target;
-#[cfg(test)]
-mod tests;
 mod ticks;
 pub mod traits;
 pub mod v128;

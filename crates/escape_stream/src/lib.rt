@@ -23,6 +23,3 @@ pub use escaped::PIECE;
 pub use fault::ToolFault;
 pub use stream::{run, run_in};
 pub use words::{Mode, USAGE, choose};
-
-#[cfg(test)]
-mod tests;

@@ -48,32 +48,3 @@ fn failed(rt: &impl Eprint, fault: ToolFault) -> ExitCode {
     let _ = rt.eprintln(fault);
     ExitCode::FAILURE
 }
-
-#[cfg(test)]
-mod tests {
-    use super::*;
-    use std::test::Fail;
-
-    #[test]
-    fn takes_one_or_two_words(rt: HostRuntime) -> Result<(), Fail> {
-        let rows: [(&[&str], Option<(Mode, Kernel)>); 9] = [
-            (&["html"], Some((Mode::Html, Kernel::Avx2))),
-            (&["json", "v128"], Some((Mode::Json, Kernel::V128))),
-            (&["script"], Some((Mode::Script, Kernel::Avx2))),
-            (&["script", "sse2"], Some((Mode::Script, Kernel::Sse2))),
-            (&[], None),
-            (&["html", "avx2", "avx2"], None),
-            (&["xml"], None),
-            (&["json", "avx"], None),
-            (&["neon", "html"], None),
-        ];
-        for (given, wanted) in rows {
-            let mut words = Vec::new(rt.alloc());
-            for word in given {
-                words.push(word.to_string(rt.alloc())?)?;
-            }
-            assert_eq!(rt; chosen(words.as_slice()), wanted);
-        }
-        Ok(())
-    }
-}

@@ -66,6 +66,3 @@ pub(crate) fn copy_front(dst: &mut [u8], lanes: &[u8])
         copy_up_to_three(dst, lanes);
     }
 }
-
-#[cfg(test)]
-mod tests;

@@ -214,6 +214,3 @@ pub(crate) fn last_64(src: &[u8], count: usize) -> u8x64
     let first = lanes::load(&src[src.len() - count..]);
     both_32(first, last_32(src, count - 32))
 }
-
-#[cfg(test)]
-mod tests;

@@ -1,0 +1,108 @@
+//! Masks and flags as numbers, a bit for each lane.
+
+use escape_lanes::simd::BitMask;
+use escape_lanes::simd::bits::NeonBits;
+use escape_lanes::simd::lane_bits::{clear_first_lane, count_gaps, eight_lanes, shift_lanes};
+use std::process::Abort;
+
+/// The first lane that is set of all, and of all but the last `n`, and whether none of these is.
+type Front = (usize, usize, bool);
+
+fn front_of<M: BitMask>(mask: &M, n: usize) -> Front {
+    let front = mask.clear_high_bits(n.min(M::LEN));
+    let first = mask.as_little_endian().first_offset();
+    (first, front.first_offset(), front.all_zero())
+}
+
+/// The mask has these fronts, for each `n`.
+pub fn has_fronts<M: BitMask>(rt: &impl Abort, mask: &M, fronts: &[(usize, Front)]) {
+    for (n, front) in fronts {
+        assert_eq!(rt; front_of(mask, *n), *front, "{n}");
+    }
+}
+
+#[test]
+fn masks_that_are_cut(rt: HostRuntime) {
+    has_fronts(&rt, &0u16, &[(0, (16, 16, true))]);
+    has_fronts(
+        &rt,
+        &0x8400u16,
+        &[(5, (10, 10, false)), (6, (10, 16, true))],
+    );
+    has_fronts(&rt, &0u32, &[(0, (32, 32, true))]);
+    has_fronts(
+        &rt,
+        &0x8040_0000u32,
+        &[(9, (22, 22, false)), (10, (22, 32, true))],
+    );
+    has_fronts(&rt, &0u64, &[(0, (64, 64, true))]);
+    has_fronts(
+        &rt,
+        &(1u64 << 63 | 1 << 10),
+        &[(53, (10, 10, false)), (54, (10, 64, true))],
+    );
+}
+
+// A lane of `NeonBits` is four bits.
+#[test]
+fn neon_bits(rt: HostRuntime) {
+    has_fronts(&rt, &NeonBits::new(0), &[(0, (16, 16, true))]);
+    has_fronts(
+        &rt,
+        &NeonBits::new(0x200),
+        &[(13, (2, 2, false)), (14, (2, 16, true))],
+    );
+    has_fronts(
+        &rt,
+        &NeonBits::new(0xf0000),
+        &[(11, (4, 4, false)), (12, (4, 16, true))],
+    );
+    has_fronts(
+        &rt,
+        &NeonBits::new(u64::MAX),
+        &[(0, (0, 0, false)), (16, (0, 16, true))],
+    );
+}
+
+/// The flags behind the first one, and none where none is flagged.
+fn behind_first(flags: u64) -> u64 {
+    if flags.all_zero() {
+        return 0;
+    }
+    clear_first_lane(flags)
+}
+
+#[test]
+fn flags_behind_the_first(rt: HostRuntime) {
+    for (flags, behind) in [
+        (0x06, 0x04),
+        (0x8000_0000_0000_0000, 0),
+        (u64::MAX, 0xffff_ffff_ffff_fffe),
+    ] {
+        assert_eq!(rt; behind_first(flags), behind);
+    }
+}
+
+#[test]
+fn flags_that_are_moved(rt: HostRuntime) {
+    for count in 0..64usize {
+        assert_eq!(rt; shift_lanes(1 << 63, count), 1 << (63 - count), "{count}");
+    }
+    for at in 0..8usize {
+        let lanes = 0x11 * (at as u8 + 1);
+        assert_eq!(rt; eight_lanes(0x8877_6655_4433_2211, at), lanes, "{at}");
+    }
+}
+
+// Every second lane is flagged, or all are.
+#[test]
+fn ends_of_runs(rt: HostRuntime) {
+    for count in 0..=64usize {
+        assert_eq!(rt;
+            count_gaps(0x5555_5555_5555_5555, count),
+            count / 2,
+            "{count}"
+        );
+        assert_eq!(rt; count_gaps(u64::MAX, count), 0, "{count}");
+    }
+}

@@ -1,0 +1,81 @@
+//! The calls of a target, at each width.
+ghost use Rattle.std.specs.Prelude.{◌≡◌, ◌≤◌};
+
+use escape_lanes::simd::target::{Target, Ticks};
+use escape_lanes::simd::{Simd, avx2, avx512, neon, sse2, v128};
+use std::process::Abort;
+
+#[test]
+fn counts_take_no_bytes(rt: HostRuntime) {
+    assert_eq!(rt; size_of::<Ticks>(), 0);
+    assert_eq!(rt; size_of::<Target<'_, 16>>(), size_of::<&mut [u8]>());
+}
+
+/// What the calls write to a target of one width, one after another.
+fn written_to<const N: usize, S: Simd<Element = u8>>() -> [u8; 160]
+    requires lanes { S.LANES ≡ N }
+    requires some { 1 ≤ N }
+{
+    let mut bytes = [0xee; 160];
+    let mut target = Target::<N>::new(&mut bytes);
+    target.quote(0);
+    target.escape(1, b"&lt;\0\0\0\0");
+    target.put_block(9, b"a\\\"b\\\\cdefghijkl", 2);
+    target.put_front(25, b"f");
+    target.put(27, &[b'p'; N]);
+    target.store(91, &S::splat(b's'));
+    target.quote(target.len() - 1);
+    bytes
+}
+
+/// The same, written out.
+fn expected(lanes: usize) -> [u8; 160]
+    requires { lanes ≤ 64 }
+{
+    let mut bytes = [0xee; 160];
+    bytes[..26].copy_from_slice(b"\"&lt;\0\0\0\0a\\\"b\\\\cdefghijklf");
+    bytes[27..27 + lanes].copy_from_slice(&[b'p'; 64][..lanes]);
+    bytes[91..91 + lanes].copy_from_slice(&[b's'; 64][..lanes]);
+    bytes[159] = b'"';
+    bytes
+}
+
+#[test]
+fn each_call_at_each_width(rt: HostRuntime) {
+    assert!(rt; written_to::<16, v128::Simd128u>() == expected(16));
+    assert!(rt; written_to::<16, sse2::Simd128u>() == expected(16));
+    assert!(rt; written_to::<16, neon::Simd128u>() == expected(16));
+    assert!(rt; written_to::<32, avx2::Simd256u>() == expected(32));
+    assert!(rt; written_to::<64, avx512::Simd512u>() == expected(64));
+}
+
+/// Whether exactly the first `count` lanes are written, between two bytes that stay.
+fn writes_front<const N: usize, S: Simd>(src: &[u8; 64], count: usize) -> bool
+    requires lanes { S.LANES ≡ N }
+    requires front { count ≤ N }
+{
+    let mut bytes = [0xee; 66];
+    let mut target = Target::<N>::new(&mut bytes);
+    target.store_front(1, &S::loadu(src), count);
+    let mut expected = [0xee; 66];
+    expected[1..1 + count].copy_from_slice(&src[..count]);
+    bytes == expected
+}
+
+fn writes_each_front<const N: usize, S: Simd>(rt: &impl Abort)
+    requires { S.LANES ≡ N }
+{
+    let src = b"0123456789abcdefghijklmnopqrstuvwxyzABCDEFGHIJKLMNOPQRSTUVWXYZ+-";
+    for count in 0..=N {
+        assert!(rt; writes_front::<N, S>(src, count), "{count} of {N}");
+    }
+}
+
+#[test]
+fn fronts_of_every_count(rt: HostRuntime) {
+    writes_each_front::<16, v128::Simd128u>(&rt);
+    writes_each_front::<16, sse2::Simd128u>(&rt);
+    writes_each_front::<16, neon::Simd128u>(&rt);
+    writes_each_front::<32, avx2::Simd256u>(&rt);
+    writes_each_front::<64, avx512::Simd512u>(&rt);
+}

@@ -1,0 +1,90 @@
+//! The operations of each vector.
+ghost use Rattle.std.specs.Prelude.{◌<◌, ◌≤◌, length};
+
+use escape_lanes::simd::{BitMask, LoadLast, Mask, Simd, avx2, avx512, neon, sse2, v128};
+use std::process::Abort;
+
+fn any_of<M: Mask>(a: M, b: M, c: M) -> M::BitMask {
+    let mut mask = a | b;
+    mask |= c;
+    mask.bitmask()
+}
+
+fn both_of<M: Mask>(a: M, b: M) -> M::BitMask {
+    (a & b).bitmask()
+}
+
+/// The first lanes where `src` has one of three bytes, 0x80 or more, exactly 0x80, and 0.
+fn first_lanes<S: Simd<Element = u8>>(src: &[u8]) -> [usize; 4]
+    requires { S.LANES ≤ length src.now }
+{
+    let v = S::loadu(src);
+    let any = any_of(
+        v.eq(&S::splat(1)),
+        v.eq(&S::splat(0xff)),
+        v.eq(&S::splat(2)),
+    );
+    let high = S::splat(0x80).le(&v).bitmask();
+    let both = both_of(S::splat(0x80).le(&v), v.le(&S::splat(0x80)));
+    let none = v.eq(&S::splat(0)).bitmask();
+    [
+        any.first_offset(),
+        high.first_offset(),
+        both.first_offset(),
+        none.first_offset(),
+    ]
+}
+
+#[test]
+fn comparisons_of_unsigned_lanes(rt: HostRuntime) {
+    let mut src = [0x41; 64];
+    src[2] = 0xff;
+    src[5] = 0x80;
+    src[7] = 2;
+    assert_eq!(rt; first_lanes::<v128::Simd128u>(&src), [2, 2, 5, 16]);
+    assert_eq!(rt; first_lanes::<sse2::Simd128u>(&src), [2, 2, 5, 16]);
+    assert_eq!(rt; first_lanes::<neon::Simd128u>(&src), [2, 2, 5, 16]);
+    assert_eq!(rt; first_lanes::<avx2::Simd256u>(&src), [2, 2, 5, 32]);
+    assert_eq!(rt; first_lanes::<avx512::Simd512u>(&src), [2, 2, 5, 64]);
+}
+
+/// Bytes that all differ.
+fn rising<const N: usize>() -> [u8; N] {
+    let mut bytes = [0x80; N];
+    let mut next = 0x80u8;
+    for byte in bytes.iter_mut() {
+        *byte = next;
+        next = next.wrapping_add(1);
+    }
+    bytes
+}
+
+/// Whether a vector of the last bytes has these bytes, and then zeros.
+fn has_last<S: LoadLast>(src: &[u8], count: usize) -> bool
+    requires few { count < S.LANES }
+    requires inside { count ≤ length src.now }
+{
+    let mut lanes = [0xee; 64];
+    S::load_last(src, count).storeu(&mut lanes);
+    lanes.starts_with(&src[src.len() - count..])
+        && lanes[count..S::LANES].iter().all(|lane| *lane == 0)
+}
+
+/// So it has for a text of each length, and of these for each count.
+fn have_last<S: LoadLast>(rt: &impl Abort, text: &[u8; 80]) {
+    for len in 0..=80usize {
+        for count in 0..S::LANES.min(len + 1) {
+            assert!(rt; has_last::<S>(&text[..len], count), "{count} of {len}");
+        }
+    }
+}
+
+#[test]
+fn last_bytes_of_texts_of_every_length(rt: HostRuntime) {
+    let text = rising();
+    have_last::<v128::Simd128u>(&rt, &text);
+    have_last::<sse2::Simd128u>(&rt, &text);
+    have_last::<neon::Simd128u>(&rt, &text);
+    have_last::<avx2::Simd256u>(&rt, &text);
+    have_last::<avx512::Simd512u>(&rt, &text);
+}

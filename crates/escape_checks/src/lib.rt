@@ -2,7 +2,8 @@
 //! and the per-byte replacement written out.
 #![tactic(auto)]
 
-pub mod plain;
+#[cfg(test)]
+mod plain;
 pub mod routes;
 #[cfg(test)]
 mod tests;

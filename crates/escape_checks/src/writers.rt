@@ -4,7 +4,7 @@ ghost use Rattle.escape_simd.specs.Output.{bound};
 ghost use Rattle.escape_stream.specs.Words.{escaping};
 
 use crate::routes::{KERNELS, WAYS, Way, format, room};
-use escape_simd::html::{escape_html, escape_html_into};
+use escape_simd::html::{escape_html, escape_html_each, escape_html_into};
 use escape_simd::json::{escape, escape_into, escape_script, escape_script_into};
 use escape_simd::{Kernel, format_html_string, format_json_inner, format_script_inner};
 use escape_stream::{Mode, run};
@@ -12,7 +12,7 @@ use std::alloc::Global;
 use std::test::Fail;
 
 /// What wrote something else than it was to write.
-#[derive(Debug, Clone, Copy, PartialEq, Eq)]
+#[derive(Debug, Clone, Copy)]
 pub enum Writer {
     /// A kernel, in this way.
     Kernel(Kernel, Way),
@@ -22,6 +22,8 @@ pub enum Writer {
     Answering,
     /// The call that appends to a vector.
     Appending,
+    /// The call that appends a list to a vector.
+    AppendingEach,
     /// The run of the program, by this kernel.
     Run(Kernel),
 }
@@ -33,34 +35,75 @@ pub fn differing(
     text: &str,
     output: &[u8],
 ) -> Result<Option<Writer>, Fail> {
-    let mut target = vec![in alloc; 0xeeu8; room(mode, text)?]?;
     for kernel in KERNELS {
-        for way in WAYS {
-            let count = format(way, kernel, mode, text, &mut target);
-            if &target[..count] != output {
-                return Ok(Some(Writer::Kernel(kernel, way)));
-            }
+        if let Some(writer) = differing_kernel(alloc, kernel, mode, text, output)? {
+            return Ok(Some(writer));
         }
-        let count = format_inner(kernel, mode, text, &mut target);
-        if target.get(..count) != between_quotes(mode, output) {
-            return Ok(Some(Writer::Inner(kernel)));
-        }
-    }
-    if answered(alloc, mode, text)?.as_bytes() != output {
-        return Ok(Some(Writer::Answering));
-    }
-    if !is_before_and(&appended(alloc, mode, text)?, output) {
-        return Ok(Some(Writer::Appending));
-    }
-    for kernel in KERNELS {
-        let mut input = text.as_bytes();
-        let mut written = Vec::new(alloc);
-        run(alloc, mode, kernel, &mut input, &mut written)?;
-        if written.as_slice() != output {
+        if !runs_write(alloc, kernel, mode, text, output)? {
             return Ok(Some(Writer::Run(kernel)));
         }
     }
+    differing_call(alloc, mode, text, output)
+}
+
+/// The first way to a kernel that writes something else.
+fn differing_kernel(
+    alloc: Global,
+    kernel: Kernel,
+    mode: Mode,
+    text: &str,
+    output: &[u8],
+) -> Result<Option<Writer>, Fail> {
+    let mut target = vec![in alloc; 0xeeu8; room(mode, text)?]?;
+    for way in WAYS {
+        let count = format(way, kernel, mode, text, &mut target);
+        if target.get(..count) != Some(output) {
+            return Ok(Some(Writer::Kernel(kernel, way)));
+        }
+    }
+    let count = format_inner(kernel, mode, text, &mut target);
+    if target.get(..count) != between_quotes(mode, output) {
+        return Ok(Some(Writer::Inner(kernel)));
+    }
     Ok(None)
+}
+
+/// The first of the calls that allocate which writes something else.
+pub fn differing_call(
+    alloc: Global,
+    mode: Mode,
+    text: &str,
+    output: &[u8],
+) -> Result<Option<Writer>, Fail> {
+    let answered = answered(alloc, mode, text)?;
+    if answered.as_bytes() != output {
+        return Ok(Some(Writer::Answering));
+    }
+    let appended = appended(alloc, mode, text)?;
+    if !is_before_and(&appended, output) {
+        return Ok(Some(Writer::Appending));
+    }
+    if mode == Mode::Html {
+        let appended = appended_each(alloc, text)?;
+        if !is_before_and(&appended, output) {
+            return Ok(Some(Writer::AppendingEach));
+        }
+    }
+    Ok(None)
+}
+
+/// Whether a run by this kernel writes the output.
+pub fn runs_write(
+    alloc: Global,
+    kernel: Kernel,
+    mode: Mode,
+    text: &str,
+    output: &[u8],
+) -> Result<bool, Fail> {
+    let mut input = text.as_bytes();
+    let mut written = BEFORE.to_vec(alloc)?;
+    run(alloc, mode, kernel, &mut input, &mut written)?;
+    Ok(is_before_and(&written, output))
 }
 
 fn format_inner(kernel: Kernel, mode: Mode, text: &str, target: &mut [u8]) -> usize
@@ -102,6 +145,13 @@ fn appended(alloc: Global, mode: Mode, text: &str) -> Result<Vec<u8>, Fail> {
     Ok(target)
 }
 
+fn appended_each(alloc: Global, text: &str) -> Result<Vec<u8>, Fail> {
+    let mut target = BEFORE.to_vec(alloc)?;
+    escape_html_each(&[text], &mut target)?;
+    Ok(target)
+}
+
+/// Whether these are what was there before and the output.
 fn is_before_and(appended: &[u8], output: &[u8]) -> bool {
     match appended.strip_prefix(&BEFORE) {
         Some(after) => after == output,

@@ -1,9 +1,7 @@
-//! Capacities at the type's end, and masks at their ends.
+//! Capacities at the type's end.
 
 use escape_simd::html::{InputTooLarge, html_capacity};
 use escape_simd::json::{EscapeError, json_capacity};
-use escape_simd::simd::BitMask;
-use escape_simd::simd::bits::NeonBits;
 
 #[test]
 fn capacities(rt: HostRuntime) {
@@ -15,7 +13,7 @@ fn capacities(rt: HostRuntime) {
         (usize::MAX / 6, Err(InputTooLarge)),
         (usize::MAX, Err(InputTooLarge)),
     ] {
-        assert_eq!(rt; html_capacity(len), capacity, "{len}");
+        assert!(rt; html_capacity(len) == capacity, "{len}");
     }
     for (len, capacity) in [
         (0, Ok(35)),
@@ -24,22 +22,6 @@ fn capacities(rt: HostRuntime) {
         (3074457345618258597, Err(EscapeError::TooLarge)),
         (usize::MAX / 6, Err(EscapeError::TooLarge)),
     ] {
-        assert_eq!(rt; json_capacity(len), capacity, "{len}");
+        assert!(rt; json_capacity(len) == capacity, "{len}");
     }
-}
-
-#[test]
-fn cleared_lanes(rt: HostRuntime) {
-    assert_eq!(rt; 0x8001u16.clear_high_bits(1), 0x0001);
-    assert_eq!(rt; 0x8001u16.clear_high_bits(16), 0);
-    assert_eq!(rt; 0x8000_0001u32.clear_high_bits(31), 1);
-    assert_eq!(rt; u32::MAX.clear_high_bits(0), u32::MAX);
-    assert_eq!(rt; u32::MAX.clear_high_bits(32), 0);
-    assert_eq!(rt; u64::MAX.clear_high_bits(63), 1);
-    assert_eq!(rt; u64::MAX.clear_high_bits(64), 0);
-    assert!(rt; NeonBits::new(0x200).clear_high_bits(14).all_zero());
-    assert!(rt; !NeonBits::new(0x200).clear_high_bits(13).all_zero());
-    assert!(rt; !NeonBits::new(0xf0000).clear_high_bits(4).all_zero());
-    assert!(rt; NeonBits::new(0xf0000).clear_high_bits(12).all_zero());
-    assert!(rt; NeonBits::new(u64::MAX).clear_high_bits(16).all_zero());
 }

@@ -43,27 +43,11 @@ fn is_right_with(rt: &(impl Abort + AllocGlobal), mode: Mode, part: &str) {
 }
 
 #[test]
-fn a_quote_at_each_place_in_json(rt: HostRuntime) {
+fn a_part_at_each_place(rt: HostRuntime) {
     is_right_with(&rt, Mode::Json, "\"");
-}
-
-#[test]
-fn a_quote_at_each_place_in_html(rt: HostRuntime) {
     is_right_with(&rt, Mode::Html, "\"");
-}
-
-#[test]
-fn an_ampersand_at_each_place(rt: HostRuntime) {
     is_right_with(&rt, Mode::Script, "&");
-}
-
-#[test]
-fn an_ellipsis_at_each_place(rt: HostRuntime) {
     is_right_with(&rt, Mode::Script, "\u{2026}");
-}
-
-#[test]
-fn a_separator_at_each_place(rt: HostRuntime) {
     is_right_with(&rt, Mode::Script, "\u{2028}");
 }
 
@@ -121,25 +105,31 @@ fn byte_loop_behind_kernel(rt: HostRuntime) {
     }
 }
 
+/// So it does in each mode for as many of the part as fill the width, after up to two letters.
+fn is_right_with_many(rt: &(impl Abort + AllocGlobal), width: usize, part: &str) {
+    let count = width.checked_div(part.len()).unwrap_or(0).saturating_add(1);
+    for before in 0..3 {
+        is_right(
+            rt,
+            &repeated(rt, &[(before, "a"), (count, part), (1, "a\"a")]),
+        );
+    }
+}
+
 // Escapes in each share of a vector's bytes, with what begins with e2 among them and across the borders.
 #[test]
 fn many_escapes_in_each_width(rt: HostRuntime) {
-    let parts = [
-        "\"a",
-        "\"aaaa",
-        "\"aaaaa",
-        "\"aaaaaa",
-        "\"\u{2028}",
-        "\u{2029}\u{2026}<",
-        "\"\u{20ac}\n",
-    ];
     for width in WIDTHS {
-        for part in parts {
-            let count = width / part.len() + 1;
-            for before in 0..3 {
-                let text = repeated(&rt, &[(before, "a"), (count, part), (1, "a\"a")]);
-                is_right(&rt, &text);
-            }
+        for part in [
+            "\"a",
+            "\"aaaa",
+            "\"aaaaa",
+            "\"aaaaaa",
+            "\"\u{2028}",
+            "\u{2029}\u{2026}<",
+            "\"\u{20ac}\n",
+        ] {
+            is_right_with_many(&rt, width, part);
         }
     }
 }

@@ -1,6 +1,6 @@
 //! Strings of the output's own length, and texts that are answered as they are: what memory they ask for.
 
-use crate::tests::memory::{Heap, is_out_of_memory, is_text, one_request};
+use crate::tests::memory::{Heap, answers_once, one_request};
 use crate::tests::rationed::Rationed;
 use crate::tests::texts::{in_letters, repeated};
 use escape_simd::Refusal;
@@ -8,28 +8,11 @@ use escape_simd::html::{EscapeHtmlError, escape_html_into};
 use escape_simd::json::escape_into;
 use escape_stream::Mode;
 use escape_text::html::{escape_html_compact, escape_html_cow};
-use escape_text::json::{escape_compact, escape_script_compact};
+use escape_text::json::escape_compact;
 use std::borrow::CowStr;
-use std::process::Abort;
-
-fn compact<'a>(heap: &'a Heap, mode: Mode, text: &str) -> Result<String<&'a Heap>, Refusal> {
-    Ok(match mode {
-        Mode::Json => escape_compact(heap, text)?,
-        Mode::Html => escape_html_compact(heap, text)?,
-        Mode::Script => escape_script_compact(heap, text)?,
-    })
-}
-
-/// How long a compact output is, if that is its capacity too.
-fn compact_len(heap: &Heap, mode: Mode, text: &str) -> Option<usize> {
-    match compact(heap, mode, text) {
-        Ok(output) if output.capacity() == output.len() => Some(output.len()),
-        _ => None,
-    }
-}
 
 /// Texts, what stands for each, and how long that is.
-const COMPACT: [(Mode, &str, &str, usize); 6] = [
+static COMPACT: [(Mode, &str, &str, usize); 6] = [
     (Mode::Json, "\n", "\"\\n\"", 4),
     (Mode::Json, "a\"\n", "\"a\\\"\\n\"", 7),
     (Mode::Script, "&", "\"\\u0026\"", 8),
@@ -50,15 +33,9 @@ const COMPACT: [(Mode, &str, &str, usize); 6] = [
 
 #[test]
 fn a_compact_text_asks_once_for_its_length(rt: HostRuntime) {
-    for (mode, text, output, len) in COMPACT {
-        let heap = Rationed::new(rt.alloc());
-        heap.ration(0);
-        assert!(rt; is_out_of_memory(compact(&heap, mode, text)));
-        heap.ration(1);
-        assert!(rt; is_text(compact(&heap, mode, text), output));
-        assert!(rt; heap.requests() == one_request(len));
-        heap.ration(1);
-        assert!(rt; compact_len(&heap, mode, text) == Some(len));
+    let heap = Rationed::new(rt.alloc());
+    for (mode, text, output, len) in &COMPACT {
+        assert!(rt; answers_once(&heap, true, (*mode, text, output), *len));
     }
 }
 
@@ -66,45 +43,54 @@ fn a_compact_text_asks_once_for_its_length(rt: HostRuntime) {
 fn an_empty_text_asks_for_nothing(rt: HostRuntime) {
     let heap = Rationed::new(rt.alloc());
     heap.ration(0);
-    assert!(rt; compact_len(&heap, Mode::Html, "") == Some(0));
+    assert!(rt; escape_html_compact(&heap, "").is_ok());
+    assert!(rt; heap.requests().made == 0);
+}
+
+/// How long the literal of the text is, if that is the capacity of the string too.
+fn compact_len(heap: &Heap, text: &str) -> Option<usize> {
+    match escape_compact(heap, text) {
+        Ok(output) if output.capacity() == output.len() => Some(output.len()),
+        _ => None,
+    }
 }
 
 // Texts that are written at once, as they are, and in several pieces.
 #[test]
 fn the_capacity_is_the_length(rt: HostRuntime) {
+    let heap = Rationed::new(rt.alloc());
     for letters in [0, 79, 80, 200, 600, 20000] {
-        for (part, more) in [("", 0), ("\"", 2), ("\x01", 6)] {
+        for (part, more) in [("", 2), ("\"", 4), ("\x01", 8)] {
             let text = in_letters(&rt, letters, part, letters);
-            let heap = Rationed::new(rt.alloc());
-            let len = compact_len(&heap, Mode::Json, &text);
-            assert!(rt; len == Some(2 * letters + more + 2), "{letters} {more}");
+            assert!(rt; compact_len(&heap, &text) == Some(2 * letters + more));
         }
     }
 }
 
-/// Whether the text is borrowed.
+/// Whether the text is borrowed, with no request.
 fn is_borrowed(heap: &Heap, text: &str) -> bool {
+    heap.ration(0);
     match escape_html_cow(heap, text) {
-        Ok(CowStr::Borrowed(borrowed)) => borrowed == text,
+        Ok(CowStr::Borrowed(borrowed)) => borrowed == text && heap.requests().made == 0,
         _ => false,
     }
 }
 
 #[test]
 fn a_clean_text_is_borrowed_and_asks_for_nothing(rt: HostRuntime) {
+    let heap = Rationed::new(rt.alloc());
     for count in [0, 1, 31, 32, 200, 20000] {
-        let text = repeated(&rt, &[(count, "a\u{2028}")]);
-        let heap = Rationed::new(rt.alloc());
-        heap.ration(0);
-        let is_borrowed = is_borrowed(&heap, &text);
-        assert!(rt; is_borrowed && heap.requests().made == 0, "{count}");
+        assert!(rt; is_borrowed(&heap, &repeated(&rt, &[(count, "a\u{2028}")])));
     }
 }
 
-/// Whether the text is copied, and escaped so.
+/// Whether the text is copied, and escaped so, after one request.
 fn is_copied(heap: &Heap, text: &str, output: &str) -> bool {
+    heap.ration(1);
     match escape_html_cow(heap, text) {
-        Ok(CowStr::Owned(owned)) => owned.as_str() == output,
+        Ok(CowStr::Owned(owned)) => {
+            owned.as_str() == output && heap.requests() == one_request(output.len())
+        }
         _ => false,
     }
 }
@@ -115,13 +101,11 @@ fn another_text_is_copied_once(rt: HostRuntime) {
     heap.ration(0);
     assert!(rt;
         matches!(
-            escape_html_cow(&heap, "a<"),
+            escape_html_cow(&heap, "<"),
             Err(EscapeHtmlError::OutOfMemory)
         )
     );
-    heap.ration(1);
     assert!(rt; is_copied(&heap, "a<", "a&lt;"));
-    assert!(rt; heap.requests() == one_request(5));
 }
 
 /// A row of HTML and of JSON: one error serves both, and the byte between them.
@@ -140,6 +124,13 @@ fn row_of(heap: &Heap, granted: u64) -> Result<Vec<u8, &Heap>, Refusal> {
     Ok(row)
 }
 
+fn is_row_written(heap: &Heap) -> bool {
+    match row_of(heap, u64::MAX) {
+        Ok(row) => row.as_slice() == b"&lt;\n\"<\"".as_slice(),
+        Err(_) => false,
+    }
+}
+
 fn is_row_refused(heap: &Heap, granted: u64) -> bool {
     match row_of(heap, granted) {
         Ok(_) => false,
@@ -150,9 +141,8 @@ fn is_row_refused(heap: &Heap, granted: u64) -> bool {
 #[test]
 fn one_error_for_html_and_json(rt: HostRuntime) {
     let heap = Rationed::new(rt.alloc());
-    let row = row_of(&heap, u64::MAX).expect(&rt, "no memory");
-    assert!(rt; row.as_slice() == b"&lt;\n\"<\"".as_slice());
+    assert!(rt; is_row_written(&heap));
     for granted in 0..heap.requests().made {
-        assert!(rt; is_row_refused(&heap, granted), "{granted}");
+        assert!(rt; is_row_refused(&heap, granted));
     }
 }

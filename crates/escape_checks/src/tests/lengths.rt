@@ -102,22 +102,23 @@ fn a_character_of_e2_at_each_place(rt: HostRuntime) {
     has_length_at_each_place(&rt, Mode::Json, "\u{2028}", 197 + 3 + 2, true);
 }
 
+/// A text of so many parts has this length, and is not clean.
+fn has_length_of_many(
+    rt: &(impl Abort + AllocGlobal),
+    mode: Mode,
+    part: &str,
+    count: usize,
+    wanted: usize,
+) {
+    let text = repeated(rt, &[(count, part)]);
+    holds(rt, has_length(mode, &text, wanted, false), mode, &text);
+}
+
 #[test]
 fn lengths_of_many_escapes(rt: HostRuntime) {
     for count in 1..=200 {
-        let quotes = repeated(&rt, &[(count, "\"")]);
-        assert!(rt;
-            has_length(Mode::Json, &quotes, 2 * count + 2, false),
-            "{count}"
-        );
-        assert!(rt;
-            has_length(Mode::Html, &quotes, 6 * count, false),
-            "{count}"
-        );
-        let separators = repeated(&rt, &[(count, "\u{2029}")]);
-        assert!(rt;
-            has_length(Mode::Script, &separators, 6 * count + 2, false),
-            "{count}"
-        );
+        has_length_of_many(&rt, Mode::Json, "\"", count, 2 * count + 2);
+        has_length_of_many(&rt, Mode::Html, "\"", count, 6 * count);
+        has_length_of_many(&rt, Mode::Script, "\u{2029}", count, 6 * count + 2);
     }
 }

@@ -2,72 +2,27 @@
 
 use crate::routes::KERNELS;
 use crate::tests::rationed::{Rationed, Requests};
-use crate::tests::texts::repeated;
+use crate::tests::texts::{all_are, holds, repeated};
 use escape_simd::html::{
     EscapeHtmlError, InputTooLarge, escape_html_each, escape_html_in, escape_html_into,
 };
-use escape_simd::json::{
-    EscapeError, escape_in, escape_into, escape_script_in, escape_script_into,
-};
+use escape_simd::json::{escape_in, escape_into, escape_script_in, escape_script_into};
 use escape_simd::{Kernel, Refusal};
 use escape_stream::{Mode, ToolFault, run_in};
+use escape_text::html::escape_html_compact;
+use escape_text::json::{escape_compact, escape_script_compact};
 use std::alloc::{AllocError, Global};
 use std::process::Abort;
 
 pub type Heap = Rationed<Global>;
 
-/// A call that appends what stands for one text.
-#[derive(Debug, Clone, Copy)]
-enum Appending {
-    Json,
-    Html,
-    HtmlEach,
-    Script,
-}
-
-/// The calls, each with the scratch bound of its text and with what it writes.
-const APPENDING: [(Appending, usize, &[u8]); 4] = [
-    (Appending::Json, 41, b"\"x\""),
-    (Appending::Html, 38, b"&lt;"),
-    (Appending::HtmlEach, 38, b"&lt;"),
-    (Appending::Script, 41, b"\"\\u0026\""),
-];
-
-fn append(call: Appending, dst: &mut Vec<u8, &Heap>) -> Result<(), Refusal> {
-    match call {
-        Appending::Json => escape_into("x", dst)?,
-        Appending::Html => escape_html_into("<", dst)?,
-        Appending::HtmlEach => append_each(dst)?,
-        Appending::Script => escape_script_into("&", dst)?,
+/// The account of one request, for so many bytes, that was the only one granted.
+pub fn one_request(size: usize) -> Requests {
+    Requests {
+        left: 0,
+        made: 1,
+        last_size: size,
     }
-    Ok(())
-}
-
-fn append_each(dst: &mut Vec<u8, &Heap>) -> Result<(), EscapeHtmlError> {
-    match escape_html_each(&["<"], dst) {
-        Ok(()) => Ok(()),
-        Err((0, error)) => Err(error),
-        Err(_) => Err(EscapeHtmlError::TooLarge(InputTooLarge)),
-    }
-}
-
-/// Whether the call is refused where no request is granted, and leaves `len` bytes ff as they were.
-fn is_refused(call: Appending, heap: &Heap, dst: &mut Vec<u8, &Heap>, len: usize) -> bool {
-    heap.ration(0);
-    append(call, dst) == Err(Refusal::OutOfMemory) && is_ff_and(dst, len, b"")
-}
-
-/// Whether the call appends this to `len` bytes ff where so many requests are granted.
-fn is_appended(
-    call: Appending,
-    heap: &Heap,
-    granted: u64,
-    dst: &mut Vec<u8, &Heap>,
-    len: usize,
-    written: &[u8],
-) -> bool {
-    heap.ration(granted);
-    append(call, dst).is_ok() && is_ff_and(dst, len, written)
 }
 
 /// A vector that holds `len` bytes ff and has room for `spare` more.
@@ -87,158 +42,215 @@ fn filled(heap: &Heap, len: usize, spare: usize) -> Result<Vec<u8, &Heap>, Alloc
 }
 
 /// Whether these are `len` bytes ff, and then the others.
-pub fn is_ff_and(bytes: &[u8], len: usize, others: &[u8]) -> bool {
-    bytes.len().checked_sub(others.len()) == Some(len)
-        && bytes.iter().take(len).all(|byte| *byte == 0xff)
-        && bytes.ends_with(others)
-}
-
-/// The account of one request, for so many bytes, that was the only one granted.
-pub fn one_request(size: usize) -> Requests {
-    Requests {
-        left: 0,
-        made: 1,
-        last_size: size,
+fn is_ff_and(bytes: &[u8], len: usize, others: &[u8]) -> bool {
+    match bytes.strip_suffix(others) {
+        Some(front) => front.len() == len && all_are(front, 0xff),
+        None => false,
     }
 }
 
-/// The call asks once for the bound, to append to `len` bytes with room for `spare` more.
-fn asks_once(
-    rt: &(impl Abort + AllocGlobal),
-    (call, bound, written): (Appending, usize, &[u8]),
-    len: usize,
-    spare: usize,
-) {
+/// A call that appends what stands for one text.
+#[derive(Clone, Copy)]
+enum Call {
+    Json,
+    Html,
+    HtmlEach,
+    Script,
+}
+
+/// A call, a text, the scratch bound of the text, and what the call writes.
+type Row<'a> = (Call, &'a str, usize, &'a str);
+
+static ROWS: [Row<'static>; 4] = [
+    (Call::Json, "x", 41, "\"x\""),
+    (Call::Html, "<", 38, "&lt;"),
+    (Call::HtmlEach, "<", 38, "&lt;"),
+    (Call::Script, "&", 41, "\"\\u0026\""),
+];
+
+fn append(call: Call, text: &str, dst: &mut Vec<u8, &Heap>) -> Result<(), Refusal> {
+    match call {
+        Call::Json => escape_into(text, dst)?,
+        Call::Html => escape_html_into(text, dst)?,
+        Call::HtmlEach => append_each(text, dst)?,
+        Call::Script => escape_script_into(text, dst)?,
+    }
+    Ok(())
+}
+
+fn append_each(text: &str, dst: &mut Vec<u8, &Heap>) -> Result<(), EscapeHtmlError> {
+    match escape_html_each(&[text], dst) {
+        Ok(()) => Ok(()),
+        Err((0, error)) => Err(error),
+        Err(_) => Err(EscapeHtmlError::TooLarge(InputTooLarge)),
+    }
+}
+
+/// Whether the call is refused, and leaves `len` bytes ff as they were.
+fn is_refused(call: Call, text: &str, dst: &mut Vec<u8, &Heap>, len: usize) -> bool {
+    append(call, text, dst) == Err(Refusal::OutOfMemory) && is_ff_and(dst, len, b"")
+}
+
+/// Whether the call appends what it is to write to `len` bytes ff.
+fn is_appended((call, text, _, written): Row<'_>, dst: &mut Vec<u8, &Heap>, len: usize) -> bool {
+    append(call, text, dst).is_ok() && is_ff_and(dst, len, written.as_bytes())
+}
+
+/// Whether the call is refused where no request is granted, and asks once for the bound where one is.
+fn is_asked_once(heap: &Heap, row: Row<'_>, dst: &mut Vec<u8, &Heap>, len: usize) -> bool {
+    heap.ration(0);
+    let is_refused = is_refused(row.0, row.1, dst, len);
+    heap.ration(1);
+    is_refused
+        && is_appended(row, dst, len)
+        && heap.requests() == one_request(len.saturating_add(row.2))
+}
+
+/// So it is, to append to `len` bytes with room for `spare` more.
+fn asks_once(rt: &(impl Abort + AllocGlobal), row: Row<'_>, len: usize, spare: usize) {
     let heap = Rationed::new(rt.alloc());
     let mut dst = vector_of(rt, &heap, len, spare);
-    let holds = is_refused(call, &heap, &mut dst, len)
-        && is_appended(call, &heap, 1, &mut dst, len, written)
-        && heap.requests() == one_request(len.saturating_add(bound));
-    assert!(rt; holds, "{call:?} {len}");
+    assert!(rt; is_asked_once(&heap, row, &mut dst, len));
 }
 
 #[test]
 fn appending_asks_once_for_the_bound(rt: HostRuntime) {
-    for row in APPENDING {
+    for row in &ROWS {
         // So much less than the bound that a vector of twice the capacity would not hold it.
-        for (len, spare) in [(1, 0), (3, 7), (5, 12)] {
-            asks_once(&rt, row, len, spare);
-        }
+        asks_once(&rt, *row, 1, 0);
+        asks_once(&rt, *row, 3, 7);
+        asks_once(&rt, *row, 5, 12);
     }
-}
-
-fn is_appended_often(call: Appending, dst: &mut Vec<u8, &Heap>) -> bool {
-    for _ in 0..10000 {
-        if append(call, dst).is_err() {
-            return false;
-        }
-    }
-    true
 }
 
 #[test]
-fn appending_often_asks_seldom(rt: HostRuntime) {
-    for (call, _, written) in APPENDING {
-        let heap = Rationed::new(rt.alloc());
-        let mut dst = vector_of(&rt, &heap, 0, 0);
-        heap.ration(20);
-        let is_appended = is_appended_often(call, &mut dst);
-        assert!(rt;
-            is_appended && dst.len() == 10000 * written.len(),
-            "{call:?}"
-        );
-    }
+fn a_long_text_asks_once_for_the_bound(rt: HostRuntime) {
+    let len = 3 * escape_simd::PIECE;
+    let text = repeated(&rt, &[(len, "\"")]);
+    let output = repeated(&rt, &[(1, "\""), (len, "\\\""), (1, "\"")]);
+    asks_once(&rt, (Call::Json, &text, 6 * len + 35, &output), 1, 0);
 }
 
-/// The call asks for nothing, where there is room for `spare` bytes.
-fn asks_for_nothing(
-    rt: &(impl Abort + AllocGlobal),
-    call: Appending,
-    spare: usize,
-    written: &[u8],
-) {
+/// Whether the call asks for nothing, where there is room for `spare` bytes.
+fn asks_for_nothing(rt: &(impl Abort + AllocGlobal), row: Row<'_>, spare: usize) {
     let heap = Rationed::new(rt.alloc());
     let mut dst = vector_of(rt, &heap, 1, spare);
-    let is_appended = is_appended(call, &heap, 0, &mut dst, 1, written);
-    assert!(rt;
-        is_appended && heap.requests().made == 0,
-        "{call:?} {spare}"
-    );
+    heap.ration(0);
+    assert!(rt; is_appended(row, &mut dst, 1));
+    assert!(rt; heap.requests().made == 0);
 }
 
 #[test]
 fn appending_asks_for_nothing_where_there_is_room(rt: HostRuntime) {
-    for (call, bound, written) in APPENDING {
-        for spare in [bound, bound + 1, 2 * bound] {
-            asks_for_nothing(&rt, call, spare, written);
+    for row in &ROWS {
+        let bound = row.2;
+        for spare in [bound, bound.saturating_add(1), bound.saturating_mul(2)] {
+            asks_for_nothing(&rt, *row, spare);
         }
     }
 }
 
-const LETTERS: &str = "aaaaaaaaaaaaaaaaaaaaaaaaaaaaaaaaaaaaaaaaaaaaaaaaaa\
-    aaaaaaaaaaaaaaaaaaaaaaaaaaaaaaaaaaaaaaaaaaaaaaaaaa";
+/// How many bytes the call appends in ten thousand turns, if each is granted what it asks for.
+fn appended_often((call, text, _, _): Row<'_>, heap: &Heap) -> Option<usize> {
+    let mut dst = Vec::new(heap);
+    for _ in 0..10000 {
+        append(call, text, &mut dst).ok()?;
+    }
+    Some(dst.len())
+}
+
+#[test]
+fn appending_often_asks_seldom(rt: HostRuntime) {
+    for row in &ROWS {
+        let heap = Rationed::new(rt.alloc());
+        heap.ration(20);
+        let wanted = row.3.len().saturating_mul(10000);
+        assert!(rt; appended_often(*row, &heap) == Some(wanted));
+    }
+}
 
 /// Whether a list of which only so many texts are granted memory is written up to the next.
-fn is_stopped_after(heap: &Heap, granted: usize, dst: &mut Vec<u8, &Heap>, written: &[u8]) -> bool {
-    heap.ration(granted as u64);
-    escape_html_each(&["<", LETTERS], dst) == Err((granted, EscapeHtmlError::OutOfMemory))
-        && is_ff_and(dst, 1, written)
+fn is_stopped_after(written: usize, dst: &mut Vec<u8, &Heap>, letters: &str, bytes: &[u8]) -> bool {
+    escape_html_each(&["<", letters], dst) == Err((written, EscapeHtmlError::OutOfMemory))
+        && is_ff_and(dst, 1, bytes)
+}
+
+fn is_whole_list(dst: &mut Vec<u8, &Heap>, letters: &str) -> bool {
+    escape_html_each(&["<", letters], dst).is_ok()
+        && dst.starts_with(b"\xff&lt;a")
+        && dst.ends_with(letters.as_bytes())
+        && dst.len() == 1 + 4 + 100
 }
 
 #[test]
 fn texts_before_a_refusal_stay(rt: HostRuntime) {
+    let letters = repeated(&rt, &[(100, "a")]);
     let heap = Rationed::new(rt.alloc());
-    assert!(rt; is_stopped_after(&heap, 0, &mut vector_of(&rt, &heap, 1, 0), b""));
-    heap.ration(u64::MAX);
-    assert!(rt; is_stopped_after(&heap, 1, &mut vector_of(&rt, &heap, 1, 0), b"&lt;"));
-    heap.ration(u64::MAX);
-    let mut dst = vector_of(&rt, &heap, 1, 0);
+    let mut first = vector_of(&rt, &heap, 1, 0);
+    let mut second = vector_of(&rt, &heap, 1, 0);
+    let mut third = vector_of(&rt, &heap, 1, 0);
+    heap.ration(0);
+    assert!(rt; is_stopped_after(0, &mut first, &letters, b""));
+    heap.ration(1);
+    assert!(rt; is_stopped_after(1, &mut second, &letters, b"&lt;"));
     heap.ration(2);
-    assert!(rt; escape_html_each(&["<", LETTERS], &mut dst).is_ok());
-    assert!(rt; dst.starts_with(b"\xff&lt;a") && dst.ends_with(LETTERS.as_bytes()));
-    assert!(rt; dst.len() == 1 + 4 + 100);
+    assert!(rt; is_whole_list(&mut third, &letters));
     assert!(rt; heap.requests().last_size == 1 + 4 + 632);
 }
 
-/// Texts, what stands for each, and the bound of a text.
-const ANSWERS: [(Mode, &str, &str, usize); 3] = [
-    (Mode::Json, "x", "\"x\"", 41),
-    (Mode::Html, "<", "&lt;", 38),
-    (Mode::Script, "&", "\"\\u0026\"", 41),
-];
-
-fn answer<'a>(heap: &'a Heap, mode: Mode, text: &str) -> Result<String<&'a Heap>, Refusal> {
-    Ok(match mode {
-        Mode::Json => escape_in(heap, text)?,
-        Mode::Html => escape_html_in(heap, text)?,
-        Mode::Script => escape_script_in(heap, text)?,
+/// What the call of the mode answers: the compact one, or the one that asks for the bound.
+fn answer<'a>(
+    heap: &'a Heap,
+    is_compact: bool,
+    mode: Mode,
+    text: &str,
+) -> Result<String<&'a Heap>, Refusal> {
+    Ok(match (mode, is_compact) {
+        (Mode::Json, false) => escape_in(heap, text)?,
+        (Mode::Json, true) => escape_compact(heap, text)?,
+        (Mode::Html, false) => escape_html_in(heap, text)?,
+        (Mode::Html, true) => escape_html_compact(heap, text)?,
+        (Mode::Script, false) => escape_script_in(heap, text)?,
+        (Mode::Script, true) => escape_script_compact(heap, text)?,
     })
 }
 
-pub fn is_text(answer: Result<String<&Heap>, Refusal>, text: &str) -> bool {
+/// Whether the answer is this text, in a string of this capacity.
+fn is_text(answer: Result<String<&Heap>, Refusal>, text: &str, capacity: usize) -> bool {
     match answer {
-        Ok(answer) => answer.as_str() == text,
+        Ok(answer) => answer.as_str() == text && answer.capacity() == capacity,
         Err(_) => false,
     }
 }
 
-pub fn is_out_of_memory(answer: Result<String<&Heap>, Refusal>) -> bool {
+fn is_out_of_memory(answer: Result<String<&Heap>, Refusal>) -> bool {
     match answer {
         Ok(_) => false,
         Err(refusal) => refusal == Refusal::OutOfMemory,
     }
 }
 
+/// Whether the call asks once for so many bytes, and answers this in a string of that capacity.
+pub fn answers_once(
+    heap: &Heap,
+    is_compact: bool,
+    (mode, text, output): (Mode, &str, &str),
+    size: usize,
+) -> bool {
+    heap.ration(0);
+    let is_refused = is_out_of_memory(answer(heap, is_compact, mode, text));
+    heap.ration(1);
+    is_refused
+        && is_text(answer(heap, is_compact, mode, text), output, size)
+        && heap.requests() == one_request(size)
+}
+
 #[test]
 fn a_text_asks_once_for_the_bound(rt: HostRuntime) {
-    for (mode, text, output, bound) in ANSWERS {
-        let heap = Rationed::new(rt.alloc());
-        heap.ration(0);
-        assert!(rt; is_out_of_memory(answer(&heap, mode, text)));
-        heap.ration(1);
-        assert!(rt; is_text(answer(&heap, mode, text), output));
-        assert!(rt; heap.requests() == one_request(bound));
-    }
+    let heap = Rationed::new(rt.alloc());
+    assert!(rt; answers_once(&heap, false, (Mode::Json, "x", "\"x\""), 41));
+    assert!(rt; answers_once(&heap, false, (Mode::Html, "<", "&lt;"), 38));
+    assert!(rt; answers_once(&heap, false, (Mode::Script, "&", "\"\\u0026\""), 41));
 }
 
 /// Whether a run on "<" that is granted so many requests makes `made`, ends so, and appends these.
@@ -267,10 +279,10 @@ fn one_byte(rt: &(impl Abort + AllocGlobal)) -> Vec<u8> {
 
 fn asks_twice(rt: &(impl Abort + AllocGlobal), mode: Mode, kernel: Kernel, written: &[u8]) {
     let refused = Err(ToolFault::OutOfMemory);
-    let holds = is_run_of(rt, (mode, kernel), (0, 1), refused, b"")
+    let is_right = is_run_of(rt, (mode, kernel), (0, 1), refused, b"")
         && is_run_of(rt, (mode, kernel), (1, 2), refused, b"")
         && is_run_of(rt, (mode, kernel), (2, 2), Ok(()), written);
-    assert!(rt; holds, "{mode:?} {kernel:?}");
+    holds(rt, is_right, mode, "<");
 }
 
 // On so short an input a run asks twice: for the input, and for what its one piece may become.
@@ -283,38 +295,17 @@ fn a_run_asks_for_the_input_and_a_piece(rt: HostRuntime) {
     }
 }
 
-#[test]
-fn a_long_text_asks_once_for_the_bound(rt: HostRuntime) {
-    let len = 3 * escape_simd::PIECE;
-    let text = repeated(&rt, &[(len, "\"")]);
-    let heap = Rationed::new(rt.alloc());
-    let mut dst = vector_of(&rt, &heap, 1, 0);
-    heap.ration(0);
-    assert!(rt; escape_into(&text, &mut dst) == Err(EscapeError::OutOfMemory));
-    assert!(rt; is_ff_and(&dst, 1, b""));
-    assert!(rt; heap.requests() == one_request(1 + 6 * len + 35));
-    heap.ration(1);
-    assert!(rt; escape_into(&text, &mut dst).is_ok());
-    assert!(rt; dst.first() == Some(&0xff) && dst.len() == 1 + 2 * len + 2);
-    assert!(rt; heap.requests() == one_request(1 + 6 * len + 35));
-}
-
 /// Whether a run on the text, of two pieces, ends well where so many requests are granted. Else memory was
 /// refused, and nothing was written.
 fn is_long_run(rt: &(impl Abort + AllocGlobal), heap: &Heap, granted: u64, text: &str) -> bool {
-    heap.ration(granted);
     let mut input = text.as_bytes();
     let mut output = one_byte(rt);
-    match run_in(heap, Mode::Html, Kernel::Avx2, &mut input, &mut output) {
-        Ok(()) => {
-            assert!(rt; output.len() == 1 + 8 * escape_stream::PIECE);
-            true
-        }
-        Err(fault) => {
-            assert!(rt; fault == ToolFault::OutOfMemory && is_ff_and(&output, 1, b""));
-            false
-        }
-    }
+    heap.ration(granted);
+    let outcome = run_in(heap, Mode::Html, Kernel::Avx2, &mut input, &mut output);
+    let is_whole = outcome.is_ok() && output.len() == 1 + 8 * escape_stream::PIECE;
+    let is_refused = outcome == Err(ToolFault::OutOfMemory) && is_ff_and(&output, 1, b"");
+    assert!(rt; is_whole || is_refused);
+    is_whole
 }
 
 // A run on more than a piece asks for the input as it grows, and at last for what a piece may become.

@@ -4,39 +4,31 @@ use escape_simd::Refusal;
 use escape_simd::html::{EscapeHtmlError, InputTooLarge};
 use escape_simd::json::EscapeError;
 use escape_text::ListError;
-use std::alloc::Global;
 use std::fmt::Display;
+use std::process::Abort;
 
-fn prints<E: Display>(alloc: Global, error: &E, text: &str) -> bool {
-    match error.to_string(alloc) {
-        Ok(printed) => printed.as_str() == text,
-        Err(_) => false,
-    }
+fn prints<E: Display>(rt: &(impl Abort + AllocGlobal), error: &E, text: &str) {
+    let printed = error.to_string(rt.alloc()).expect(rt, "no memory");
+    assert!(rt; printed.as_str() == text, "{printed}");
 }
 
 #[test]
 fn messages_of_refusals(rt: HostRuntime) {
-    let too_large = "input is too large to JSON-escape";
-    assert!(rt; prints(rt.alloc(), &EscapeError::TooLarge, too_large));
-    assert!(rt; prints(rt.alloc(), &EscapeError::OutOfMemory, "out of memory"));
-    let too_large = "input is too large to HTML-escape";
-    assert!(rt; prints(rt.alloc(), &InputTooLarge, too_large));
-    assert!(rt;
-        prints(
-            rt.alloc(),
-            &EscapeHtmlError::TooLarge(InputTooLarge),
-            too_large
-        )
+    prints(
+        &rt,
+        &EscapeError::TooLarge,
+        "input is too large to JSON-escape",
     );
-    assert!(rt; prints(rt.alloc(), &EscapeHtmlError::OutOfMemory, "out of memory"));
-    assert!(rt;
-        prints(
-            rt.alloc(),
-            &Refusal::TooLarge,
-            "input is too large to escape"
-        )
+    prints(&rt, &EscapeError::OutOfMemory, "out of memory");
+    prints(&rt, &InputTooLarge, "input is too large to HTML-escape");
+    prints(
+        &rt,
+        &EscapeHtmlError::TooLarge(InputTooLarge),
+        "input is too large to HTML-escape",
     );
-    assert!(rt; prints(rt.alloc(), &Refusal::OutOfMemory, "out of memory"));
+    prints(&rt, &EscapeHtmlError::OutOfMemory, "out of memory");
+    prints(&rt, &Refusal::TooLarge, "input is too large to escape");
+    prints(&rt, &Refusal::OutOfMemory, "out of memory");
 }
 
 #[test]
@@ -45,5 +37,5 @@ fn a_stopped_list_tells_how_far_it_came(rt: HostRuntime) {
         written: 3,
         reason: EscapeError::OutOfMemory,
     };
-    assert!(rt; prints(rt.alloc(), &error, "out of memory, after 3 texts"));
+    prints(&rt, &error, "out of memory, after 3 texts");
 }

@@ -4,32 +4,19 @@
 use crate::plain::plain;
 use crate::routes::MODES;
 use crate::tests::rows::calls_write;
+use crate::tests::runs::runs_are_right;
 use crate::tests::targets::targets_are_right;
-use crate::tests::texts::{holds, repeated};
-use crate::writers::runs_write;
-use escape_simd::Kernel;
+use crate::tests::texts::repeated;
 use std::process::Abort;
-use std::test::Fail;
 
 /// What lies across a border: a run of escapes, a character, separators.
 const ACROSS: [&str; 3] = ["\"\\\n<&>", "\u{1d11e}", "\u{2028}\u{2029}"];
 
 /// The calls that allocate append and answer what stands for the text character by character, in each mode.
-fn calls_are_right(rt: &(impl Abort + AllocGlobal), text: &str) -> Result<(), Fail> {
+fn calls_are_right(rt: &(impl Abort + AllocGlobal), text: &str) {
     for mode in MODES {
-        calls_write(rt, mode, text, &plain(rt, mode, text))?;
+        calls_write(rt, mode, text, &plain(rt, mode, text));
     }
-    Ok(())
-}
-
-/// A run writes it.
-fn runs_are_right(rt: &(impl Abort + AllocGlobal), text: &str) -> Result<(), Fail> {
-    for mode in MODES {
-        let wanted = plain(rt, mode, text);
-        let is_right = runs_write(rt.alloc(), Kernel::Avx2, mode, text, wanted.as_bytes())?;
-        holds(rt, is_right, mode, text);
-    }
-    Ok(())
 }
 
 /// A text of `len` bytes: letters alone, letters after a quotation mark, or quotation marks alone.
@@ -42,15 +29,14 @@ fn text_of(rt: &(impl Abort + AllocGlobal), quotes: usize, len: usize) -> String
 const QUOTES: [usize; 3] = [0, 1, usize::MAX];
 
 #[test]
-fn calls_on_texts_as_long_as_pieces(rt: HostRuntime) -> Result<(), Fail> {
+fn calls_on_texts_as_long_as_pieces(rt: HostRuntime) {
     for end in [escape_simd::PIECE, 2 * escape_simd::PIECE] {
         for len in [end - 1, end, end + 1] {
             for quotes in QUOTES {
-                calls_are_right(&rt, &text_of(&rt, quotes, len))?;
+                calls_are_right(&rt, &text_of(&rt, quotes, len));
             }
         }
     }
-    Ok(())
 }
 
 /// Where a short text, a piece, or a front that is asked whether it stands for itself, can end: a front comes
@@ -88,22 +74,17 @@ fn targets_across_borders(rt: HostRuntime) {
 }
 
 #[test]
-fn runs_on_texts_as_long_as_pieces(rt: HostRuntime) -> Result<(), Fail> {
+fn runs_on_texts_as_long_as_pieces(rt: HostRuntime) {
     let piece = escape_stream::PIECE;
     for len in [piece - 1, piece, piece + 1, 2 * piece] {
         for quotes in QUOTES {
-            runs_are_right(&rt, &text_of(&rt, quotes, len))?;
+            runs_are_right(&rt, &text_of(&rt, quotes, len));
         }
     }
-    Ok(())
 }
 
 /// The calls write what stands for a text with a clean front that ends near here.
-fn calls_are_right_after(
-    rt: &(impl Abort + AllocGlobal),
-    front: usize,
-    across: &str,
-) -> Result<(), Fail> {
+fn calls_are_right_after(rt: &(impl Abort + AllocGlobal), front: usize, across: &str) {
     for more in [0, 40, 300] {
         let parts = [
             (front, "a"),
@@ -112,32 +93,25 @@ fn calls_are_right_after(
             (1, "\""),
             (more, "c"),
         ];
-        calls_are_right(rt, &repeated(rt, &parts))?;
+        calls_are_right(rt, &repeated(rt, &parts));
     }
-    Ok(())
 }
 
 // The calls append clean chunks as they are, up to the first that has an escape. A clean front can end after a
 // vector, two, a chunk, these after each other, and so many chunks.
 #[test]
-fn calls_after_clean_fronts(rt: HostRuntime) -> Result<(), Fail> {
+fn calls_after_clean_fronts(rt: HostRuntime) {
     for across in ACROSS {
         for end in [32, 64, 128, 160, 256, 512] {
             for front in end - 7..end + 2 {
-                calls_are_right_after(&rt, front, across)?;
+                calls_are_right_after(&rt, front, across);
             }
         }
     }
-    Ok(())
 }
 
 /// The calls write what stands for a text with the part across the end of a piece, which begins after the front.
-fn calls_are_right_across(
-    rt: &(impl Abort + AllocGlobal),
-    front: usize,
-    end: usize,
-    across: &str,
-) -> Result<(), Fail> {
+fn calls_are_right_across(rt: &(impl Abort + AllocGlobal), front: usize, end: usize, across: &str) {
     let start = end.saturating_sub(7);
     for first in start..start.saturating_add(9) {
         let parts = [
@@ -147,29 +121,26 @@ fn calls_are_right_across(
             (1, across),
             (40, "b"),
         ];
-        calls_are_right(rt, &repeated(rt, &parts))?;
+        calls_are_right(rt, &repeated(rt, &parts));
     }
-    Ok(())
 }
 
 // The calls cut pieces from the first chunk that has an escape on.
 #[test]
-fn calls_across_borders(rt: HostRuntime) -> Result<(), Fail> {
+fn calls_across_borders(rt: HostRuntime) {
     for across in ACROSS {
-        calls_are_right_across(&rt, 0, escape_simd::PIECE, across)?;
-        calls_are_right_across(&rt, 256, escape_simd::PIECE, across)?;
-        calls_are_right_across(&rt, 0, 2 * escape_simd::PIECE, across)?;
+        calls_are_right_across(&rt, 0, escape_simd::PIECE, across);
+        calls_are_right_across(&rt, 256, escape_simd::PIECE, across);
+        calls_are_right_across(&rt, 0, 2 * escape_simd::PIECE, across);
     }
-    Ok(())
 }
 
 #[test]
-fn runs_across_borders(rt: HostRuntime) -> Result<(), Fail> {
+fn runs_across_borders(rt: HostRuntime) {
     for across in ACROSS {
         for first in escape_stream::PIECE - 6..escape_stream::PIECE + 3 {
             let parts = [(first, "a"), (1, across), (40, "b")];
-            runs_are_right(&rt, &repeated(&rt, &parts))?;
+            runs_are_right(&rt, &repeated(&rt, &parts));
         }
     }
-    Ok(())
 }

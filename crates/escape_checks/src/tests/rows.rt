@@ -8,7 +8,6 @@ use escape_simd::simd::target::Target;
 use escape_simd::simd::util::escape_unchecked;
 use escape_stream::Mode;
 use std::process::Abort;
-use std::test::Fail;
 
 /// Parts of a text, or of what stands for it, each with how often it comes.
 type Parts = &'static [(usize, &'static str)];
@@ -150,27 +149,15 @@ static SCRIPT_LITERALS: [(Parts, Parts); 15] = [
 ];
 
 /// All that writes in this mode writes the output for the text.
-pub fn all_write(
-    rt: &(impl Abort + AllocGlobal),
-    mode: Mode,
-    text: &str,
-    output: &str,
-) -> Result<(), Fail> {
-    let writer = differing(rt.alloc(), mode, text, output.as_bytes())?;
+pub fn all_write(rt: &(impl Abort + AllocGlobal), mode: Mode, text: &str, output: &str) {
+    let writer = differing(rt.alloc(), mode, text, output.as_bytes()).expect(rt, "no memory");
     is_none(rt, writer, mode, text);
-    Ok(())
 }
 
 /// The calls of this mode that allocate write the output for the text.
-pub fn calls_write(
-    rt: &(impl Abort + AllocGlobal),
-    mode: Mode,
-    text: &str,
-    output: &str,
-) -> Result<(), Fail> {
-    let writer = differing_call(rt.alloc(), mode, text, output.as_bytes())?;
+pub fn calls_write(rt: &(impl Abort + AllocGlobal), mode: Mode, text: &str, output: &str) {
+    let writer = differing_call(rt.alloc(), mode, text, output.as_bytes());
     is_none(rt, writer, mode, text);
-    Ok(())
 }
 
 /// Stops the test at a writer, and tells which it is, and of which text.
@@ -180,41 +167,38 @@ fn is_none(rt: &impl Abort, writer: Option<Writer>, mode: Mode, text: &str) {
     }
 }
 
-/// So it does for each row.
-fn all_write_rows(
-    rt: &(impl Abort + AllocGlobal),
-    mode: Mode,
-    rows: &[(Parts, Parts)],
-) -> Result<(), Fail> {
+fn all_write_rows(rt: &(impl Abort + AllocGlobal), mode: Mode, rows: &[(Parts, Parts)]) {
     for (text, output) in rows {
-        all_write(rt, mode, &repeated(rt, text), &repeated(rt, output))?;
+        all_write(rt, mode, &repeated(rt, text), &repeated(rt, output));
     }
-    Ok(())
 }
 
 #[test]
-fn literals(rt: HostRuntime) -> Result<(), Fail> {
-    all_write_rows(&rt, Mode::Json, &LITERALS)
+fn literals(rt: HostRuntime) {
+    all_write_rows(&rt, Mode::Json, &LITERALS);
 }
 
 #[test]
-fn script_literals(rt: HostRuntime) -> Result<(), Fail> {
-    all_write_rows(&rt, Mode::Script, &SCRIPT_LITERALS)
+fn script_literals(rt: HostRuntime) {
+    all_write_rows(&rt, Mode::Script, &SCRIPT_LITERALS);
 }
 
 #[test]
-fn markup_free(rt: HostRuntime) -> Result<(), Fail> {
-    all_write_rows(&rt, Mode::Html, &MARKUP_FREE)
+fn markup_free(rt: HostRuntime) {
+    all_write_rows(&rt, Mode::Html, &MARKUP_FREE);
+}
+
+/// Whether the texts are appended as these.
+fn each_appends(texts: &[&str], target: &mut Vec<u8>, bytes: &[u8]) -> bool {
+    escape_html_each(texts, target).is_ok() && target.as_slice() == bytes
 }
 
 #[test]
-fn texts_one_after_another(rt: HostRuntime) -> Result<(), Fail> {
-    let mut appended = vec![in rt.alloc(); 0x41]?;
-    assert!(rt; escape_html_each(&[], &mut appended).is_ok());
-    assert!(rt; appended.as_slice() == b"A".as_slice());
-    assert!(rt; escape_html_each(&["<", "", "a&"], &mut appended).is_ok());
-    assert!(rt; appended.as_slice() == b"A&lt;a&amp;".as_slice());
-    Ok(())
+fn texts_one_after_another(rt: HostRuntime) {
+    let mut target = Vec::new(rt.alloc());
+    assert!(rt; each_appends(&["a"], &mut target, b"a"));
+    assert!(rt; each_appends(&[], &mut target, b"a"));
+    assert!(rt; each_appends(&["<", "", "a&"], &mut target, b"a&lt;a&amp;"));
 }
 
 /// Whether a run of two in HTML is written, and no byte six or more past it.

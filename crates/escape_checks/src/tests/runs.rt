@@ -3,7 +3,7 @@
 use crate::plain::plain;
 use crate::routes::{KERNELS, MODES};
 use crate::tests::rows::calls_write;
-use crate::tests::texts::repeated;
+use crate::tests::texts::{holds, repeated};
 use crate::writers::runs_write;
 use escape_simd::Kernel;
 use escape_stream::{Mode, ToolFault, run};
@@ -11,7 +11,6 @@ use std::alloc::Global;
 use std::io;
 use std::io::Write;
 use std::process::Abort;
-use std::test::Fail;
 
 /// Takes at most `step` bytes a call, and counts its calls.
 #[derive(Drop)]
@@ -53,38 +52,31 @@ impl Write for Counting {
 
 // A body that always returns `OutOfMemory` keeps every clause. Here memory is at hand.
 #[test]
-fn always_out_of_memory(rt: HostRuntime) -> Result<(), Fail> {
-    let text = "\u{1d11e}<a href='/x'>\n";
-    let literal = "\"\u{1d11e}<a href='/x'>\\n\"";
-    let html = "\u{1d11e}&lt;a href=&#x27;&#x2f;x&#x27;&gt;\n";
-    let script = "\"\u{1d11e}\\u003ca href='/x'\\u003e\\n\"";
-    calls_write(&rt, Mode::Json, text, literal)?;
-    calls_write(&rt, Mode::Html, text, html)?;
-    calls_write(&rt, Mode::Script, text, script)
+fn always_out_of_memory(rt: HostRuntime) {
+    calls_write(&rt, Mode::Json, "<\n", "\"<\\n\"");
+    calls_write(&rt, Mode::Html, "<\n", "&lt;\n");
+    calls_write(&rt, Mode::Script, "<\n", "\"\\u003c\\n\"");
 }
 
-/// A run by each kernel writes what stands for the text.
-fn runs_are_right(rt: &(impl Abort + AllocGlobal), mode: Mode, text: &str) -> Result<(), Fail> {
-    let wanted = plain(rt, mode, text);
-    for kernel in KERNELS {
-        let is_right = runs_write(rt.alloc(), kernel, mode, text, wanted.as_bytes())?;
-        assert!(rt; is_right, "{kernel:?} {mode:?}");
+/// A run by each kernel writes what stands for the text, in each mode.
+pub fn runs_are_right(rt: &(impl Abort + AllocGlobal), text: &str) {
+    for mode in MODES {
+        let wanted = plain(rt, mode, text);
+        for kernel in KERNELS {
+            let is_right = runs_write(rt.alloc(), kernel, mode, text, wanted.as_bytes());
+            holds(rt, is_right, mode, text);
+        }
     }
-    Ok(())
 }
 
 // A body that always returns `ReadFailed`, `WriteFailed` or `OutOfMemory` keeps every clause. Here each
 // run is to end well.
 #[test]
-fn run_always_fails(rt: HostRuntime) -> Result<(), Fail> {
-    let long = repeated(&rt, &[(3000, "a<\u{2028}\"b")]);
-    for mode in MODES {
-        runs_are_right(&rt, mode, "")?;
-        runs_are_right(&rt, mode, "<")?;
-        runs_are_right(&rt, mode, "</script>&\u{2028}")?;
-        runs_are_right(&rt, mode, &long)?;
-    }
-    Ok(())
+fn run_always_fails(rt: HostRuntime) {
+    runs_are_right(&rt, "");
+    runs_are_right(&rt, "<");
+    runs_are_right(&rt, "</script>&\u{2028}");
+    runs_are_right(&rt, &repeated(&rt, &[(3000, "a<\u{2028}\"b")]));
 }
 
 /// Whether a run ends well, and flushes once, after the last of its writes of at most `step` bytes.
@@ -96,22 +88,19 @@ fn flushes_once(alloc: Global, mode: Mode, text: &str, step: usize) -> bool {
         && output.flushed == output.held.len()
 }
 
-#[test]
-fn a_run_flushes_once(rt: HostRuntime) {
-    let long = repeated(&rt, &[(3000, "a<\u{2028}\"b")]);
+fn runs_flush_once(rt: &(impl Abort + AllocGlobal), text: &str) {
     for mode in MODES {
         for step in [1, 5, usize::MAX] {
-            assert!(rt; flushes_once(rt.alloc(), mode, "", step), "{mode:?} {step}");
-            assert!(rt;
-                flushes_once(rt.alloc(), mode, "<", step),
-                "{mode:?} {step}"
-            );
-            assert!(rt;
-                flushes_once(rt.alloc(), mode, &long, step),
-                "{mode:?} {step}"
-            );
+            holds(rt, flushes_once(rt.alloc(), mode, text, step), mode, text);
         }
     }
+}
+
+#[test]
+fn a_run_flushes_once(rt: HostRuntime) {
+    runs_flush_once(&rt, "");
+    runs_flush_once(&rt, "<");
+    runs_flush_once(&rt, &repeated(&rt, &[(3000, "a<\u{2028}\"b")]));
 }
 
 /// Whether a run fails at the first write that takes nothing, and does not flush.

@@ -86,29 +86,34 @@ fn each_target_has_the_plain_escaping(rt: HostRuntime) {
     }
 }
 
+fn slices_are_text(kernel: Kernel, dst: &mut [u8; 41]) -> bool {
+    format_json_str(kernel, "<", dst) == "\"<\""
+        && format_html_str(kernel, "<", dst) == "&lt;"
+        && format_script_str(kernel, "<", dst) == "\"\\u003c\""
+}
+
 #[test]
 fn slices_are_answered_as_text(rt: HostRuntime) {
-    let mut dst = [0; 41];
-    assert!(rt; format_json_str(Kernel::default(), "<", &mut dst) == "\"<\"");
-    assert!(rt; format_html_str(Kernel::default(), "<", &mut dst) == "&lt;");
-    assert!(rt; format_script_str(Kernel::default(), "<", &mut dst) == "\"\\u003c\"");
+    assert!(rt; slices_are_text(Kernel::default(), &mut [0; 41]));
+}
+
+fn arrays_have_commas(dst: &mut Vec<u8>) -> bool {
+    escape_array_into(&["a", "\n"], dst).is_ok()
+        && escape_array_into(&[], dst).is_ok()
+        && escape_script_array_into(&["<"], dst).is_ok()
+        && dst.as_slice() == b"[\"a\",\"\\n\"][][\"\\u003c\"]".as_slice()
+}
+
+fn lists_have_separators(dst: &mut Vec<u8>) -> bool {
+    escape_joined_into(&["a", "b", "c"], "; ", dst).is_ok()
+        && escape_html_joined_into(&["<", "", ">"], "<br>", dst).is_ok()
+        && dst.as_slice() == b"\"a\"; \"b\"; \"c\"&lt;<br><br>&gt;".as_slice()
 }
 
 #[test]
 fn lists_have_something_between(rt: HostRuntime) {
-    let mut dst = Vec::new(rt.alloc());
-    assert!(rt; escape_array_into(&["a", "\n"], &mut dst).is_ok());
-    assert!(rt; escape_array_into(&[], &mut dst).is_ok());
-    assert!(rt; escape_script_array_into(&["<"], &mut dst).is_ok());
-    assert!(rt; dst.as_slice() == b"[\"a\",\"\\n\"][][\"\\u003c\"]".as_slice());
-}
-
-#[test]
-fn joined_lists_have_something_between(rt: HostRuntime) {
-    let mut dst = Vec::new(rt.alloc());
-    assert!(rt; escape_joined_into(&["a", "b", "c"], "; ", &mut dst).is_ok());
-    assert!(rt; escape_html_joined_into(&["<", "", ">"], "<br>", &mut dst).is_ok());
-    assert!(rt; dst.as_slice() == b"\"a\"; \"b\"; \"c\"&lt;<br><br>&gt;".as_slice());
+    assert!(rt; arrays_have_commas(&mut Vec::new(rt.alloc())));
+    assert!(rt; lists_have_separators(&mut Vec::new(rt.alloc())));
 }
 
 /// Whether an array that is granted so many requests ends so, and leaves these bytes of a vector.

@@ -41,3 +41,13 @@ pub fn in_letters(
 pub fn holds(rt: &impl Abort, is: bool, mode: Mode, text: &str) {
     assert!(rt; is, "{mode:?} {text}");
 }
+
+/// Whether each of these bytes is this one.
+pub fn all_are(bytes: &[u8], byte: u8) -> bool {
+    for it in bytes {
+        if *it != byte {
+            return false;
+        }
+    }
+    true
+}

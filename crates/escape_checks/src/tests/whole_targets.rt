@@ -1,7 +1,7 @@
 //! The whole targets that the three ways to a kernel leave.
 
 use crate::routes::{Way, format, lanes, room};
-use crate::tests::texts::holds;
+use crate::tests::texts::{all_are, holds};
 use escape_simd::Kernel;
 use escape_simd::html::EscapeHtmlError;
 use escape_stream::Mode;
@@ -59,5 +59,6 @@ fn target_in(
 
 /// Whether the first `count` bytes are the output, and none from `end` on was written.
 pub fn is_written(target: &[u8], count: usize, end: usize, output: &[u8]) -> bool {
-    target.get(..count) == Some(output) && target.iter().skip(end).all(|byte| *byte == UNTOUCHED)
+    let rest = target.get(end..).unwrap_or_default();
+    target.get(..count) == Some(output) && all_are(rest, UNTOUCHED)
 }

@@ -1,5 +1,5 @@
 //! The tests that cross crates, and what they share: the ways to a kernel, all that writes an output,
-//! and the per-byte replacement written out.
+//! and the replacement written out.
 #![tactic(auto)]
 
 #[cfg(test)]

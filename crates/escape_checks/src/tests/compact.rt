@@ -1,6 +1,6 @@
 //! Strings of the output's own length, and texts that are answered as they are: what memory they ask for.
 
-use crate::tests::memory::{Heap, answers_once, one_request};
+use crate::tests::memory::{Answer, Heap, all_answer_once, one_request};
 use crate::tests::rationed::Rationed;
 use crate::tests::texts::{in_letters, repeated};
 use escape_simd::Refusal;
@@ -11,8 +11,7 @@ use escape_text::html::{escape_html_compact, escape_html_cow};
 use escape_text::json::escape_compact;
 use std::borrow::CowStr;
 
-/// Texts, what stands for each, and how long that is.
-static COMPACT: [(Mode, &str, &str, usize); 6] = [
+static COMPACT: [Answer; 6] = [
     (Mode::Json, "\n", "\"\\n\"", 4),
     (Mode::Json, "a\"\n", "\"a\\\"\\n\"", 7),
     (Mode::Script, "&", "\"\\u0026\"", 8),
@@ -33,18 +32,18 @@ static COMPACT: [(Mode, &str, &str, usize); 6] = [
 
 #[test]
 fn a_compact_text_asks_once_for_its_length(rt: HostRuntime) {
-    let heap = Rationed::new(rt.alloc());
-    for (mode, text, output, len) in &COMPACT {
-        assert!(rt; answers_once(&heap, true, (*mode, text, output), *len));
-    }
+    all_answer_once(&rt, true, &COMPACT);
+}
+
+/// Whether no bytes are answered with no request.
+fn is_empty_at_once(heap: &Heap) -> bool {
+    heap.ration(0);
+    escape_html_compact(heap, "").is_ok() && heap.requests().made == 0
 }
 
 #[test]
 fn an_empty_text_asks_for_nothing(rt: HostRuntime) {
-    let heap = Rationed::new(rt.alloc());
-    heap.ration(0);
-    assert!(rt; escape_html_compact(&heap, "").is_ok());
-    assert!(rt; heap.requests().made == 0);
+    assert!(rt; is_empty_at_once(&Rationed::new(rt.alloc())));
 }
 
 /// How long the literal of the text is, if that is the capacity of the string too.
@@ -95,16 +94,18 @@ fn is_copied(heap: &Heap, text: &str, output: &str) -> bool {
     }
 }
 
+fn is_copy_refused(heap: &Heap, text: &str) -> bool {
+    heap.ration(0);
+    matches!(
+        escape_html_cow(heap, text),
+        Err(EscapeHtmlError::OutOfMemory)
+    )
+}
+
 #[test]
 fn another_text_is_copied_once(rt: HostRuntime) {
     let heap = Rationed::new(rt.alloc());
-    heap.ration(0);
-    assert!(rt;
-        matches!(
-            escape_html_cow(&heap, "<"),
-            Err(EscapeHtmlError::OutOfMemory)
-        )
-    );
+    assert!(rt; is_copy_refused(&heap, "a<"));
     assert!(rt; is_copied(&heap, "a<", "a&lt;"));
 }
 

@@ -136,8 +136,8 @@ fn asks_for_nothing(rt: &(impl Abort + AllocGlobal), row: Row<'_>, spare: usize)
     let heap = Rationed::new(rt.alloc());
     let mut dst = vector_of(rt, &heap, 1, spare);
     heap.ration(0);
-    assert!(rt; is_appended(row, &mut dst, 1));
-    assert!(rt; heap.requests().made == 0);
+    let is_appended = is_appended(row, &mut dst, 1);
+    assert!(rt; is_appended && heap.requests().made == 0);
 }
 
 #[test]
@@ -231,7 +231,7 @@ fn is_out_of_memory(answer: Result<String<&Heap>, Refusal>) -> bool {
 }
 
 /// Whether the call asks once for so many bytes, and answers this in a string of that capacity.
-pub fn answers_once(
+fn answers_once(
     heap: &Heap,
     is_compact: bool,
     (mode, text, output): (Mode, &str, &str),
@@ -245,12 +245,27 @@ pub fn answers_once(
         && heap.requests() == one_request(size)
 }
 
+/// A text, what stands for it, and how many bytes a call asks for.
+pub type Answer = (Mode, &'static str, &'static str, usize);
+
+/// Each call asks once, and answers so.
+pub fn all_answer_once(rt: &(impl Abort + AllocGlobal), is_compact: bool, answers: &[Answer]) {
+    let heap = Rationed::new(rt.alloc());
+    for (mode, text, output, size) in answers {
+        let is_right = answers_once(&heap, is_compact, (*mode, text, output), *size);
+        holds(rt, is_right, *mode, text);
+    }
+}
+
+static ANSWERS: [Answer; 3] = [
+    (Mode::Json, "x", "\"x\"", 41),
+    (Mode::Html, "<", "&lt;", 38),
+    (Mode::Script, "&", "\"\\u0026\"", 41),
+];
+
 #[test]
 fn a_text_asks_once_for_the_bound(rt: HostRuntime) {
-    let heap = Rationed::new(rt.alloc());
-    assert!(rt; answers_once(&heap, false, (Mode::Json, "x", "\"x\""), 41));
-    assert!(rt; answers_once(&heap, false, (Mode::Html, "<", "&lt;"), 38));
-    assert!(rt; answers_once(&heap, false, (Mode::Script, "&", "\"\\u0026\""), 41));
+    all_answer_once(&rt, false, &ANSWERS);
 }
 
 /// Whether a run on "<" that is granted so many requests makes `made`, ends so, and appends these.

@@ -51,21 +51,14 @@ fn a_part_at_each_place(rt: HostRuntime) {
     is_right_with(&rt, Mode::Script, "\u{2028}");
 }
 
-/// So it does in each mode for `len` bytes, of which so many are quotation marks, and the others letters.
-fn is_right_with_quotes(rt: &(impl Abort + AllocGlobal), len: usize, place: usize, count: usize) {
-    let after = len.saturating_sub(place).saturating_sub(count);
-    is_right(
-        rt,
-        &repeated(rt, &[(place, "a"), (count, "\""), (after, "a")]),
-    );
-}
-
 #[test]
 fn runs_across_each_width(rt: HostRuntime) {
     for width in WIDTHS {
         for count in [1, 2, 3, width] {
             for place in [width - 1, width, width + 1] {
-                is_right_with_quotes(&rt, 3 * width, place, count);
+                let after = (3 * width).saturating_sub(place).saturating_sub(count);
+                let parts = [(place, "a"), (count, "\""), (after, "a")];
+                is_right(&rt, &repeated(&rt, &parts));
             }
         }
     }

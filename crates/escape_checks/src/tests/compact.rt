@@ -1,6 +1,6 @@
 //! Strings of the output's own length, and texts that are answered as they are: what memory they ask for.
 
-use crate::tests::memory::{Answer, Heap, all_answer_once, one_request};
+use crate::tests::memory::{Answer, Heap, all_answer_once, is_out_of_memory, one_request};
 use crate::tests::rationed::Rationed;
 use crate::tests::texts::{in_letters, repeated};
 use escape_simd::Refusal;
@@ -132,18 +132,11 @@ fn is_row_written(heap: &Heap) -> bool {
     }
 }
 
-fn is_row_refused(heap: &Heap, granted: u64) -> bool {
-    match row_of(heap, granted) {
-        Ok(_) => false,
-        Err(refusal) => refusal == Refusal::OutOfMemory,
-    }
-}
-
 #[test]
 fn one_error_for_html_and_json(rt: HostRuntime) {
     let heap = Rationed::new(rt.alloc());
     assert!(rt; is_row_written(&heap));
     for granted in 0..heap.requests().made {
-        assert!(rt; is_row_refused(&heap, granted));
+        assert!(rt; is_out_of_memory(row_of(&heap, granted)));
     }
 }

@@ -93,10 +93,6 @@ fn an_escape_at_each_place(rt: HostRuntime) {
     has_length_at_each_place(&rt, Mode::Html, "&", 199 + 5, false);
     has_length_at_each_place(&rt, Mode::Html, "/", 199 + 6, false);
     has_length_at_each_place(&rt, Mode::Script, "<", 199 + 6 + 2, false);
-}
-
-#[test]
-fn a_character_of_e2_at_each_place(rt: HostRuntime) {
     has_length_at_each_place(&rt, Mode::Script, "\u{2028}", 197 + 6 + 2, false);
     has_length_at_each_place(&rt, Mode::Script, "\u{2026}", 197 + 3 + 2, true);
     has_length_at_each_place(&rt, Mode::Json, "\u{2028}", 197 + 3 + 2, true);

@@ -223,8 +223,8 @@ fn is_text(answer: Result<String<&Heap>, Refusal>, text: &str, capacity: usize) 
     }
 }
 
-fn is_out_of_memory(answer: Result<String<&Heap>, Refusal>) -> bool {
-    match answer {
+pub fn is_out_of_memory<T: Drop>(outcome: Result<T, Refusal>) -> bool {
+    match outcome {
         Ok(_) => false,
         Err(refusal) => refusal == Refusal::OutOfMemory,
     }

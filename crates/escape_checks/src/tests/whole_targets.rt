@@ -1,7 +1,7 @@
 //! The whole targets that the three ways to a kernel leave.
 
 use crate::routes::{Way, format, lanes, room};
-use crate::tests::texts::{all_are, holds};
+use crate::tests::texts::all_are;
 use escape_simd::Kernel;
 use escape_simd::html::EscapeHtmlError;
 use escape_stream::Mode;
@@ -23,13 +23,14 @@ pub fn is_right_by(
     wanted: &[u8],
 ) {
     let target = whole_target(rt, Way::Target, kernel, mode, text, more);
+    let slice = whole_target(rt, Way::Slice, kernel, mode, text, more);
+    let value = whole_target(rt, Way::Value, kernel, mode, text, more);
     let bound = target.1.len().saturating_sub(more);
     let end = bound.min(target.0.saturating_add(lanes(kernel)));
-    holds(rt, is_written(&target.1, target.0, end, wanted), mode, text);
-    let slice = whole_target(rt, Way::Slice, kernel, mode, text, more);
-    holds(rt, slice == target, mode, text);
-    let value = whole_target(rt, Way::Value, kernel, mode, text, more);
-    holds(rt, value == target, mode, text);
+    let is_right = is_written(&target.1, target.0, end, wanted)
+        && slice == target
+        && value == target;
+    assert!(rt; is_right, "{kernel:?} {mode:?} {text}");
 }
 
 /// How many bytes of a target this way to the kernel writes, and the whole target.

@@ -1,8 +1,9 @@
 //! The tests that cross crates, and what they share: the ways to a kernel, all that writes an output,
-//! and the per-byte replacement written out.
+//! and the replacement written out.
 #![tactic(auto)]
 
-pub mod plain;
+#[cfg(test)]
+mod plain;
 pub mod routes;
 #[cfg(test)]
 mod tests;

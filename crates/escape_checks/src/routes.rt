@@ -26,7 +26,7 @@ pub const KERNELS: [Kernel; 5] = [
 ];
 
 /// A way to a kernel.
-#[derive(Debug, Clone, Copy, PartialEq, Eq)]
+#[derive(Debug, Clone, Copy)]
 pub enum Way {
     /// `format_target` of the kernel's module.
     Target,

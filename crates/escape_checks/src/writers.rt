@@ -4,15 +4,14 @@ ghost use Rattle.escape_simd.specs.Output.{bound};
 ghost use Rattle.escape_stream.specs.Words.{escaping};
 
 use crate::routes::{KERNELS, WAYS, Way, format, room};
-use escape_simd::html::{escape_html, escape_html_into};
+use escape_simd::html::{EscapeHtmlError, escape_html, escape_html_each, escape_html_into};
 use escape_simd::json::{escape, escape_into, escape_script, escape_script_into};
-use escape_simd::{Kernel, format_html_string, format_json_inner, format_script_inner};
+use escape_simd::{Kernel, Refusal, format_html_string, format_json_inner, format_script_inner};
 use escape_stream::{Mode, run};
 use std::alloc::Global;
-use std::test::Fail;
 
 /// What wrote something else than it was to write.
-#[derive(Debug, Clone, Copy, PartialEq, Eq)]
+#[derive(Debug, Clone, Copy)]
 pub enum Writer {
     /// A kernel, in this way.
     Kernel(Kernel, Way),
@@ -22,9 +21,14 @@ pub enum Writer {
     Answering,
     /// The call that appends to a vector.
     Appending,
+    /// The call that appends a list to a vector.
+    AppendingEach,
     /// The run of the program, by this kernel.
     Run(Kernel),
 }
+
+/// What the calls that append and a run find in the vector. It is no text.
+const BEFORE: [u8; 2] = [0xff, b'"'];
 
 /// The first writer in this mode that writes something else than `output` for the text, if there is one.
 pub fn differing(
@@ -32,33 +36,36 @@ pub fn differing(
     mode: Mode,
     text: &str,
     output: &[u8],
-) -> Result<Option<Writer>, Fail> {
-    let mut target = vec![in alloc; 0xeeu8; room(mode, text)?]?;
+) -> Result<Option<Writer>, EscapeHtmlError> {
     for kernel in KERNELS {
-        for way in WAYS {
-            let count = format(way, kernel, mode, text, &mut target);
-            if &target[..count] != output {
-                return Ok(Some(Writer::Kernel(kernel, way)));
-            }
+        if let Some(writer) = differing_kernel(alloc, kernel, mode, text, output)? {
+            return Ok(Some(writer));
         }
-        let count = format_inner(kernel, mode, text, &mut target);
-        if target.get(..count) != between_quotes(mode, output) {
-            return Ok(Some(Writer::Inner(kernel)));
-        }
-    }
-    if answered(alloc, mode, text)?.as_bytes() != output {
-        return Ok(Some(Writer::Answering));
-    }
-    if !is_before_and(&appended(alloc, mode, text)?, output) {
-        return Ok(Some(Writer::Appending));
-    }
-    for kernel in KERNELS {
-        let mut input = text.as_bytes();
-        let mut written = Vec::new(alloc);
-        run(alloc, mode, kernel, &mut input, &mut written)?;
-        if written.as_slice() != output {
+        if !runs_write(alloc, kernel, mode, text, output) {
             return Ok(Some(Writer::Run(kernel)));
         }
+    }
+    Ok(differing_call(alloc, mode, text, output))
+}
+
+/// The first way to a kernel that writes something else.
+fn differing_kernel(
+    alloc: Global,
+    kernel: Kernel,
+    mode: Mode,
+    text: &str,
+    output: &[u8],
+) -> Result<Option<Writer>, EscapeHtmlError> {
+    let mut target = vec![in alloc; 0xeeu8; room(mode, text)?]?;
+    for way in WAYS {
+        let count = format(way, kernel, mode, text, &mut target);
+        if target.get(..count) != Some(output) {
+            return Ok(Some(Writer::Kernel(kernel, way)));
+        }
+    }
+    let count = format_inner(kernel, mode, text, &mut target);
+    if target.get(..count) != between_quotes(mode, output) {
+        return Ok(Some(Writer::Inner(kernel)));
     }
     Ok(None)
 }
@@ -81,7 +88,28 @@ pub(crate) fn between_quotes(mode: Mode, output: &[u8]) -> Option<&[u8]> {
     }
 }
 
-fn answered(alloc: Global, mode: Mode, text: &str) -> Result<String, Fail> {
+/// The first of the calls that allocate which writes something else.
+pub fn differing_call(alloc: Global, mode: Mode, text: &str, output: &[u8]) -> Option<Writer> {
+    if !answers(alloc, mode, text, output) {
+        return Some(Writer::Answering);
+    }
+    if !appends(alloc, mode, text, output) {
+        return Some(Writer::Appending);
+    }
+    if mode == Mode::Html && !appends_each(alloc, text, output) {
+        return Some(Writer::AppendingEach);
+    }
+    None
+}
+
+fn answers(alloc: Global, mode: Mode, text: &str, output: &[u8]) -> bool {
+    match answered(alloc, mode, text) {
+        Ok(answer) => answer.as_bytes() == output,
+        Err(_) => false,
+    }
+}
+
+fn answered(alloc: Global, mode: Mode, text: &str) -> Result<String, Refusal> {
     Ok(match mode {
         Mode::Json => escape(alloc, text)?,
         Mode::Html => escape_html(alloc, text)?,
@@ -89,17 +117,35 @@ fn answered(alloc: Global, mode: Mode, text: &str) -> Result<String, Fail> {
     })
 }
 
-/// What the calls append to. It is no text.
-const BEFORE: [u8; 2] = [0xff, b'"'];
+fn appends(alloc: Global, mode: Mode, text: &str, output: &[u8]) -> bool {
+    let mut target = Vec::new(alloc);
+    target.extend_from_slice(&BEFORE).is_ok()
+        && is_appended(mode, text, &mut target)
+        && is_before_and(&target, output)
+}
 
-fn appended(alloc: Global, mode: Mode, text: &str) -> Result<Vec<u8>, Fail> {
-    let mut target = BEFORE.to_vec(alloc)?;
+fn is_appended(mode: Mode, text: &str, target: &mut Vec<u8>) -> bool {
     match mode {
-        Mode::Json => escape_into(text, &mut target)?,
-        Mode::Html => escape_html_into(text, &mut target)?,
-        Mode::Script => escape_script_into(text, &mut target)?,
+        Mode::Json => escape_into(text, target).is_ok(),
+        Mode::Html => escape_html_into(text, target).is_ok(),
+        Mode::Script => escape_script_into(text, target).is_ok(),
     }
-    Ok(target)
+}
+
+fn appends_each(alloc: Global, text: &str, output: &[u8]) -> bool {
+    let mut target = Vec::new(alloc);
+    target.extend_from_slice(&BEFORE).is_ok()
+        && escape_html_each(&[text], &mut target).is_ok()
+        && is_before_and(&target, output)
+}
+
+/// Whether a run by this kernel writes the output.
+pub fn runs_write(alloc: Global, kernel: Kernel, mode: Mode, text: &str, output: &[u8]) -> bool {
+    let mut input = text.as_bytes();
+    let mut target = Vec::new(alloc);
+    target.extend_from_slice(&BEFORE).is_ok()
+        && run(alloc, mode, kernel, &mut input, &mut target).is_ok()
+        && is_before_and(&target, output)
 }
 
 fn is_before_and(appended: &[u8], output: &[u8]) -> bool {

@@ -1,121 +1,112 @@
 //! Strings of the output's own length, and texts that are answered as they are: what memory they ask for.
 
-use crate::tests::rationed::{Rationed, Requests};
-use crate::tests::texts::repeated;
+use crate::tests::memory::{Answer, Heap, all_answer_once, is_out_of_memory, one_request};
+use crate::tests::rationed::Rationed;
+use crate::tests::texts::{in_letters, repeated};
 use escape_simd::Refusal;
 use escape_simd::html::{EscapeHtmlError, escape_html_into};
-use escape_simd::json::{EscapeError, escape_into};
+use escape_simd::json::escape_into;
+use escape_stream::Mode;
 use escape_text::html::{escape_html_compact, escape_html_cow};
-use escape_text::json::{escape_compact, escape_script_compact};
-use std::alloc::Global;
+use escape_text::json::escape_compact;
 use std::borrow::CowStr;
-use std::test::Fail;
 
-type Heap = Rationed<Global>;
+static COMPACT: [Answer; 6] = [
+    (Mode::Json, "\n", "\"\\n\"", 4),
+    (Mode::Json, "a\"\n", "\"a\\\"\\n\"", 7),
+    (Mode::Script, "&", "\"\\u0026\"", 8),
+    (
+        Mode::Script,
+        "\u{2028}\u{2026}<",
+        "\"\\u2028\u{2026}\\u003c\"",
+        17,
+    ),
+    (Mode::Html, "<", "&lt;", 4),
+    (
+        Mode::Html,
+        "<a href='/x'>",
+        "&lt;a href=&#x27;&#x2f;x&#x27;&gt;",
+        34,
+    ),
+];
 
 #[test]
-fn compact_outputs(rt: HostRuntime) -> Result<(), Fail> {
-    let literal = escape_compact(rt.alloc(), "a\"\n")?;
-    assert_eq!(rt; literal.as_str(), "\"a\\\"\\n\"");
-    assert_eq!(rt; literal.capacity(), 7);
-    let script = escape_script_compact(rt.alloc(), "\u{2028}\u{2026}<")?;
-    assert_eq!(rt; script.as_str(), "\"\\u2028\u{2026}\\u003c\"");
-    assert_eq!(rt; script.capacity(), 17);
-    let html = escape_html_compact(rt.alloc(), "<a href='/x'>")?;
-    assert_eq!(rt; html.as_str(), "&lt;a href=&#x27;&#x2f;x&#x27;&gt;");
-    assert_eq!(rt; html.capacity(), 34);
-    assert_eq!(rt; escape_html_compact(rt.alloc(), "")?.capacity(), 0);
-    Ok(())
+fn a_compact_text_asks_once_for_its_length(rt: HostRuntime) {
+    all_answer_once(&rt, true, &COMPACT);
+}
+
+/// Whether no bytes are answered with no request.
+fn is_empty_at_once(heap: &Heap) -> bool {
+    heap.ration(0);
+    escape_html_compact(heap, "").is_ok() && heap.requests().made == 0
+}
+
+#[test]
+fn an_empty_text_asks_for_nothing(rt: HostRuntime) {
+    assert!(rt; is_empty_at_once(&Rationed::new(rt.alloc())));
+}
+
+/// How long the literal of the text is, if that is the capacity of the string too.
+fn compact_len(heap: &Heap, text: &str) -> Option<usize> {
+    match escape_compact(heap, text) {
+        Ok(output) if output.capacity() == output.len() => Some(output.len()),
+        _ => None,
+    }
 }
 
 // Texts that are written at once, as they are, and in several pieces.
 #[test]
-fn the_capacity_is_the_length(rt: HostRuntime) -> Result<(), Fail> {
+fn the_capacity_is_the_length(rt: HostRuntime) {
+    let heap = Rationed::new(rt.alloc());
     for letters in [0, 79, 80, 200, 600, 20000] {
-        for (part, more) in [("", 0), ("\"", 2), ("\x01", 6)] {
-            let text = repeated(rt.alloc(), &[(letters, "a"), (1, part), (letters, "a")])?;
-            let literal = escape_compact(rt.alloc(), text.as_str())?;
-            assert_eq!(rt; literal.len(), 2 * letters + more + 2);
-            assert_eq!(rt; literal.capacity(), 2 * letters + more + 2);
+        for (part, more) in [("", 2), ("\"", 4), ("\x01", 8)] {
+            let text = in_letters(&rt, letters, part, letters);
+            assert!(rt; compact_len(&heap, &text) == Some(2 * letters + more));
         }
     }
-    Ok(())
 }
 
-/// The account of one request, for so many bytes, that was the only one granted.
-fn one_request(size: usize) -> Requests {
-    Requests {
-        left: 0,
-        made: 1,
-        last_size: size,
+/// Whether the text is borrowed, with no request.
+fn is_borrowed(heap: &Heap, text: &str) -> bool {
+    heap.ration(0);
+    match escape_html_cow(heap, text) {
+        Ok(CowStr::Borrowed(borrowed)) => borrowed == text && heap.requests().made == 0,
+        _ => false,
     }
 }
 
 #[test]
-fn a_compact_text_asks_once_for_its_length(rt: HostRuntime) {
-    let heap: Heap = Rationed::new(rt.alloc());
-    heap.ration(0);
-    assert!(rt; matches!(escape_compact(&heap, "\n"), Err(EscapeError::OutOfMemory)));
-    heap.ration(1);
-    assert!(rt; escape_compact(&heap, "\n").is_ok_and(|output| output.as_str() == "\"\\n\""));
-    assert_eq!(rt; heap.requests(), one_request(4));
-
-    heap.ration(0);
-    assert!(rt;
-        matches!(
-            escape_script_compact(&heap, "&"),
-            Err(EscapeError::OutOfMemory)
-        )
-    );
-    heap.ration(1);
-    assert!(rt;
-        escape_script_compact(&heap, "&").is_ok_and(|output| output.as_str() == "\"\\u0026\"")
-    );
-    assert_eq!(rt; heap.requests(), one_request(8));
-
-    heap.ration(0);
-    assert!(rt;
-        matches!(
-            escape_html_compact(&heap, "<"),
-            Err(EscapeHtmlError::OutOfMemory)
-        )
-    );
-    heap.ration(1);
-    assert!(rt; escape_html_compact(&heap, "<").is_ok_and(|output| output.as_str() == "&lt;"));
-    assert_eq!(rt; heap.requests(), one_request(4));
-}
-
-#[test]
-fn a_clean_text_is_borrowed_and_asks_for_nothing(rt: HostRuntime) -> Result<(), Fail> {
+fn a_clean_text_is_borrowed_and_asks_for_nothing(rt: HostRuntime) {
+    let heap = Rationed::new(rt.alloc());
     for count in [0, 1, 31, 32, 200, 20000] {
-        let text = repeated(rt.alloc(), &[(count, "a\u{2028}")])?;
-        let heap: Heap = Rationed::new(rt.alloc());
-        heap.ration(0);
-        match escape_html_cow(&heap, text.as_str()) {
-            Ok(CowStr::Borrowed(borrowed)) => assert_eq!(rt; borrowed, text.as_str()),
-            _ => assert!(rt; false, "{count}"),
-        }
-        assert_eq!(rt; heap.requests().made, 0, "{count}");
+        assert!(rt; is_borrowed(&heap, &repeated(&rt, &[(count, "a\u{2028}")])));
     }
-    Ok(())
+}
+
+/// Whether the text is copied, and escaped so, after one request.
+fn is_copied(heap: &Heap, text: &str, output: &str) -> bool {
+    heap.ration(1);
+    match escape_html_cow(heap, text) {
+        Ok(CowStr::Owned(owned)) => {
+            owned.as_str() == output && heap.requests() == one_request(output.len())
+        }
+        _ => false,
+    }
+}
+
+fn is_copy_refused(heap: &Heap, text: &str) -> bool {
+    heap.ration(0);
+    matches!(
+        escape_html_cow(heap, text),
+        Err(EscapeHtmlError::OutOfMemory)
+    )
 }
 
 #[test]
 fn another_text_is_copied_once(rt: HostRuntime) {
-    let heap: Heap = Rationed::new(rt.alloc());
-    heap.ration(0);
-    assert!(rt;
-        matches!(
-            escape_html_cow(&heap, "a<"),
-            Err(EscapeHtmlError::OutOfMemory)
-        )
-    );
-    heap.ration(1);
-    match escape_html_cow(&heap, "a<") {
-        Ok(CowStr::Owned(output)) => assert_eq!(rt; output.as_str(), "a&lt;"),
-        _ => assert!(rt; false),
-    }
-    assert_eq!(rt; heap.requests(), one_request(5));
+    let heap = Rationed::new(rt.alloc());
+    assert!(rt; is_copy_refused(&heap, "a<"));
+    assert!(rt; is_copied(&heap, "a<", "a&lt;"));
 }
 
 /// A row of HTML and of JSON: one error serves both, and the byte between them.
@@ -126,26 +117,26 @@ fn write_row(text: &str, row: &mut Vec<u8, &Heap>) -> Result<(), Refusal> {
     Ok(())
 }
 
-#[test]
-fn one_error_for_html_and_json(rt: HostRuntime) -> Result<(), Fail> {
-    let heap: Heap = Rationed::new(rt.alloc());
-    let mut row = Vec::new(&heap);
-    assert_eq!(rt; write_row("<", &mut row), Ok(()));
-    assert_eq!(rt; row.as_slice(), b"&lt;\n\"<\"".as_slice());
-    for granted in 0..heap.requests().made {
-        heap.ration(granted);
-        let mut refused = Vec::new(&heap);
-        assert_eq!(rt; write_row("<", &mut refused), Err(Refusal::OutOfMemory));
+/// What a row comes to, where so many requests are granted.
+fn row_of(heap: &Heap, granted: u64) -> Result<Vec<u8, &Heap>, Refusal> {
+    heap.ration(granted);
+    let mut row = Vec::new(heap);
+    write_row("<", &mut row)?;
+    Ok(row)
+}
+
+fn is_row_written(heap: &Heap) -> bool {
+    match row_of(heap, u64::MAX) {
+        Ok(row) => row.as_slice() == b"&lt;\n\"<\"".as_slice(),
+        Err(_) => false,
     }
-    assert_eq!(rt;
-        Refusal::OutOfMemory.to_string(rt.alloc())?.as_str(),
-        "out of memory"
-    );
-    assert_eq!(rt;
-        Refusal::from(EscapeError::TooLarge)
-            .to_string(rt.alloc())?
-            .as_str(),
-        "input is too large to escape"
-    );
-    Ok(())
+}
+
+#[test]
+fn one_error_for_html_and_json(rt: HostRuntime) {
+    let heap = Rationed::new(rt.alloc());
+    assert!(rt; is_row_written(&heap));
+    for granted in 0..heap.requests().made {
+        assert!(rt; is_out_of_memory(row_of(&heap, granted)));
+    }
 }

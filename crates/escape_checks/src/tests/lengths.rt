@@ -1,14 +1,13 @@
 //! How long outputs are, and which texts are clean. The lengths are written out, from what stands for each
 //! character.
 
-use crate::tests::texts::repeated;
+use crate::tests::texts::{holds, in_letters, repeated};
 use escape_simd::{html, json};
 use escape_stream::Mode;
 use std::process::Abort;
-use std::test::Fail;
 
 /// Texts, how long the outputs for them are, and whether each is clean.
-const ROWS: [(Mode, &str, usize, bool); 25] = [
+static ROWS: [(Mode, &str, usize, bool); 25] = [
     // Two quotation marks.
     (Mode::Json, "", 2, true),
     (Mode::Json, "a", 3, true),
@@ -60,11 +59,14 @@ fn is_clean(mode: Mode, text: &str) -> bool {
     }
 }
 
+fn has_length(mode: Mode, text: &str, wanted: usize, clean: bool) -> bool {
+    len(mode, text) == Some(wanted) && is_clean(mode, text) == clean
+}
+
 #[test]
 fn lengths_of_rows(rt: HostRuntime) {
-    for (mode, text, wanted, clean) in ROWS {
-        assert_eq!(rt; len(mode, text), Some(wanted), "{mode:?} {text}");
-        assert_eq!(rt; is_clean(mode, text), clean, "{mode:?} {text}");
+    for (mode, text, wanted, clean) in &ROWS {
+        holds(&rt, has_length(*mode, text, *wanted, *clean), *mode, text);
     }
 }
 
@@ -76,41 +78,43 @@ fn has_length_at_each_place(
     part: &str,
     wanted: usize,
     clean: bool,
-) -> Result<(), Fail> {
+) {
     let letters = 200usize.saturating_sub(part.len());
     for place in 0..=letters {
-        let parts = [(place, "a"), (1, part), (letters - place, "a")];
-        let text = repeated(rt.alloc(), &parts)?;
-        assert_eq!(rt; len(mode, text.as_str()), Some(wanted), "{mode:?} {place}");
-        assert_eq!(rt; is_clean(mode, text.as_str()), clean, "{mode:?} {place}");
+        let text = in_letters(rt, place, part, letters - place);
+        holds(rt, has_length(mode, &text, wanted, clean), mode, &text);
     }
-    Ok(())
 }
 
 #[test]
-fn an_escape_at_each_place(rt: HostRuntime) -> Result<(), Fail> {
-    has_length_at_each_place(&rt, Mode::Json, "\"", 199 + 2 + 2, false)?;
-    has_length_at_each_place(&rt, Mode::Json, "\x01", 199 + 6 + 2, false)?;
-    has_length_at_each_place(&rt, Mode::Html, "&", 199 + 5, false)?;
-    has_length_at_each_place(&rt, Mode::Html, "/", 199 + 6, false)?;
-    has_length_at_each_place(&rt, Mode::Script, "<", 199 + 6 + 2, false)
+fn an_escape_at_each_place(rt: HostRuntime) {
+    has_length_at_each_place(&rt, Mode::Json, "\"", 199 + 2 + 2, false);
+    has_length_at_each_place(&rt, Mode::Json, "\x01", 199 + 6 + 2, false);
+    has_length_at_each_place(&rt, Mode::Html, "&", 199 + 5, false);
+    has_length_at_each_place(&rt, Mode::Html, "/", 199 + 6, false);
+    has_length_at_each_place(&rt, Mode::Script, "<", 199 + 6 + 2, false);
+    has_length_at_each_place(&rt, Mode::Script, "\u{2028}", 197 + 6 + 2, false);
+    has_length_at_each_place(&rt, Mode::Script, "\u{2026}", 197 + 3 + 2, true);
+    has_length_at_each_place(&rt, Mode::Json, "\u{2028}", 197 + 3 + 2, true);
+}
+
+/// A text of so many parts has this length, and is not clean.
+fn has_length_of_many(
+    rt: &(impl Abort + AllocGlobal),
+    mode: Mode,
+    part: &str,
+    count: usize,
+    wanted: usize,
+) {
+    let text = repeated(rt, &[(count, part)]);
+    holds(rt, has_length(mode, &text, wanted, false), mode, &text);
 }
 
 #[test]
-fn a_character_of_e2_at_each_place(rt: HostRuntime) -> Result<(), Fail> {
-    has_length_at_each_place(&rt, Mode::Script, "\u{2028}", 197 + 6 + 2, false)?;
-    has_length_at_each_place(&rt, Mode::Script, "\u{2026}", 197 + 3 + 2, true)?;
-    has_length_at_each_place(&rt, Mode::Json, "\u{2028}", 197 + 3 + 2, true)
-}
-
-#[test]
-fn lengths_of_many_escapes(rt: HostRuntime) -> Result<(), Fail> {
-    for count in 0..=200 {
-        let quotes = repeated(rt.alloc(), &[(count, "\"")])?;
-        assert_eq!(rt; len(Mode::Json, quotes.as_str()), Some(2 * count + 2));
-        assert_eq!(rt; len(Mode::Html, quotes.as_str()), Some(6 * count));
-        let separators = repeated(rt.alloc(), &[(count, "\u{2029}")])?;
-        assert_eq!(rt; len(Mode::Script, separators.as_str()), Some(6 * count + 2));
+fn lengths_of_many_escapes(rt: HostRuntime) {
+    for count in 1..=200 {
+        has_length_of_many(&rt, Mode::Json, "\"", count, 2 * count + 2);
+        has_length_of_many(&rt, Mode::Html, "\"", count, 6 * count);
+        has_length_of_many(&rt, Mode::Script, "\u{2029}", count, 6 * count + 2);
     }
-    Ok(())
 }

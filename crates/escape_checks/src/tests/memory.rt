@@ -2,83 +2,22 @@
 
 use crate::routes::KERNELS;
 use crate::tests::rationed::{Rationed, Requests};
-use crate::tests::texts::repeated;
-use escape_simd::html::{EscapeHtmlError, escape_html_each, escape_html_in, escape_html_into};
-use escape_simd::json::{
-    EscapeError, escape_in, escape_into, escape_script_in, escape_script_into,
+use crate::tests::texts::{all_are, holds, repeated};
+use escape_simd::html::{
+    EscapeHtmlError, InputTooLarge, escape_html_each, escape_html_in, escape_html_into,
 };
+use escape_simd::json::{escape_in, escape_into, escape_script_in, escape_script_into};
+use escape_simd::{Kernel, Refusal};
 use escape_stream::{Mode, ToolFault, run_in};
-use std::alloc::Global;
-use std::test::Fail;
+use escape_text::html::escape_html_compact;
+use escape_text::json::{escape_compact, escape_script_compact};
+use std::alloc::{AllocError, Global};
+use std::process::Abort;
 
-type Heap = Rationed<Global>;
-
-/// A call that appends what stands for one text.
-#[derive(Debug, Clone, Copy, PartialEq, Eq)]
-enum Appending {
-    Json,
-    Html,
-    HtmlEach,
-    Script,
-}
-
-/// What a call came to.
-#[derive(Debug, Clone, Copy, PartialEq, Eq)]
-enum Outcome {
-    Written,
-    OutOfMemory,
-    Other,
-}
-
-/// The calls, each with the scratch bound of its text and with what it writes.
-const APPENDING: [(Appending, usize, &[u8]); 4] = [
-    (Appending::Json, 41, b"\"x\""),
-    (Appending::Html, 38, b"&lt;"),
-    (Appending::HtmlEach, 38, b"&lt;"),
-    (Appending::Script, 41, b"\"\\u0026\""),
-];
-
-fn append(call: Appending, dst: &mut Vec<u8, &Heap>) -> Outcome {
-    match call {
-        Appending::Json => match escape_into("x", dst) {
-            Ok(()) => Outcome::Written,
-            Err(EscapeError::OutOfMemory) => Outcome::OutOfMemory,
-            Err(_) => Outcome::Other,
-        },
-        Appending::Html => match escape_html_into("<", dst) {
-            Ok(()) => Outcome::Written,
-            Err(EscapeHtmlError::OutOfMemory) => Outcome::OutOfMemory,
-            Err(_) => Outcome::Other,
-        },
-        Appending::HtmlEach => match escape_html_each(&["<"], dst) {
-            Ok(()) => Outcome::Written,
-            Err((0, EscapeHtmlError::OutOfMemory)) => Outcome::OutOfMemory,
-            Err(_) => Outcome::Other,
-        },
-        Appending::Script => match escape_script_into("&", dst) {
-            Ok(()) => Outcome::Written,
-            Err(EscapeError::OutOfMemory) => Outcome::OutOfMemory,
-            Err(_) => Outcome::Other,
-        },
-    }
-}
-
-/// A vector that holds `len` bytes ff and has room for `spare` more.
-fn vector_of(heap: &Heap, len: usize, spare: usize) -> Result<Vec<u8, &Heap>, Fail> {
-    let mut vector = Vec::with_capacity(heap, len.saturating_add(spare))?;
-    vector.resize(len, 0xff)?;
-    Ok(vector)
-}
-
-/// Whether these are `len` bytes ff, and then the others.
-fn is_ff_and(bytes: &[u8], len: usize, others: &[u8]) -> bool {
-    bytes.len().checked_sub(others.len()) == Some(len)
-        && bytes.iter().take(len).all(|byte| *byte == 0xff)
-        && bytes.ends_with(others)
-}
+pub type Heap = Rationed<Global>;
 
 /// The account of one request, for so many bytes, that was the only one granted.
-fn one_request(size: usize) -> Requests {
+pub fn one_request(size: usize) -> Requests {
     Requests {
         left: 0,
         made: 1,
@@ -86,198 +25,316 @@ fn one_request(size: usize) -> Requests {
     }
 }
 
-#[test]
-fn appending_asks_once_for_the_bound(rt: HostRuntime) -> Result<(), Fail> {
-    for (call, bound, written) in APPENDING {
-        // So much less than the bound that a vector of twice the capacity would not hold it.
-        for (len, spare) in [(1, 0), (3, 7), (5, 12)] {
-            let heap = Rationed::new(rt.alloc());
-            let mut dst = vector_of(&heap, len, spare)?;
-            heap.ration(0);
-            assert_eq!(rt;
-                append(call, &mut dst),
-                Outcome::OutOfMemory,
-                "{call:?} {len}"
-            );
-            assert!(rt; is_ff_and(&dst, len, b""), "{call:?} {len}");
-            heap.ration(1);
-            assert_eq!(rt; append(call, &mut dst), Outcome::Written, "{call:?} {len}");
-            assert!(rt; is_ff_and(&dst, len, written), "{call:?} {len}");
-            let asked = one_request(len.saturating_add(bound));
-            assert_eq!(rt; heap.requests(), asked, "{call:?} {len}");
-        }
+/// A vector that holds `len` bytes ff and has room for `spare` more.
+pub fn vector_of<'a>(
+    rt: &impl Abort,
+    heap: &'a Heap,
+    len: usize,
+    spare: usize,
+) -> Vec<u8, &'a Heap> {
+    filled(heap, len, spare).expect(rt, "no memory")
+}
+
+fn filled(heap: &Heap, len: usize, spare: usize) -> Result<Vec<u8, &Heap>, AllocError> {
+    let mut vector = Vec::with_capacity(heap, len.saturating_add(spare))?;
+    vector.resize(len, 0xff)?;
+    Ok(vector)
+}
+
+/// Whether these are `len` bytes ff, and then the others.
+fn is_ff_and(bytes: &[u8], len: usize, others: &[u8]) -> bool {
+    match bytes.strip_suffix(others) {
+        Some(front) => front.len() == len && all_are(front, 0xff),
+        None => false,
+    }
+}
+
+/// A call that appends what stands for one text.
+#[derive(Clone, Copy)]
+enum Call {
+    Json,
+    Html,
+    HtmlEach,
+    Script,
+}
+
+/// A call, a text, the scratch bound of the text, and what the call writes.
+type Row<'a> = (Call, &'a str, usize, &'a str);
+
+static ROWS: [Row<'static>; 4] = [
+    (Call::Json, "x", 41, "\"x\""),
+    (Call::Html, "<", 38, "&lt;"),
+    (Call::HtmlEach, "<", 38, "&lt;"),
+    (Call::Script, "&", 41, "\"\\u0026\""),
+];
+
+fn append(call: Call, text: &str, dst: &mut Vec<u8, &Heap>) -> Result<(), Refusal> {
+    match call {
+        Call::Json => escape_into(text, dst)?,
+        Call::Html => escape_html_into(text, dst)?,
+        Call::HtmlEach => append_each(text, dst)?,
+        Call::Script => escape_script_into(text, dst)?,
     }
     Ok(())
 }
 
-#[test]
-fn appending_often_asks_seldom(rt: HostRuntime) -> Result<(), Fail> {
-    for (call, _, written) in APPENDING {
-        let heap = Rationed::new(rt.alloc());
-        let mut dst = vector_of(&heap, 0, 0)?;
-        heap.ration(20);
-        for _ in 0..10000 {
-            assert_eq!(rt; append(call, &mut dst), Outcome::Written, "{call:?}");
-        }
-        assert_eq!(rt; dst.len(), 10000 * written.len(), "{call:?}");
+fn append_each(text: &str, dst: &mut Vec<u8, &Heap>) -> Result<(), EscapeHtmlError> {
+    match escape_html_each(&[text], dst) {
+        Ok(()) => Ok(()),
+        Err((0, error)) => Err(error),
+        Err(_) => Err(EscapeHtmlError::TooLarge(InputTooLarge)),
     }
-    Ok(())
 }
 
-#[test]
-fn appending_asks_for_nothing_where_there_is_room(rt: HostRuntime) -> Result<(), Fail> {
-    for (call, bound, written) in APPENDING {
-        for spare in [bound, bound + 1, 2 * bound] {
-            let heap = Rationed::new(rt.alloc());
-            let mut dst = vector_of(&heap, 1, spare)?;
-            heap.ration(0);
-            assert_eq!(rt;
-                append(call, &mut dst),
-                Outcome::Written,
-                "{call:?} {spare}"
-            );
-            assert!(rt; is_ff_and(&dst, 1, written), "{call:?} {spare}");
-            assert_eq!(rt; heap.requests().made, 0, "{call:?} {spare}");
-        }
-    }
-    Ok(())
+/// Whether the call is refused, and leaves `len` bytes ff as they were.
+fn is_refused(call: Call, text: &str, dst: &mut Vec<u8, &Heap>, len: usize) -> bool {
+    append(call, text, dst) == Err(Refusal::OutOfMemory) && is_ff_and(dst, len, b"")
 }
 
-#[test]
-fn texts_before_a_refusal_stay(rt: HostRuntime) -> Result<(), Fail> {
-    let letters = "aaaaaaaaaaaaaaaaaaaaaaaaaaaaaaaaaaaaaaaaaaaaaaaaaa\
-        aaaaaaaaaaaaaaaaaaaaaaaaaaaaaaaaaaaaaaaaaaaaaaaaaa";
-    for (granted, outcome, written) in [
-        (0, Err((0, EscapeHtmlError::OutOfMemory)), b"".as_slice()),
-        (
-            1,
-            Err((1, EscapeHtmlError::OutOfMemory)),
-            b"&lt;".as_slice(),
-        ),
-    ] {
-        let heap = Rationed::new(rt.alloc());
-        let mut dst = vector_of(&heap, 1, 0)?;
-        heap.ration(granted);
-        assert_eq!(rt; escape_html_each(&["<", letters], &mut dst), outcome);
-        assert!(rt; is_ff_and(&dst, 1, written), "{granted}");
-    }
+/// Whether the call appends what it is to write to `len` bytes ff.
+fn is_appended((call, text, _, written): Row<'_>, dst: &mut Vec<u8, &Heap>, len: usize) -> bool {
+    append(call, text, dst).is_ok() && is_ff_and(dst, len, written.as_bytes())
+}
+
+/// Whether the call is refused where no request is granted, and asks once for the bound where one is.
+fn is_asked_once(heap: &Heap, row: Row<'_>, dst: &mut Vec<u8, &Heap>, len: usize) -> bool {
+    heap.ration(0);
+    let is_refused = is_refused(row.0, row.1, dst, len);
+    heap.ration(1);
+    is_refused
+        && is_appended(row, dst, len)
+        && heap.requests() == one_request(len.saturating_add(row.2))
+}
+
+/// So it is, to append to `len` bytes with room for `spare` more.
+fn asks_once(rt: &(impl Abort + AllocGlobal), row: Row<'_>, len: usize, spare: usize) {
     let heap = Rationed::new(rt.alloc());
-    let mut dst = vector_of(&heap, 1, 0)?;
-    heap.ration(2);
-    assert_eq!(rt; escape_html_each(&["<", letters], &mut dst), Ok(()));
-    assert!(rt; dst.starts_with(b"\xff&lt;a"));
-    assert!(rt; dst.ends_with(letters.as_bytes()));
-    assert_eq!(rt; dst.len(), 1 + 4 + 100);
-    assert_eq!(rt; heap.requests().last_size, 1 + 4 + 632);
-    Ok(())
+    let mut dst = vector_of(rt, &heap, len, spare);
+    assert!(rt; is_asked_once(&heap, row, &mut dst, len));
 }
+
+#[test]
+fn appending_asks_once_for_the_bound(rt: HostRuntime) {
+    for row in &ROWS {
+        // So much less than the bound that a vector of twice the capacity would not hold it.
+        asks_once(&rt, *row, 1, 0);
+        asks_once(&rt, *row, 3, 7);
+        asks_once(&rt, *row, 5, 12);
+    }
+}
+
+#[test]
+fn a_long_text_asks_once_for_the_bound(rt: HostRuntime) {
+    let len = 3 * escape_simd::PIECE;
+    let text = repeated(&rt, &[(len, "\"")]);
+    let output = repeated(&rt, &[(1, "\""), (len, "\\\""), (1, "\"")]);
+    asks_once(&rt, (Call::Json, &text, 6 * len + 35, &output), 1, 0);
+}
+
+/// Whether the call asks for nothing, where there is room for `spare` bytes.
+fn asks_for_nothing(rt: &(impl Abort + AllocGlobal), row: Row<'_>, spare: usize) {
+    let heap = Rationed::new(rt.alloc());
+    let mut dst = vector_of(rt, &heap, 1, spare);
+    heap.ration(0);
+    let is_appended = is_appended(row, &mut dst, 1);
+    assert!(rt; is_appended && heap.requests().made == 0);
+}
+
+#[test]
+fn appending_asks_for_nothing_where_there_is_room(rt: HostRuntime) {
+    for row in &ROWS {
+        let bound = row.2;
+        for spare in [bound, bound.saturating_add(1), bound.saturating_mul(2)] {
+            asks_for_nothing(&rt, *row, spare);
+        }
+    }
+}
+
+/// How many bytes the call appends in ten thousand turns, if each is granted what it asks for.
+fn appended_often((call, text, _, _): Row<'_>, heap: &Heap) -> Option<usize> {
+    let mut dst = Vec::new(heap);
+    for _ in 0..10000 {
+        append(call, text, &mut dst).ok()?;
+    }
+    Some(dst.len())
+}
+
+#[test]
+fn appending_often_asks_seldom(rt: HostRuntime) {
+    for row in &ROWS {
+        let heap = Rationed::new(rt.alloc());
+        heap.ration(20);
+        let wanted = row.3.len().saturating_mul(10000);
+        assert!(rt; appended_often(*row, &heap) == Some(wanted));
+    }
+}
+
+/// Whether a list of which only so many texts are granted memory is written up to the next.
+fn is_stopped_after(written: usize, dst: &mut Vec<u8, &Heap>, letters: &str, bytes: &[u8]) -> bool {
+    escape_html_each(&["<", letters], dst) == Err((written, EscapeHtmlError::OutOfMemory))
+        && is_ff_and(dst, 1, bytes)
+}
+
+fn is_whole_list(dst: &mut Vec<u8, &Heap>, letters: &str) -> bool {
+    escape_html_each(&["<", letters], dst).is_ok()
+        && dst.starts_with(b"\xff&lt;a")
+        && dst.ends_with(letters.as_bytes())
+        && dst.len() == 1 + 4 + 100
+}
+
+#[test]
+fn texts_before_a_refusal_stay(rt: HostRuntime) {
+    let letters = repeated(&rt, &[(100, "a")]);
+    let heap = Rationed::new(rt.alloc());
+    let mut first = vector_of(&rt, &heap, 1, 0);
+    let mut second = vector_of(&rt, &heap, 1, 0);
+    let mut third = vector_of(&rt, &heap, 1, 0);
+    heap.ration(0);
+    assert!(rt; is_stopped_after(0, &mut first, &letters, b""));
+    heap.ration(1);
+    assert!(rt; is_stopped_after(1, &mut second, &letters, b"&lt;"));
+    heap.ration(2);
+    assert!(rt; is_whole_list(&mut third, &letters));
+    assert!(rt; heap.requests().last_size == 1 + 4 + 632);
+}
+
+/// What the call of the mode answers: the compact one, or the one that asks for the bound.
+fn answer<'a>(
+    heap: &'a Heap,
+    is_compact: bool,
+    mode: Mode,
+    text: &str,
+) -> Result<String<&'a Heap>, Refusal> {
+    Ok(match (mode, is_compact) {
+        (Mode::Json, false) => escape_in(heap, text)?,
+        (Mode::Json, true) => escape_compact(heap, text)?,
+        (Mode::Html, false) => escape_html_in(heap, text)?,
+        (Mode::Html, true) => escape_html_compact(heap, text)?,
+        (Mode::Script, false) => escape_script_in(heap, text)?,
+        (Mode::Script, true) => escape_script_compact(heap, text)?,
+    })
+}
+
+/// Whether the answer is this text, in a string of this capacity.
+fn is_text(answer: Result<String<&Heap>, Refusal>, text: &str, capacity: usize) -> bool {
+    match answer {
+        Ok(answer) => answer.as_str() == text && answer.capacity() == capacity,
+        Err(_) => false,
+    }
+}
+
+pub fn is_out_of_memory<T: Drop>(outcome: Result<T, Refusal>) -> bool {
+    match outcome {
+        Ok(_) => false,
+        Err(refusal) => refusal == Refusal::OutOfMemory,
+    }
+}
+
+/// Whether the call asks once for so many bytes, and answers this in a string of that capacity.
+fn answers_once(
+    heap: &Heap,
+    is_compact: bool,
+    (mode, text, output): (Mode, &str, &str),
+    size: usize,
+) -> bool {
+    heap.ration(0);
+    let is_refused = is_out_of_memory(answer(heap, is_compact, mode, text));
+    heap.ration(1);
+    is_refused
+        && is_text(answer(heap, is_compact, mode, text), output, size)
+        && heap.requests() == one_request(size)
+}
+
+/// A text, what stands for it, and how many bytes a call asks for.
+pub type Answer = (Mode, &'static str, &'static str, usize);
+
+/// Each call asks once, and answers so.
+pub fn all_answer_once(rt: &(impl Abort + AllocGlobal), is_compact: bool, answers: &[Answer]) {
+    let heap = Rationed::new(rt.alloc());
+    for (mode, text, output, size) in answers {
+        let is_right = answers_once(&heap, is_compact, (*mode, text, output), *size);
+        holds(rt, is_right, *mode, text);
+    }
+}
+
+static ANSWERS: [Answer; 3] = [
+    (Mode::Json, "x", "\"x\"", 41),
+    (Mode::Html, "<", "&lt;", 38),
+    (Mode::Script, "&", "\"\\u0026\"", 41),
+];
 
 #[test]
 fn a_text_asks_once_for_the_bound(rt: HostRuntime) {
+    all_answer_once(&rt, false, &ANSWERS);
+}
+
+/// Whether a run on "<" that is granted so many requests makes `made`, ends so, and appends these.
+fn is_run_of(
+    rt: &(impl Abort + AllocGlobal),
+    (mode, kernel): (Mode, Kernel),
+    (granted, made): (u64, u64),
+    outcome: Result<(), ToolFault>,
+    written: &[u8],
+) -> bool {
     let heap = Rationed::new(rt.alloc());
-    heap.ration(0);
-    assert!(rt; matches!(escape_in(&heap, "x"), Err(EscapeError::OutOfMemory)));
-    heap.ration(1);
-    assert!(rt; escape_in(&heap, "x").is_ok_and(|output| output.as_str() == "\"x\""));
-    assert_eq!(rt; heap.requests(), one_request(41));
+    let mut output = one_byte(rt);
+    heap.ration(granted);
+    let mut input = b"<".as_slice();
+    let ended = run_in(&heap, mode, kernel, &mut input, &mut output);
+    let requests = heap.requests();
+    ended == outcome
+        && is_ff_and(&output, 1, written)
+        && requests.made == made
+        && (made == 1 || requests.last_size == 38)
+}
 
-    heap.ration(0);
-    assert!(rt;
-        matches!(
-            escape_html_in(&heap, "<"),
-            Err(EscapeHtmlError::OutOfMemory)
-        )
-    );
-    heap.ration(1);
-    assert!(rt; escape_html_in(&heap, "<").is_ok_and(|output| output.as_str() == "&lt;"));
-    assert_eq!(rt; heap.requests(), one_request(38));
+fn one_byte(rt: &(impl Abort + AllocGlobal)) -> Vec<u8> {
+    vec![in rt.alloc(); 0xff].expect(rt, "no memory")
+}
 
-    heap.ration(0);
-    assert!(rt; matches!(escape_script_in(&heap, "&"), Err(EscapeError::OutOfMemory)));
-    heap.ration(1);
-    assert!(rt; escape_script_in(&heap, "&").is_ok_and(|output| output.as_str() == "\"\\u0026\""));
-    assert_eq!(rt; heap.requests(), one_request(41));
+fn asks_twice(rt: &(impl Abort + AllocGlobal), mode: Mode, kernel: Kernel, written: &[u8]) {
+    let refused = Err(ToolFault::OutOfMemory);
+    let is_right = is_run_of(rt, (mode, kernel), (0, 1), refused, b"")
+        && is_run_of(rt, (mode, kernel), (1, 2), refused, b"")
+        && is_run_of(rt, (mode, kernel), (2, 2), Ok(()), written);
+    holds(rt, is_right, mode, "<");
 }
 
 // On so short an input a run asks twice: for the input, and for what its one piece may become.
 #[test]
-fn a_run_asks_for_the_input_and_a_piece(rt: HostRuntime) -> Result<(), Fail> {
-    for (mode, bound, escaped) in [
-        (Mode::Json, 38, b"\"<\"".as_slice()),
-        (Mode::Html, 38, b"&lt;".as_slice()),
-        (Mode::Script, 38, b"\"\\u003c\"".as_slice()),
-    ] {
-        for kernel in KERNELS {
-            for (granted, outcome, written, made) in [
-                (0, Err(ToolFault::OutOfMemory), b"".as_slice(), 1),
-                (1, Err(ToolFault::OutOfMemory), b"".as_slice(), 2),
-                (2, Ok(()), escaped, 2),
-            ] {
-                let heap = Rationed::new(rt.alloc());
-                heap.ration(granted);
-                let mut input = b"<".as_slice();
-                let mut output = vec![in rt.alloc(); 0xff]?;
-                let result = run_in(&heap, mode, kernel, &mut input, &mut output);
-                assert_eq!(rt; result, outcome, "{mode:?} {kernel:?} {granted}");
-                assert!(rt;
-                    is_ff_and(&output, 1, written),
-                    "{mode:?} {kernel:?} {granted}"
-                );
-                let requests = heap.requests();
-                assert_eq!(rt; requests.made, made, "{mode:?} {kernel:?} {granted}");
-                assert!(rt;
-                    made == 1 || requests.last_size == bound,
-                    "{mode:?} {kernel:?}"
-                );
-            }
-        }
+fn a_run_asks_for_the_input_and_a_piece(rt: HostRuntime) {
+    for kernel in KERNELS {
+        asks_twice(&rt, Mode::Json, kernel, b"\"<\"");
+        asks_twice(&rt, Mode::Html, kernel, b"&lt;");
+        asks_twice(&rt, Mode::Script, kernel, b"\"\\u003c\"");
     }
-    Ok(())
 }
 
-#[test]
-fn a_long_text_asks_once_for_the_bound(rt: HostRuntime) -> Result<(), Fail> {
-    let len = 3 * escape_simd::PIECE;
-    let text = repeated(rt.alloc(), &[(len, "\"")])?;
-    for (outcome, granted) in [(Outcome::OutOfMemory, 0), (Outcome::Written, 1)] {
-        let heap = Rationed::new(rt.alloc());
-        let mut dst = vector_of(&heap, 1, 0)?;
-        heap.ration(granted);
-        let result = match escape_into(text.as_str(), &mut dst) {
-            Ok(()) => Outcome::Written,
-            Err(EscapeError::OutOfMemory) => Outcome::OutOfMemory,
-            Err(_) => Outcome::Other,
-        };
-        assert_eq!(rt; result, outcome);
-        let grown = if granted == 0 { 0 } else { 2 * len + 2 };
-        assert_eq!(rt; dst.len(), 1 + grown);
-        assert_eq!(rt; dst.first(), Some(&0xff));
-        assert_eq!(rt; heap.requests(), one_request(1 + 6 * len + 35));
-    }
-    Ok(())
+/// Whether a run on the text, of two pieces, ends well where so many requests are granted. Else memory was
+/// refused, and nothing was written.
+fn is_long_run(rt: &(impl Abort + AllocGlobal), heap: &Heap, granted: u64, text: &str) -> bool {
+    let mut input = text.as_bytes();
+    let mut output = one_byte(rt);
+    heap.ration(granted);
+    let outcome = run_in(heap, Mode::Html, Kernel::Avx2, &mut input, &mut output);
+    let is_whole = outcome.is_ok() && output.len() == 1 + 8 * escape_stream::PIECE;
+    let is_refused = outcome == Err(ToolFault::OutOfMemory) && is_ff_and(&output, 1, b"");
+    assert!(rt; is_whole || is_refused);
+    is_whole
 }
 
 // A run on more than a piece asks for the input as it grows, and at last for what a piece may become.
 #[test]
-fn a_long_run_asks_at_last_for_a_piece(rt: HostRuntime) -> Result<(), Fail> {
-    let text = repeated(rt.alloc(), &[(2 * escape_stream::PIECE, "<")])?;
-    let mut needed = 0;
+fn a_long_run_asks_at_last_for_a_piece(rt: HostRuntime) {
+    let text = repeated(&rt, &[(2 * escape_stream::PIECE, "<")]);
+    let heap = Rationed::new(rt.alloc());
     for granted in 0..20 {
-        let heap = Rationed::new(rt.alloc());
-        heap.ration(granted);
-        let mut input = text.as_bytes();
-        let mut output = vec![in rt.alloc(); 0xff]?;
-        let result = run_in(&heap, Mode::Html, KERNELS[3], &mut input, &mut output);
-        if result == Ok(()) {
-            assert_eq!(rt; output.len(), 1 + 8 * escape_stream::PIECE);
-            assert_eq!(rt; heap.requests().made, granted);
-            assert_eq!(rt; heap.requests().last_size, 6 * escape_stream::PIECE + 32);
-            needed = granted;
-            break;
+        if is_long_run(&rt, &heap, granted, &text) {
+            let requests = heap.requests();
+            assert!(rt; 2 <= granted && requests.made == granted);
+            assert!(rt; requests.last_size == 6 * escape_stream::PIECE + 32);
+            return;
         }
-        assert_eq!(rt; result, Err(ToolFault::OutOfMemory), "{granted}");
-        assert_eq!(rt; output.as_slice(), [0xff].as_slice(), "{granted}");
     }
-    assert!(rt; 2 <= needed);
-    Ok(())
+    panic!(rt; "no run ended well");
 }

@@ -1,29 +1,41 @@
 //! What the errors print.
 
+use escape_simd::Refusal;
 use escape_simd::html::{EscapeHtmlError, InputTooLarge};
 use escape_simd::json::EscapeError;
-use std::test::Fail;
+use escape_text::ListError;
+use std::fmt::Display;
+use std::process::Abort;
+
+fn prints<E: Display>(rt: &(impl Abort + AllocGlobal), error: &E, text: &str) {
+    let printed = error.to_string(rt.alloc()).expect(rt, "no memory");
+    assert!(rt; printed.as_str() == text, "{printed}");
+}
 
 #[test]
-fn messages_of_refusals(rt: HostRuntime) -> Result<(), Fail> {
-    for (error, text) in [
-        (EscapeError::TooLarge, "input is too large to JSON-escape"),
-        (EscapeError::OutOfMemory, "out of memory"),
-    ] {
-        assert_eq!(rt; error.to_string(rt.alloc())?.as_str(), text);
-    }
-    for (error, text) in [
-        (
-            EscapeHtmlError::TooLarge(InputTooLarge),
-            "input is too large to HTML-escape",
-        ),
-        (EscapeHtmlError::OutOfMemory, "out of memory"),
-    ] {
-        assert_eq!(rt; error.to_string(rt.alloc())?.as_str(), text);
-    }
-    assert_eq!(rt;
-        InputTooLarge.to_string(rt.alloc())?.as_str(),
-        "input is too large to HTML-escape"
+fn messages_of_refusals(rt: HostRuntime) {
+    prints(
+        &rt,
+        &EscapeError::TooLarge,
+        "input is too large to JSON-escape",
     );
-    Ok(())
+    prints(&rt, &EscapeError::OutOfMemory, "out of memory");
+    prints(&rt, &InputTooLarge, "input is too large to HTML-escape");
+    prints(
+        &rt,
+        &EscapeHtmlError::TooLarge(InputTooLarge),
+        "input is too large to HTML-escape",
+    );
+    prints(&rt, &EscapeHtmlError::OutOfMemory, "out of memory");
+    prints(&rt, &Refusal::TooLarge, "input is too large to escape");
+    prints(&rt, &Refusal::OutOfMemory, "out of memory");
+}
+
+#[test]
+fn a_stopped_list_tells_how_far_it_came(rt: HostRuntime) {
+    let error = ListError {
+        written: 3,
+        reason: EscapeError::OutOfMemory,
+    };
+    prints(&rt, &error, "out of memory, after 3 texts");
 }

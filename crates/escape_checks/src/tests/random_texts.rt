@@ -3,9 +3,10 @@
 ghost use Rattle.std.specs.Prelude.{◌<◌};
 
 use std::alloc::{AllocError, Global};
+use std::process::Abort;
 
 /// Characters that some mode replaces, and neighbours of theirs.
-const MARKED: [char; 24] = [
+static MARKED: [char; 24] = [
     '"',
     '\\',
     '<',
@@ -54,7 +55,11 @@ impl Numbers {
 
 /// A text of `len` bytes, or up to three more. Of every eight, one is clean, and the others have a share
 /// of marked characters, from all to one in sixty.
-pub fn random_text(alloc: Global, numbers: &mut Numbers, len: usize) -> Result<String, AllocError> {
+pub fn random_text(rt: &(impl Abort + AllocGlobal), numbers: &mut Numbers, len: usize) -> String {
+    text_in(rt.alloc(), numbers, len).expect(rt, "no memory")
+}
+
+fn text_in(alloc: Global, numbers: &mut Numbers, len: usize) -> Result<String, AllocError> {
     let is_clean = numbers.below(8) == 0;
     let rarity = 1 + numbers.below(60);
     let mut text = String::new(alloc);

@@ -4,7 +4,7 @@ use std::alloc::{AllocError, Allocator};
 use std::cell::Cell;
 
 /// What was asked of an allocator since its last ration.
-#[derive(Debug, Clone, Copy, PartialEq, Eq)]
+#[derive(Clone, Copy, PartialEq, Eq)]
 pub struct Requests {
     /// How many more are granted.
     pub left: u64,

@@ -1,13 +1,13 @@
 //! Texts with what stands for them, written out.
 
 use crate::tests::texts::repeated;
-use crate::writers::differing;
+use crate::tests::whole_targets::{UNTOUCHED, is_written};
+use crate::writers::{Writer, differing, differing_call};
 use escape_simd::html::escape_html_each;
 use escape_simd::simd::target::Target;
 use escape_simd::simd::util::escape_unchecked;
 use escape_stream::Mode;
 use std::process::Abort;
-use std::test::Fail;
 
 /// Parts of a text, or of what stands for it, each with how often it comes.
 type Parts = &'static [(usize, &'static str)];
@@ -35,7 +35,7 @@ const ASCII_MARKUP_FREE: &str = "\
     jklmnopqrstuvwxyz{|}~\x7f";
 
 /// What RFC 8259 has a string literal of the text be, where it is the shortest with lower-case digits.
-const LITERALS: [(Parts, Parts); 21] = [
+static LITERALS: [(Parts, Parts); 21] = [
     (&[(1, ASCII)], &[(1, ASCII_LITERAL)]),
     (&[], &[(2, "\"")]),
     (&[(1, "\n\x01\x7f")], &[(1, "\"\\n\\u0001\x7f\"")]),
@@ -78,7 +78,7 @@ const LITERALS: [(Parts, Parts); 21] = [
 ];
 
 /// What stands for the text in HTML.
-const MARKUP_FREE: [(Parts, Parts); 13] = [
+static MARKUP_FREE: [(Parts, Parts); 13] = [
     (&[(1, ASCII)], &[(1, ASCII_MARKUP_FREE)]),
     (&[], &[]),
     (
@@ -115,7 +115,7 @@ const ASCII_SCRIPT_LITERAL: &str = "\
     lmnopqrstuvwxyz{|}~\x7f\"";
 
 /// The shortest literal with lower-case digits that is safe inside a script element.
-const SCRIPT_LITERALS: [(Parts, Parts); 15] = [
+static SCRIPT_LITERALS: [(Parts, Parts); 15] = [
     (&[(1, ASCII)], &[(1, ASCII_SCRIPT_LITERAL)]),
     (&[], &[(2, "\"")]),
     (
@@ -148,68 +148,79 @@ const SCRIPT_LITERALS: [(Parts, Parts); 15] = [
     (&[(1, "&")], &[(1, "\"\\u0026\"")]),
 ];
 
-/// All that writes in this mode writes the outputs for the texts.
-fn all_write(
-    rt: &(impl Abort + AllocGlobal),
-    mode: Mode,
-    rows: &[(Parts, Parts)],
-) -> Result<(), Fail> {
-    for (text, output) in rows {
-        let text = repeated(rt.alloc(), text)?;
-        let output = repeated(rt.alloc(), output)?;
-        assert_eq!(rt;
-            differing(rt.alloc(), mode, text.as_str(), output.as_bytes())?,
-            None,
-            "{mode:?} {text}"
-        );
+/// All that writes in this mode writes the output for the text.
+pub fn all_write(rt: &(impl Abort + AllocGlobal), mode: Mode, text: &str, output: &str) {
+    let writer = differing(rt.alloc(), mode, text, output.as_bytes()).expect(rt, "no memory");
+    is_none(rt, writer, mode, text);
+}
+
+/// The calls of this mode that allocate write the output for the text.
+pub fn calls_write(rt: &(impl Abort + AllocGlobal), mode: Mode, text: &str, output: &str) {
+    let writer = differing_call(rt.alloc(), mode, text, output.as_bytes());
+    is_none(rt, writer, mode, text);
+}
+
+/// Stops the test at a writer, and tells which it is, and of which text.
+fn is_none(rt: &impl Abort, writer: Option<Writer>, mode: Mode, text: &str) {
+    if let Some(writer) = writer {
+        panic!(rt; "{writer:?} {mode:?} {text}");
     }
-    Ok(())
+}
+
+fn all_write_rows(rt: &(impl Abort + AllocGlobal), mode: Mode, rows: &[(Parts, Parts)]) {
+    for (text, output) in rows {
+        all_write(rt, mode, &repeated(rt, text), &repeated(rt, output));
+    }
 }
 
 #[test]
-fn literals(rt: HostRuntime) -> Result<(), Fail> {
-    all_write(&rt, Mode::Json, &LITERALS)
+fn literals(rt: HostRuntime) {
+    all_write_rows(&rt, Mode::Json, &LITERALS);
 }
 
 #[test]
-fn script_literals(rt: HostRuntime) -> Result<(), Fail> {
-    all_write(&rt, Mode::Script, &SCRIPT_LITERALS)
+fn script_literals(rt: HostRuntime) {
+    all_write_rows(&rt, Mode::Script, &SCRIPT_LITERALS);
 }
 
 #[test]
-fn markup_free(rt: HostRuntime) -> Result<(), Fail> {
-    all_write(&rt, Mode::Html, &MARKUP_FREE)
+fn markup_free(rt: HostRuntime) {
+    all_write_rows(&rt, Mode::Html, &MARKUP_FREE);
+}
+
+/// Whether the texts are appended as these.
+fn each_appends(texts: &[&str], target: &mut Vec<u8>, bytes: &[u8]) -> bool {
+    escape_html_each(texts, target).is_ok() && target.as_slice() == bytes
 }
 
 #[test]
-fn texts_one_after_another(rt: HostRuntime) -> Result<(), Fail> {
-    let mut appended = vec![in rt.alloc(); 0x41]?;
-    assert_eq!(rt; escape_html_each(&[], &mut appended), Ok(()));
-    assert_eq!(rt; appended.as_slice(), b"A".as_slice());
-    assert_eq!(rt; escape_html_each(&["<", "", "a&"], &mut appended), Ok(()));
-    assert_eq!(rt; appended.as_slice(), b"A&lt;a&amp;".as_slice());
-    Ok(())
+fn texts_one_after_another(rt: HostRuntime) {
+    let mut target = Vec::new(rt.alloc());
+    assert!(rt; each_appends(&["a"], &mut target, b"a"));
+    assert!(rt; each_appends(&[], &mut target, b"a"));
+    assert!(rt; each_appends(&["<", "", "a&"], &mut target, b"a&lt;a&amp;"));
 }
 
-// A run of two by each width, in each mode: what stands for them, and no byte six or more past it.
-fn a_run_of_two<const N: usize>(rt: &impl Abort) {
-    let mut dst = [0xee; 40];
+/// Whether a run of two in HTML is written, and no byte six or more past it.
+fn is_html_run<const N: usize>() -> bool {
+    let mut dst = [UNTOUCHED; 40];
     let mut target = Target::<N>::new(&mut dst);
     let places = escape_unchecked::<true, N>(b"<&a", 0, &mut target, 0);
-    assert_eq!(rt; places, (2, 9));
-    assert_eq!(rt; &dst[..9], b"&lt;&amp;".as_slice());
-    assert_eq!(rt; &dst[15..], [0xee; 25].as_slice());
-    let mut dst = [0xee; 40];
-    let mut target = Target::<N>::new(&mut dst);
-    let places = escape_unchecked::<false, N>(b"a\n\x01", 1, &mut target, 3);
-    assert_eq!(rt; places, (3, 11));
-    assert_eq!(rt; &dst[..11], b"\xee\xee\xee\\n\\u0001".as_slice());
-    assert_eq!(rt; &dst[17..], [0xee; 23].as_slice());
+    places == (2, 9) && is_written(&dst, 9, 15, b"&lt;&amp;")
 }
 
+/// Whether a run of two in JSON is written from the fourth byte on, and no byte six or more past it.
+fn is_json_run<const N: usize>() -> bool {
+    let mut dst = [UNTOUCHED; 40];
+    let mut target = Target::<N>::new(&mut dst);
+    let places = escape_unchecked::<false, N>(b"a\n\x01", 1, &mut target, 3);
+    places == (3, 11) && is_written(&dst, 11, 17, b"\xee\xee\xee\\n\\u0001")
+}
+
+// By each width, in each mode.
 #[test]
 fn a_run_of_escapes(rt: HostRuntime) {
-    a_run_of_two::<16>(&rt);
-    a_run_of_two::<32>(&rt);
-    a_run_of_two::<64>(&rt);
+    assert!(rt; is_html_run::<16>() && is_json_run::<16>());
+    assert!(rt; is_html_run::<32>() && is_json_run::<32>());
+    assert!(rt; is_html_run::<64>() && is_json_run::<64>());
 }

@@ -2,14 +2,15 @@
 
 use crate::plain::plain;
 use crate::routes::{KERNELS, MODES};
-use crate::tests::texts::repeated;
+use crate::tests::rows::calls_write;
+use crate::tests::texts::{holds, repeated};
+use crate::writers::runs_write;
 use escape_simd::Kernel;
-use escape_simd::html::{escape_html, escape_html_each, escape_html_into};
-use escape_simd::json::{escape, escape_into, escape_script, escape_script_into};
 use escape_stream::{Mode, ToolFault, run};
+use std::alloc::Global;
 use std::io;
 use std::io::Write;
-use std::test::Fail;
+use std::process::Abort;
 
 /// Takes at most `step` bytes a call, and counts its calls.
 #[derive(Drop)]
@@ -23,9 +24,9 @@ struct Counting {
 }
 
 impl Counting {
-    fn new(rt: &impl AllocGlobal, step: usize) -> Counting {
+    fn new(alloc: Global, step: usize) -> Counting {
         Counting {
-            held: Vec::new(rt.alloc()),
+            held: Vec::new(alloc),
             step,
             writes: 0,
             flushes: 0,
@@ -51,73 +52,69 @@ impl Write for Counting {
 
 // A body that always returns `OutOfMemory` keeps every clause. Here memory is at hand.
 #[test]
-fn always_out_of_memory(rt: HostRuntime) -> Result<(), Fail> {
-    let text = "\u{1d11e}<a href='/x'>\n";
-    let literal = "\"\u{1d11e}<a href='/x'>\\n\"";
-    let html = "\u{1d11e}&lt;a href=&#x27;&#x2f;x&#x27;&gt;\n";
-    let script = "\"\u{1d11e}\\u003ca href='/x'\\u003e\\n\"";
-    assert!(rt; escape(rt.alloc(), text).is_ok_and(|output| output.as_str() == literal));
-    assert!(rt; escape_html(rt.alloc(), text).is_ok_and(|output| output.as_str() == html));
-    assert!(rt; escape_script(rt.alloc(), text).is_ok_and(|output| output.as_str() == script));
-    let mut appended = Vec::new(rt.alloc());
-    assert_eq!(rt; escape_into(text, &mut appended), Ok(()));
-    assert_eq!(rt; escape_html_into(text, &mut appended), Ok(()));
-    assert_eq!(rt; escape_script_into(text, &mut appended), Ok(()));
-    assert_eq!(rt; escape_html_each(&[text, text], &mut appended), Ok(()));
-    let mut wanted = Vec::new(rt.alloc());
-    for part in [literal, html, script, html, html] {
-        wanted.extend_from_slice(part.as_bytes())?;
+fn always_out_of_memory(rt: HostRuntime) {
+    calls_write(&rt, Mode::Json, "<\n", "\"<\\n\"");
+    calls_write(&rt, Mode::Html, "<\n", "&lt;\n");
+    calls_write(&rt, Mode::Script, "<\n", "\"\\u003c\\n\"");
+}
+
+/// A run by each kernel writes what stands for the text, in each mode.
+pub fn runs_are_right(rt: &(impl Abort + AllocGlobal), text: &str) {
+    for mode in MODES {
+        let wanted = plain(rt, mode, text);
+        for kernel in KERNELS {
+            let is_right = runs_write(rt.alloc(), kernel, mode, text, wanted.as_bytes());
+            holds(rt, is_right, mode, text);
+        }
     }
-    assert!(rt; appended == wanted);
-    Ok(())
 }
 
 // A body that always returns `ReadFailed`, `WriteFailed` or `OutOfMemory` keeps every clause. Here each
 // run is to end well.
 #[test]
-fn run_always_fails(rt: HostRuntime) -> Result<(), Fail> {
-    let long = repeated(rt.alloc(), &[(3000, "a<\u{2028}\"b")])?;
-    for text in ["", "<", "</script>&\u{2028}", long.as_str()] {
-        for mode in MODES {
-            let wanted = plain(rt.alloc(), mode, text)?;
-            for kernel in KERNELS {
-                let mut input = text.as_bytes();
-                let mut output = Vec::new(rt.alloc());
-                let result = run(rt.alloc(), mode, kernel, &mut input, &mut output);
-                assert_eq!(rt; result, Ok(()), "{mode:?} {kernel:?}");
-                assert!(rt; output == wanted, "{mode:?} {kernel:?}");
-            }
+fn run_always_fails(rt: HostRuntime) {
+    runs_are_right(&rt, "");
+    runs_are_right(&rt, "<");
+    runs_are_right(&rt, "</script>&\u{2028}");
+    runs_are_right(&rt, &repeated(&rt, &[(3000, "a<\u{2028}\"b")]));
+}
+
+/// Whether a run ends well, and flushes once, after the last of its writes of at most `step` bytes.
+fn flushes_once(alloc: Global, mode: Mode, text: &str, step: usize) -> bool {
+    let mut input = text.as_bytes();
+    let mut output = Counting::new(alloc, step);
+    run(alloc, mode, Kernel::Avx2, &mut input, &mut output).is_ok()
+        && output.flushes == 1
+        && output.flushed == output.held.len()
+}
+
+fn runs_flush_once(rt: &(impl Abort + AllocGlobal), text: &str) {
+    for mode in MODES {
+        for step in [1, 5, usize::MAX] {
+            holds(rt, flushes_once(rt.alloc(), mode, text, step), mode, text);
         }
     }
-    Ok(())
 }
 
 #[test]
-fn a_run_flushes_once(rt: HostRuntime) -> Result<(), Fail> {
-    let long = repeated(rt.alloc(), &[(3000, "a<\u{2028}\"b")])?;
-    for text in ["", "<", long.as_str()] {
-        for mode in MODES {
-            for step in [1, 5, usize::MAX] {
-                let mut input = text.as_bytes();
-                let mut output = Counting::new(&rt, step);
-                let result = run(rt.alloc(), mode, Kernel::Avx2, &mut input, &mut output);
-                assert_eq!(rt; result, Ok(()), "{mode:?} {step}");
-                assert_eq!(rt; output.flushes, 1, "{mode:?} {step}");
-                assert_eq!(rt; output.flushed, output.held.len(), "{mode:?} {step}");
-            }
-        }
-    }
-    Ok(())
+fn a_run_flushes_once(rt: HostRuntime) {
+    runs_flush_once(&rt, "");
+    runs_flush_once(&rt, "<");
+    runs_flush_once(&rt, &repeated(&rt, &[(3000, "a<\u{2028}\"b")]));
+}
+
+/// Whether a run fails at the first write that takes nothing, and does not flush.
+fn fails_at_once(alloc: Global, mode: Mode) -> bool {
+    let mut input = b"<".as_slice();
+    let mut output = Counting::new(alloc, 0);
+    run(alloc, mode, Kernel::Avx2, &mut input, &mut output) == Err(ToolFault::WriteFailed)
+        && output.writes == 1
+        && output.flushes == 0
 }
 
 #[test]
 fn a_write_of_nothing_is_not_retried(rt: HostRuntime) {
     for mode in MODES {
-        let mut input = b"<".as_slice();
-        let mut output = Counting::new(&rt, 0);
-        let result = run(rt.alloc(), mode, Kernel::Avx2, &mut input, &mut output);
-        assert_eq!(rt; result, Err(ToolFault::WriteFailed), "{mode:?}");
-        assert_eq!(rt; output.writes, 1, "{mode:?}");
-        assert_eq!(rt; output.flushes, 0, "{mode:?}");
+        assert!(rt; fails_at_once(rt.alloc(), mode), "{mode:?}");
     }
 }

@@ -2,8 +2,10 @@
 //! refused memory leaves.
 
 use crate::plain::plain;
+use crate::routes::MODES;
+use crate::tests::memory::{Heap, vector_of};
 use crate::tests::rationed::Rationed;
-use crate::tests::texts::repeated;
+use crate::tests::texts::{holds, repeated};
 use escape_simd::html::EscapeHtmlError;
 use escape_simd::json::EscapeError;
 use escape_simd::{Kernel, format_html_str, format_json_str, format_script_str};
@@ -16,9 +18,8 @@ use escape_text::json::{
     self, escape_array_into, escape_into_string, escape_joined_into, escape_script_array_into,
     escape_script_into_string, escape_script_to_writer, escape_to_writer,
 };
-use std::alloc::Global;
+use std::alloc::{AllocError, Global};
 use std::process::Abort;
-use std::test::Fail;
 
 /// Parts of a text that ends near each place where its output is made in another way, with a character of
 /// three bytes across it. `pieces` has the longer texts.
@@ -40,115 +41,109 @@ fn to_writer(mode: Mode, text: &str, dst: &mut Vec<u8>) -> bool {
     }
 }
 
-fn displayed(alloc: Global, mode: Mode, text: &str) -> Result<String, Fail> {
-    Ok(match mode {
-        Mode::Json => format!(in alloc; "{}", json::Escaped(text))?,
-        Mode::Html => format!(in alloc; "{}", html::Escaped(text))?,
-        Mode::Script => format!(in alloc; "{}", json::EscapedScript(text))?,
-    })
+fn displayed(alloc: Global, mode: Mode, text: &str) -> Result<String, AllocError> {
+    match mode {
+        Mode::Json => format!(in alloc; "{}", json::Escaped(text)),
+        Mode::Html => format!(in alloc; "{}", html::Escaped(text)),
+        Mode::Script => format!(in alloc; "{}", json::EscapedScript(text)),
+    }
 }
 
-/// The calls of the mode hand on what stands for the text byte by byte: to a string, a writer and a
+fn string_is(alloc: Global, mode: Mode, text: &str, wanted: &str) -> bool {
+    let mut string = String::new(alloc);
+    into_string(mode, text, &mut string) && string.as_str() == wanted
+}
+
+fn bytes_are(alloc: Global, mode: Mode, text: &str, wanted: &str) -> bool {
+    let mut bytes = Vec::new(alloc);
+    to_writer(mode, text, &mut bytes) && bytes.as_slice() == wanted.as_bytes()
+}
+
+fn display_is(alloc: Global, mode: Mode, text: &str, wanted: &str) -> bool {
+    match displayed(alloc, mode, text) {
+        Ok(displayed) => displayed.as_str() == wanted,
+        Err(_) => false,
+    }
+}
+
+/// The calls of each mode hand on what stands for the text character by character: to a string, a writer and a
 /// formatter.
-pub fn targets_are_right(
-    rt: &(impl Abort + AllocGlobal),
-    mode: Mode,
-    text: &str,
-    wanted: &[u8],
-) -> Result<(), Fail> {
-    let mut string = String::from_str(rt.alloc(), "")?;
-    assert!(rt; into_string(mode, text, &mut string));
-    assert!(rt; string.as_bytes() == wanted, "{mode:?} {}", text.len());
-    let mut bytes = Vec::new(rt.alloc());
-    assert!(rt; to_writer(mode, text, &mut bytes));
-    assert!(rt; bytes.as_slice() == wanted, "{mode:?} {}", text.len());
-    let shown = displayed(rt.alloc(), mode, text)?;
-    assert!(rt; shown.as_bytes() == wanted, "{mode:?} {}", text.len());
-    Ok(())
+pub fn targets_are_right(rt: &(impl Abort + AllocGlobal), text: &str) {
+    for mode in MODES {
+        let wanted = plain(rt, mode, text);
+        holds(rt, string_is(rt.alloc(), mode, text, &wanted), mode, text);
+        holds(rt, bytes_are(rt.alloc(), mode, text, &wanted), mode, text);
+        holds(rt, display_is(rt.alloc(), mode, text, &wanted), mode, text);
+    }
 }
 
 #[test]
-fn each_target_has_the_plain_escaping(rt: HostRuntime) -> Result<(), Fail> {
+fn each_target_has_the_plain_escaping(rt: HostRuntime) {
     for part in ["\u{2028}<", "aé\"", "\u{1}"] {
         for count in LENGTHS {
-            let text = repeated(rt.alloc(), &[(1, "a"), (count, part)])?;
-            for mode in [Mode::Json, Mode::Html, Mode::Script] {
-                let wanted = plain(rt.alloc(), mode, &text)?;
-                targets_are_right(&rt, mode, &text, &wanted)?;
-            }
+            targets_are_right(&rt, &repeated(&rt, &[(1, "a"), (count, part)]));
         }
     }
-    Ok(())
+}
+
+fn slices_are_text(kernel: Kernel, dst: &mut [u8; 41]) -> bool {
+    format_json_str(kernel, "<", dst) == "\"<\""
+        && format_html_str(kernel, "<", dst) == "&lt;"
+        && format_script_str(kernel, "<", dst) == "\"\\u003c\""
 }
 
 #[test]
-fn slices_are_answered_as_text(rt: HostRuntime) -> Result<(), Fail> {
-    let mut dst = [0; 41];
-    assert_eq!(rt; format_json_str(Kernel::default(), "<", &mut dst), "\"<\"");
-    assert_eq!(rt; format_html_str(Kernel::default(), "<", &mut dst), "&lt;");
-    assert_eq!(rt;
-        format_script_str(Kernel::default(), "<", &mut dst),
-        "\"\\u003c\""
-    );
-    Ok(())
+fn slices_are_answered_as_text(rt: HostRuntime) {
+    assert!(rt; slices_are_text(Kernel::default(), &mut [0; 41]));
+}
+
+fn arrays_have_commas(dst: &mut Vec<u8>) -> bool {
+    escape_array_into(&["a", "\n"], dst).is_ok()
+        && escape_array_into(&[], dst).is_ok()
+        && escape_script_array_into(&["<"], dst).is_ok()
+        && dst.as_slice() == b"[\"a\",\"\\n\"][][\"\\u003c\"]".as_slice()
+}
+
+fn lists_have_separators(dst: &mut Vec<u8>) -> bool {
+    escape_joined_into(&["a", "b", "c"], "; ", dst).is_ok()
+        && escape_html_joined_into(&["<", "", ">"], "<br>", dst).is_ok()
+        && dst.as_slice() == b"\"a\"; \"b\"; \"c\"&lt;<br><br>&gt;".as_slice()
 }
 
 #[test]
-fn lists_have_something_between(rt: HostRuntime) -> Result<(), Fail> {
-    let mut dst = vec![in rt.alloc(); b'A']?;
-    escape_array_into(&["a", "\n"], &mut dst)?;
-    escape_array_into(&[], &mut dst)?;
-    escape_script_array_into(&["<"], &mut dst)?;
-    assert!(rt; dst.as_slice() == b"A[\"a\",\"\\n\"][][\"\\u003c\"]".as_slice());
-    dst.clear();
-    assert!(rt; escape_joined_into(&["a", "b", "c"], "; ", &mut dst).is_ok());
-    assert!(rt; escape_html_joined_into(&["<", "", ">"], "<br>", &mut dst).is_ok());
-    assert!(rt; dst.as_slice() == b"\"a\"; \"b\"; \"c\"&lt;<br><br>&gt;".as_slice());
-    Ok(())
+fn lists_have_something_between(rt: HostRuntime) {
+    assert!(rt; arrays_have_commas(&mut Vec::new(rt.alloc())));
+    assert!(rt; lists_have_separators(&mut Vec::new(rt.alloc())));
 }
 
-#[test]
-fn refused_memory_leaves_what_is_told(rt: HostRuntime) -> Result<(), Fail> {
-    for granted in 0..3 {
-        let heap = Rationed::new(rt.alloc());
-        let mut dst = Vec::with_capacity(&heap, 1)?;
-        dst.push(0xff)?;
-        heap.ration(granted);
-        // The bracket asks first, and the text after it.
-        let outcome = escape_array_into(&["x"], &mut dst);
-        if granted < 2 {
-            assert_eq!(rt; outcome, Err(EscapeError::OutOfMemory));
-            assert!(rt; dst.as_slice() == b"\xff".as_slice());
-        } else {
-            assert_eq!(rt; outcome, Ok(()));
-            assert!(rt; dst.as_slice() == b"\xff[\"x\"]".as_slice());
-        }
-    }
-    for (granted, written) in [(0, 0), (1, 1)] {
-        let heap = Rationed::new(rt.alloc());
-        let mut dst = Vec::new(&heap);
-        heap.ration(granted);
-        let outcome = escape_html_joined_into(
-            &["<", "> and a text that needs more room"],
-            "",
-            &mut dst,
-        );
-        let refusal = ListError {
-            written,
-            reason: EscapeHtmlError::OutOfMemory,
-        };
-        assert_eq!(rt; outcome, Err(refusal));
-    }
-    Ok(())
+/// Whether an array that is granted so many requests ends so, and leaves these bytes of a vector.
+fn is_array_of(rt: &(impl Abort + AllocGlobal), granted: u64, left: &[u8]) -> bool {
+    let heap = Rationed::new(rt.alloc());
+    let mut dst = vector_of(rt, &heap, 1, 0);
+    heap.ration(granted);
+    let outcome = escape_array_into(&["x"], &mut dst);
+    (outcome == Err(EscapeError::OutOfMemory)) == (left.len() == 1) && dst.as_slice() == left
 }
 
-#[test]
-fn a_stopped_list_tells_how_far_it_came(rt: HostRuntime) -> Result<(), Fail> {
-    let error = ListError {
-        written: 3,
-        reason: EscapeError::OutOfMemory,
+/// Whether a list that is granted so many requests tells that so many texts were written.
+fn is_joined_up_to(heap: &Heap, granted: u64, written: usize) -> bool {
+    let mut dst = Vec::new(heap);
+    heap.ration(granted);
+    let refusal = ListError {
+        written,
+        reason: EscapeHtmlError::OutOfMemory,
     };
-    let text = format!(in rt.alloc(); "{error}")?;
-    assert_eq!(rt; text.as_str(), "out of memory, after 3 texts");
-    Ok(())
+    let texts = ["<", "> and a text that needs more room"];
+    escape_html_joined_into(&texts, "", &mut dst) == Err(refusal)
+}
+
+#[test]
+fn refused_memory_leaves_what_is_told(rt: HostRuntime) {
+    // The bracket asks first, and the text after it.
+    assert!(rt; is_array_of(&rt, 0, b"\xff"));
+    assert!(rt; is_array_of(&rt, 1, b"\xff"));
+    assert!(rt; is_array_of(&rt, 2, b"\xff[\"x\"]"));
+    let heap = Rationed::new(rt.alloc());
+    assert!(rt; is_joined_up_to(&heap, 0, 0));
+    assert!(rt; is_joined_up_to(&heap, 1, 1));
 }

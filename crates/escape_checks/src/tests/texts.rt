@@ -1,32 +1,23 @@
-//! Texts and bytes of many equal parts.
+//! Texts of many equal parts, and what stops a test at one.
 
+use escape_stream::Mode;
 use std::alloc::{AllocError, Global};
+use std::process::Abort;
 
-/// The lengths at the borders of the vectors and the chunks.
-pub const LENGTHS: [usize; 17] = [
-    0, 1, 15, 16, 17, 31, 32, 33, 63, 64, 65, 127, 128, 129, 255, 256, 257,
+/// The lengths at the borders of the vectors and the chunks, and one less.
+pub const LENGTHS: [usize; 22] = [
+    0, 1, 14, 15, 16, 17, 30, 31, 32, 33, 62, 63, 64, 65, 126, 127, 128, 129, 254, 255, 256, 257,
 ];
 
 /// The widths that a border lies at: of a vector, and of a chunk.
 pub const WIDTHS: [usize; 4] = [16, 32, 64, 128];
 
-/// A text of `len` letters a, but for `count` double quotes in their place from `at` on.
-pub fn letters_and_quotes(
-    alloc: Global,
-    len: usize,
-    at: usize,
-    count: usize,
-) -> Result<String, AllocError> {
-    let mut text = String::new(alloc);
-    for place in 0..len {
-        let is_quote = at <= place && place - at < count;
-        text.push(if is_quote { '"' } else { 'a' })?;
-    }
-    Ok(text)
+/// The parts one after another, each as often as its number says.
+pub fn repeated(rt: &(impl Abort + AllocGlobal), parts: &[(usize, &str)]) -> String {
+    joined(rt.alloc(), parts).expect(rt, "no memory")
 }
 
-/// The parts one after another, each as often as its number says.
-pub fn repeated(alloc: Global, parts: &[(usize, &str)]) -> Result<String, AllocError> {
+fn joined(alloc: Global, parts: &[(usize, &str)]) -> Result<String, AllocError> {
     let mut text = String::new(alloc);
     for (count, part) in parts {
         for _ in 0..*count {
@@ -34,4 +25,29 @@ pub fn repeated(alloc: Global, parts: &[(usize, &str)]) -> Result<String, AllocE
         }
     }
     Ok(text)
+}
+
+/// The part, with so many letters a before it and after it.
+pub fn in_letters(
+    rt: &(impl Abort + AllocGlobal),
+    before: usize,
+    part: &str,
+    after: usize,
+) -> String {
+    repeated(rt, &[(before, "a"), (1, part), (after, "a")])
+}
+
+/// Stops the test unless it holds, and tells the mode and the text.
+pub fn holds(rt: &impl Abort, is: bool, mode: Mode, text: &str) {
+    assert!(rt; is, "{mode:?} {text}");
+}
+
+/// Whether each of these bytes is this one.
+pub fn all_are(bytes: &[u8], byte: u8) -> bool {
+    for it in bytes {
+        if *it != byte {
+            return false;
+        }
+    }
+    true
 }

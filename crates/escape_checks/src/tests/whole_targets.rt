@@ -1,10 +1,12 @@
 //! The whole targets that the three ways to a kernel leave.
 
-use crate::routes::{WAYS, format, lanes, room};
+use crate::routes::{Way, format, lanes, room};
+use crate::tests::texts::all_are;
 use escape_simd::Kernel;
+use escape_simd::html::EscapeHtmlError;
 use escape_stream::Mode;
+use std::alloc::Global;
 use std::process::Abort;
-use std::test::Fail;
 
 /// What a target holds before.
 pub const UNTOUCHED: u8 = 0xee;
@@ -19,32 +21,45 @@ pub fn is_right_by(
     text: &str,
     more: usize,
     wanted: &[u8],
-) -> Result<(), Fail> {
-    let bound = room(mode, text)?;
-    let len = bound.saturating_add(more);
-    let mut first = Vec::new(rt.alloc());
-    for way in WAYS {
-        let mut target = vec![in rt.alloc(); UNTOUCHED; len]?;
-        let count = format(way, kernel, mode, text, &mut target);
-        assert_eq!(rt;
-            &target[..count],
-            wanted,
-            "{way:?} {kernel:?} {mode:?} {text}"
-        );
-        let end = bound.min(count.saturating_add(lanes(kernel)));
-        assert!(rt;
-            target[end..].iter().all(|byte| *byte == UNTOUCHED),
-            "{way:?} {kernel:?} {mode:?} {text}"
-        );
-        if first.is_empty() {
-            first = target;
-        } else {
-            assert_eq!(rt;
-                target.as_slice(),
-                first.as_slice(),
-                "{way:?} {kernel:?} {mode:?} {text}"
-            );
-        }
-    }
-    Ok(())
+) {
+    let target = whole_target(rt, Way::Target, kernel, mode, text, more);
+    let slice = whole_target(rt, Way::Slice, kernel, mode, text, more);
+    let value = whole_target(rt, Way::Value, kernel, mode, text, more);
+    let bound = target.1.len().saturating_sub(more);
+    let end = bound.min(target.0.saturating_add(lanes(kernel)));
+    let is_right = is_written(&target.1, target.0, end, wanted)
+        && slice == target
+        && value == target;
+    assert!(rt; is_right, "{kernel:?} {mode:?} {text}");
+}
+
+/// How many bytes of a target this way to the kernel writes, and the whole target.
+fn whole_target(
+    rt: &(impl Abort + AllocGlobal),
+    way: Way,
+    kernel: Kernel,
+    mode: Mode,
+    text: &str,
+    more: usize,
+) -> (usize, Vec<u8>) {
+    target_in(rt.alloc(), way, kernel, mode, text, more).expect(rt, "no memory")
+}
+
+fn target_in(
+    alloc: Global,
+    way: Way,
+    kernel: Kernel,
+    mode: Mode,
+    text: &str,
+    more: usize,
+) -> Result<(usize, Vec<u8>), EscapeHtmlError> {
+    let mut target = vec![in alloc; UNTOUCHED; room(mode, text)?.saturating_add(more)]?;
+    let count = format(way, kernel, mode, text, &mut target);
+    Ok((count, target))
+}
+
+/// Whether the first `count` bytes are the output, and none from `end` on was written.
+pub fn is_written(target: &[u8], count: usize, end: usize, output: &[u8]) -> bool {
+    let rest = target.get(end..).unwrap_or_default();
+    target.get(..count) == Some(output) && all_are(rest, UNTOUCHED)
 }

@@ -1,4 +1,4 @@
-//! The tests that cross crates, and what they share: the ways to a kernel, all that writes an output,
+//! The tests of all crates, and what they share: the ways to a kernel, all that writes an output,
 //! and the replacement written out.
 #![tactic(auto)]
 

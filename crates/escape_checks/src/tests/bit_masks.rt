@@ -29,18 +29,21 @@ fn masks_that_are_cut(rt: HostRuntime) {
         &0x8400u16,
         &[(5, (10, 10, false)), (6, (10, 16, true))],
     );
+    has_fronts(&rt, &0x8001u16, &[(1, (0, 0, false)), (16, (0, 16, true))]);
     has_fronts(&rt, &0u32, &[(0, (32, 32, true))]);
     has_fronts(
         &rt,
         &0x8040_0000u32,
         &[(9, (22, 22, false)), (10, (22, 32, true))],
     );
+    has_fronts(&rt, &u32::MAX, &[(0, (0, 0, false)), (32, (0, 32, true))]);
     has_fronts(&rt, &0u64, &[(0, (64, 64, true))]);
     has_fronts(
         &rt,
         &(1u64 << 63 | 1 << 10),
         &[(53, (10, 10, false)), (54, (10, 64, true))],
     );
+    has_fronts(&rt, &u64::MAX, &[(63, (0, 0, false)), (64, (0, 64, true))]);
 }
 
 // A lane of `NeonBits` is four bits.

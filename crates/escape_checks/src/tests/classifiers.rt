@@ -8,7 +8,8 @@ use escape_lanes::simd::{Flags, Mask, Simd, avx2, avx512, neon, sse2, v128};
 use escape_stream::Mode;
 use std::process::Abort;
 
-/// What a kernel's classifiers return for the first bytes: in HTML, in JSON and in a script literal.
+/// What a kernel's classifiers return for the first bytes: in HTML, in JSON and in a script literal. Each kernel has
+/// them as functions of its module, and no trait has them.
 macro_rules! classified {
     ($kernel:ident, $vector:ident, $escaped:ident, $script:ident, $src:expr) => {{
         let v = $kernel::$vector::loadu($src);

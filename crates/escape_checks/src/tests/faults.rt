@@ -1,4 +1,4 @@
-//! Which fault the failure of a reader or of a writer gives, what the writer then holds, and what the faults print.
+//! Which fault the failure of a reader or of a writer gives, and what the writer then holds.
 ghost use Rattle.std.specs.Prelude.{◌≡◌, IfOk};
 ghost use Rattle.escape_lanes.specs.Mode.{html};
 ghost use Rattle.escape_simd.specs.Output.{plain};
@@ -11,20 +11,6 @@ use std::io;
 use std::io::{ErrorKind, Read, Write};
 use std::process::Abort;
 use std::test::Fail;
-
-#[test]
-fn messages_of_faults(rt: HostRuntime) -> Result<(), Fail> {
-    for (fault, text) in [
-        (ToolFault::ReadFailed, "reading failed"),
-        (ToolFault::NotUtf8, "input is not UTF-8"),
-        (ToolFault::TooLarge, "input is too large"),
-        (ToolFault::OutOfMemory, "out of memory"),
-        (ToolFault::WriteFailed, "writing failed"),
-    ] {
-        assert_eq!(rt; fault.to_string(rt.alloc())?.as_str(), text);
-    }
-    Ok(())
-}
 
 /// What a run returns, and what its output holds after a first byte ff.
 fn escaped<R: Read + Drop>(
@@ -133,7 +119,6 @@ struct Narrow {
     room: usize,
     error: Option<ErrorKind>,
     flush: Option<ErrorKind>,
-    flushes: u64,
 }
 
 impl Write for Narrow {
@@ -151,7 +136,6 @@ impl Write for Narrow {
     }
 
     fn flush(&mut self) -> io::Result<()> {
-        self.flushes = self.flushes.saturating_add(1);
         match self.flush {
             Some(kind) => Err(kind.into()),
             None => Ok(()),
@@ -167,7 +151,6 @@ impl Narrow {
             room,
             error,
             flush: None,
-            flushes: 0,
         }
     }
 }
@@ -206,24 +189,6 @@ fn a_write_that_fails_in_a_later_piece(rt: HostRuntime) -> Result<(), Fail> {
         let output = Narrow::new(rt.alloc(), usize::MAX, room, None);
         let held = letters.get(..room).unwrap_or_default();
         assert!(rt; fails_with(rt.alloc(), &letters, output, held), "{room}");
-    }
-    Ok(())
-}
-
-// The writer takes a few bytes a call.
-#[test]
-fn flushes_once_after_many_pieces(rt: HostRuntime) -> Result<(), Fail> {
-    let letters = vec![in rt.alloc(); b'a'; 3 * PIECE]?;
-    for (mode, len) in [
-        (Mode::Json, 3 * PIECE + 2),
-        (Mode::Html, 3 * PIECE),
-        (Mode::Script, 3 * PIECE + 2),
-    ] {
-        let mut input = letters.as_slice();
-        let mut output = Narrow::new(rt.alloc(), 1000, usize::MAX, None);
-        let result = run(rt.alloc(), mode, Kernel::Avx2, &mut input, &mut output);
-        let left = (result, output.flushes, output.held.len());
-        assert!(rt; left == (Ok(()), 1, len), "{mode:?}");
     }
     Ok(())
 }

@@ -1,8 +1,9 @@
-//! What the errors print.
+//! What the errors and the faults print.
 
 use escape_simd::Refusal;
 use escape_simd::html::{EscapeHtmlError, InputTooLarge};
 use escape_simd::json::EscapeError;
+use escape_stream::ToolFault;
 use escape_text::ListError;
 use std::fmt::Display;
 use std::process::Abort;
@@ -38,4 +39,13 @@ fn a_stopped_list_tells_how_far_it_came(rt: HostRuntime) {
         reason: EscapeError::OutOfMemory,
     };
     prints(&rt, &error, "out of memory, after 3 texts");
+}
+
+#[test]
+fn messages_of_faults(rt: HostRuntime) {
+    prints(&rt, &ToolFault::ReadFailed, "reading failed");
+    prints(&rt, &ToolFault::NotUtf8, "input is not UTF-8");
+    prints(&rt, &ToolFault::TooLarge, "input is too large");
+    prints(&rt, &ToolFault::OutOfMemory, "out of memory");
+    prints(&rt, &ToolFault::WriteFailed, "writing failed");
 }

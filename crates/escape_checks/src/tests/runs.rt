@@ -96,11 +96,12 @@ fn runs_flush_once(rt: &(impl Abort + AllocGlobal), text: &str) {
     }
 }
 
+// An empty input, one piece, and three.
 #[test]
 fn a_run_flushes_once(rt: HostRuntime) {
     runs_flush_once(&rt, "");
     runs_flush_once(&rt, "<");
-    runs_flush_once(&rt, &repeated(&rt, &[(3000, "a<\u{2028}\"b")]));
+    runs_flush_once(&rt, &repeated(&rt, &[(20000, "a<\u{2028}\"b")]));
 }
 
 /// Whether a run fails at the first write that takes nothing, and does not flush.

@@ -1,4 +1,4 @@
-//! What no clause says, over the public calls.
+//! What no clause says, and each public call and each generic operation once.
 mod arguments;
 mod bit_masks;
 mod borders;

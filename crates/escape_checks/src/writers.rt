@@ -10,7 +10,7 @@ use escape_simd::{Kernel, Refusal, format_html_string, format_json_inner, format
 use escape_stream::{Mode, run};
 use std::alloc::Global;
 
-/// What wrote something else than it was to write.
+/// What failed, or wrote something else than it was to write.
 #[derive(Debug, Clone, Copy)]
 pub enum Writer {
     /// A kernel, in this way.
@@ -27,7 +27,7 @@ pub enum Writer {
     Run(Kernel),
 }
 
-/// What the calls that append and a run find in the vector. It is no text.
+/// What the vector holds before a call or a run appends to it. It is no text.
 const BEFORE: [u8; 2] = [0xff, b'"'];
 
 /// The first writer in this mode that writes something else than `output` for the text, if there is one.
@@ -58,11 +58,13 @@ fn differing_kernel(
 ) -> Result<Option<Writer>, EscapeHtmlError> {
     let mut target = vec![in alloc; 0xeeu8; room(mode, text)?]?;
     for way in WAYS {
+        target.fill(0xee);
         let count = format(way, kernel, mode, text, &mut target);
         if target.get(..count) != Some(output) {
             return Ok(Some(Writer::Kernel(kernel, way)));
         }
     }
+    target.fill(0xee);
     let count = format_inner(kernel, mode, text, &mut target);
     if target.get(..count) != between_quotes(mode, output) {
         return Ok(Some(Writer::Inner(kernel)));
@@ -88,7 +90,7 @@ pub(crate) fn between_quotes(mode: Mode, output: &[u8]) -> Option<&[u8]> {
     }
 }
 
-/// The first of the calls that allocate which writes something else.
+/// The first call that fails or writes something else, of those that allocate.
 pub fn differing_call(alloc: Global, mode: Mode, text: &str, output: &[u8]) -> Option<Writer> {
     if !answers(alloc, mode, text, output) {
         return Some(Writer::Answering);

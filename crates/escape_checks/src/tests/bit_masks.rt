@@ -29,21 +29,28 @@ fn masks_that_are_cut(rt: HostRuntime) {
         &0x8400u16,
         &[(5, (10, 10, false)), (6, (10, 16, true))],
     );
-    has_fronts(&rt, &0x8001u16, &[(1, (0, 0, false)), (16, (0, 16, true))]);
     has_fronts(&rt, &0u32, &[(0, (32, 32, true))]);
     has_fronts(
         &rt,
         &0x8040_0000u32,
         &[(9, (22, 22, false)), (10, (22, 32, true))],
     );
-    has_fronts(&rt, &u32::MAX, &[(0, (0, 0, false)), (32, (0, 32, true))]);
     has_fronts(&rt, &0u64, &[(0, (64, 64, true))]);
     has_fronts(
         &rt,
         &(1u64 << 63 | 1 << 10),
         &[(53, (10, 10, false)), (54, (10, 64, true))],
     );
-    has_fronts(&rt, &u64::MAX, &[(63, (0, 0, false)), (64, (0, 64, true))]);
+}
+
+#[test]
+fn numbers_that_are_cut(rt: HostRuntime) {
+    assert_eq!(rt; 0x8001u16.clear_high_bits(1), 0x0001);
+    assert_eq!(rt; 0x8001u16.clear_high_bits(16), 0);
+    assert_eq!(rt; u32::MAX.clear_high_bits(0), u32::MAX);
+    assert_eq!(rt; u32::MAX.clear_high_bits(32), 0);
+    assert_eq!(rt; u64::MAX.clear_high_bits(63), 1);
+    assert_eq!(rt; u64::MAX.clear_high_bits(64), 0);
 }
 
 // A lane of `NeonBits` is four bits.
@@ -89,7 +96,7 @@ fn flags_behind_the_first(rt: HostRuntime) {
 #[test]
 fn flags_that_are_moved(rt: HostRuntime) {
     for count in 0..64usize {
-        assert_eq!(rt; shift_lanes(1 << 63, count), 1 << (63 - count), "{count}");
+        assert_eq!(rt; shift_lanes(u64::MAX, count), u64::MAX >> count, "{count}");
     }
     for at in 0..8usize {
         let lanes = 0x11 * (at as u8 + 1);
@@ -97,9 +104,12 @@ fn flags_that_are_moved(rt: HostRuntime) {
     }
 }
 
-// Every second lane is flagged, or all are.
 #[test]
 fn ends_of_runs(rt: HostRuntime) {
+    // A run of two, whose end is the fourth lane or past the lanes that are asked for.
+    assert_eq!(rt; count_gaps(0x06, 4), 1);
+    assert_eq!(rt; count_gaps(0x06, 3), 0);
+    // Every second lane is flagged, or all are.
     for count in 0..=64usize {
         assert_eq!(rt;
             count_gaps(0x5555_5555_5555_5555, count),

@@ -15,7 +15,7 @@ fn is_right(rt: &(impl Abort + AllocGlobal), text: &str) {
     }
 }
 
-/// So it does in one mode, into a target of exactly the bound and into a longer one.
+/// Each kernel writes it in one mode, into a target of exactly the bound and into a longer one.
 fn is_right_in(rt: &(impl Abort + AllocGlobal), mode: Mode, text: &str) {
     let wanted = plain(rt, mode, text);
     for kernel in KERNELS {
@@ -32,7 +32,7 @@ fn letters_or_quotes_of_each_length(rt: HostRuntime) {
     }
 }
 
-/// So it does in one mode for letters with the part at each place. What begins with e2 is told from
+/// Each kernel writes letters with the part at each place, in one mode. What begins with e2 is told from
 /// other characters by its two other bytes, which may lie in the next vector, chunk or rest.
 fn is_right_with(rt: &(impl Abort + AllocGlobal), mode: Mode, part: &str) {
     for len in LENGTHS {
@@ -98,7 +98,7 @@ fn byte_loop_behind_kernel(rt: HostRuntime) {
     }
 }
 
-/// So it does in each mode for as many of the part as fill the width, after up to two letters.
+/// Each kernel writes as many of the part as fill the width, after up to two letters, in each mode.
 fn is_right_with_many(rt: &(impl Abort + AllocGlobal), width: usize, part: &str) {
     let count = width.checked_div(part.len()).unwrap_or(0).saturating_add(1);
     for before in 0..3 {
@@ -153,7 +153,7 @@ fn a_separator_at_each_place_of_many_escapes(rt: HostRuntime) {
     }
 }
 
-/// It has a flag and stands for itself, so the rest of the text is stored as that of a clean one.
+/// An ellipsis has a flag and stands for itself, so the rest of the text is stored as that of a clean one.
 #[test]
 fn an_ellipsis_and_letters_of_each_length(rt: HostRuntime) {
     for len in 0..=257 {
@@ -161,7 +161,7 @@ fn an_ellipsis_and_letters_of_each_length(rt: HostRuntime) {
     }
 }
 
-/// So it does in script mode for the part near the end of each width.
+/// Each kernel writes the part near the end of each width, in script mode.
 fn is_right_near_each_border(rt: &(impl Abort + AllocGlobal), part: &str) {
     for width in WIDTHS {
         for before in 0..5 {

@@ -187,7 +187,7 @@ fn a_write_that_fails_in_a_later_piece(rt: HostRuntime) -> Result<(), Fail> {
     let letters = vec![in rt.alloc(); b'a'; 2 * PIECE]?;
     for room in [PIECE - 1, PIECE, PIECE + 1, 2 * PIECE - 1] {
         let output = Narrow::new(rt.alloc(), usize::MAX, room, None);
-        let held = letters.get(..room).unwrap_or_default();
+        let held = letters.get(..room).expect(&rt, "too few letters");
         assert!(rt; fails_with(rt.alloc(), &letters, output, held), "{room}");
     }
     Ok(())

@@ -96,17 +96,16 @@ fn is_appended((call, text, _, written): Row<'_>, dst: &mut Vec<u8, &Heap>, len:
     append(call, text, dst).is_ok() && is_ff_and(dst, len, written.as_bytes())
 }
 
-/// Whether the call is refused where no request is granted, and asks once for the bound where one is.
+/// Whether the call asks once for the bound: it is refused if that is not granted, and else appends.
 fn is_asked_once(heap: &Heap, row: Row<'_>, dst: &mut Vec<u8, &Heap>, len: usize) -> bool {
+    let request = one_request(len.saturating_add(row.2));
     heap.ration(0);
-    let is_refused = is_refused(row.0, row.1, dst, len);
+    let is_refused = is_refused(row.0, row.1, dst, len) && heap.requests() == request;
     heap.ration(1);
-    is_refused
-        && is_appended(row, dst, len)
-        && heap.requests() == one_request(len.saturating_add(row.2))
+    is_refused && is_appended(row, dst, len) && heap.requests() == request
 }
 
-/// So it is, to append to `len` bytes with room for `spare` more.
+/// The call asks once for the bound to append to `len` bytes with room for `spare` more.
 fn asks_once(rt: &(impl Abort + AllocGlobal), row: Row<'_>, len: usize, spare: usize) {
     let heap = Rationed::new(rt.alloc());
     let mut dst = vector_of(rt, &heap, len, spare);
@@ -131,7 +130,7 @@ fn a_long_text_asks_once_for_the_bound(rt: HostRuntime) {
     asks_once(&rt, (Call::Json, &text, 6 * len + 35, &output), 1, 0);
 }
 
-/// Whether the call asks for nothing, where there is room for `spare` bytes.
+/// The call asks for nothing, where there is room for `spare` bytes.
 fn asks_for_nothing(rt: &(impl Abort + AllocGlobal), row: Row<'_>, spare: usize) {
     let heap = Rationed::new(rt.alloc());
     let mut dst = vector_of(rt, &heap, 1, spare);
@@ -169,7 +168,7 @@ fn appending_often_asks_seldom(rt: HostRuntime) {
     }
 }
 
-/// Whether a list of which only so many texts are granted memory is written up to the next.
+/// Whether a list stops after so many texts, since memory for the next is refused, and has these bytes.
 fn is_stopped_after(written: usize, dst: &mut Vec<u8, &Heap>, letters: &str, bytes: &[u8]) -> bool {
     escape_html_each(&["<", letters], dst) == Err((written, EscapeHtmlError::OutOfMemory))
         && is_ff_and(dst, 1, bytes)

@@ -78,7 +78,7 @@ static LITERALS: [(Parts, Parts); 21] = [
 ];
 
 /// What stands for the text in HTML.
-static MARKUP_FREE: [(Parts, Parts); 13] = [
+static MARKUP_FREE: [(Parts, Parts); 14] = [
     (&[(1, ASCII)], &[(1, ASCII_MARKUP_FREE)]),
     (&[], &[]),
     (
@@ -88,6 +88,8 @@ static MARKUP_FREE: [(Parts, Parts); 13] = [
     (&[(1, "&amp;")], &[(1, "&amp;amp;")]),
     (&[(1, "<")], &[(1, "&lt;")]),
     (&[(1, "\"\n\u{80}")], &[(1, "&quot;\n\u{80}")]),
+    // A byte order mark stays.
+    (&[(1, "\u{feff}\"a")], &[(1, "\u{feff}&quot;a")]),
     (&[(16, "<a")], &[(16, "&lt;a")]),
     (&[(33, "<")], &[(33, "&lt;")]),
     (&[(6, "\u{20ac}")], &[(6, "\u{20ac}")]),
@@ -150,7 +152,7 @@ static SCRIPT_LITERALS: [(Parts, Parts); 15] = [
 
 /// All that writes in this mode writes the output for the text.
 pub fn all_write(rt: &(impl Abort + AllocGlobal), mode: Mode, text: &str, output: &str) {
-    let writer = differing(rt.alloc(), mode, text, output.as_bytes()).expect(rt, "no memory");
+    let writer = differing(rt.alloc(), mode, text, output.as_bytes()).expect(rt, "refused");
     is_none(rt, writer, mode, text);
 }
 

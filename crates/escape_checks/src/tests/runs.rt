@@ -79,19 +79,22 @@ fn run_always_fails(rt: HostRuntime) {
     runs_are_right(&rt, &repeated(&rt, &[(3000, "a<\u{2028}\"b")]));
 }
 
-/// Whether a run ends well, and flushes once, after the last of its writes of at most `step` bytes.
-fn flushes_once(alloc: Global, mode: Mode, text: &str, step: usize) -> bool {
+/// Whether a run writes this, at most `step` bytes a call, and flushes once, after the last write.
+fn flushes_once(alloc: Global, mode: Mode, text: &str, wanted: &str, step: usize) -> bool {
     let mut input = text.as_bytes();
     let mut output = Counting::new(alloc, step);
     run(alloc, mode, Kernel::Avx2, &mut input, &mut output).is_ok()
+        && output.held.as_slice() == wanted.as_bytes()
         && output.flushes == 1
-        && output.flushed == output.held.len()
+        && output.flushed == wanted.len()
 }
 
 fn runs_flush_once(rt: &(impl Abort + AllocGlobal), text: &str) {
     for mode in MODES {
+        let wanted = plain(rt, mode, text);
         for step in [1, 5, usize::MAX] {
-            holds(rt, flushes_once(rt.alloc(), mode, text, step), mode, text);
+            let is_right = flushes_once(rt.alloc(), mode, text, &wanted, step);
+            holds(rt, is_right, mode, text);
         }
     }
 }

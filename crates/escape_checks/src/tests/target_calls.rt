@@ -11,6 +11,9 @@ fn counts_take_no_bytes(rt: HostRuntime) {
     assert_eq!(rt; size_of::<Target<'_, 16>>(), size_of::<&mut [u8]>());
 }
 
+/// Bytes that all differ, as many as the widest vector has.
+const LANES: &[u8; 64] = b"0123456789abcdefghijklmnopqrstuvwxyzABCDEFGHIJKLMNOPQRSTUVWXYZ+-";
+
 /// What the calls write to a target of one width, one after another.
 fn written_to<const N: usize, S: Simd<Element = u8>>() -> [u8; 160]
     requires lanes { S.LANES ≡ N }
@@ -23,7 +26,7 @@ fn written_to<const N: usize, S: Simd<Element = u8>>() -> [u8; 160]
     target.put_block(9, b"a\\\"b\\\\cdefghijkl", 2);
     target.put_front(25, b"f");
     target.put(27, &[b'p'; N]);
-    target.store(91, &S::splat(b's'));
+    target.store(91, &S::loadu(LANES));
     target.quote(target.len() - 1);
     bytes
 }
@@ -35,7 +38,7 @@ fn expected(lanes: usize) -> [u8; 160]
     let mut bytes = [0xee; 160];
     bytes[..26].copy_from_slice(b"\"&lt;\0\0\0\0a\\\"b\\\\cdefghijklf");
     bytes[27..27 + lanes].copy_from_slice(&[b'p'; 64][..lanes]);
-    bytes[91..91 + lanes].copy_from_slice(&[b's'; 64][..lanes]);
+    bytes[91..91 + lanes].copy_from_slice(&LANES[..lanes]);
     bytes[159] = b'"';
     bytes
 }
@@ -65,9 +68,8 @@ fn writes_front<const N: usize, S: Simd>(src: &[u8; 64], count: usize) -> bool
 fn writes_each_front<const N: usize, S: Simd>(rt: &impl Abort)
     requires { S.LANES ≡ N }
 {
-    let src = b"0123456789abcdefghijklmnopqrstuvwxyzABCDEFGHIJKLMNOPQRSTUVWXYZ+-";
     for count in 0..=N {
-        assert!(rt; writes_front::<N, S>(src, count), "{count} of {N}");
+        assert!(rt; writes_front::<N, S>(LANES, count), "{count} of {N}");
     }
 }
 

@@ -116,13 +116,17 @@ fn lists_have_something_between(rt: HostRuntime) {
     assert!(rt; lists_have_separators(&mut Vec::new(rt.alloc())));
 }
 
-/// Whether an array that is granted so many requests ends so, and leaves these bytes of a vector.
-fn is_array_of(rt: &(impl Abort + AllocGlobal), granted: u64, left: &[u8]) -> bool {
+/// Whether an array that is granted so many requests ends so, and the vector then holds these bytes.
+fn is_array_of(
+    rt: &(impl Abort + AllocGlobal),
+    granted: u64,
+    outcome: Result<(), EscapeError>,
+    left: &[u8],
+) -> bool {
     let heap = Rationed::new(rt.alloc());
     let mut dst = vector_of(rt, &heap, 1, 0);
     heap.ration(granted);
-    let outcome = escape_array_into(&["x"], &mut dst);
-    (outcome == Err(EscapeError::OutOfMemory)) == (left.len() == 1) && dst.as_slice() == left
+    escape_array_into(&["x"], &mut dst) == outcome && dst.as_slice() == left
 }
 
 /// Whether a list that is granted so many requests tells that so many texts were written.
@@ -140,9 +144,10 @@ fn is_joined_up_to(heap: &Heap, granted: u64, written: usize) -> bool {
 #[test]
 fn refused_memory_leaves_what_is_told(rt: HostRuntime) {
     // The bracket asks first, and the text after it.
-    assert!(rt; is_array_of(&rt, 0, b"\xff"));
-    assert!(rt; is_array_of(&rt, 1, b"\xff"));
-    assert!(rt; is_array_of(&rt, 2, b"\xff[\"x\"]"));
+    let refused = Err(EscapeError::OutOfMemory);
+    assert!(rt; is_array_of(&rt, 0, refused, b"\xff"));
+    assert!(rt; is_array_of(&rt, 1, refused, b"\xff"));
+    assert!(rt; is_array_of(&rt, 2, Ok(()), b"\xff[\"x\"]"));
     let heap = Rationed::new(rt.alloc());
     assert!(rt; is_joined_up_to(&heap, 0, 0));
     assert!(rt; is_joined_up_to(&heap, 1, 1));

@@ -4,7 +4,7 @@ use escape_stream::Mode;
 use std::alloc::{AllocError, Global};
 use std::process::Abort;
 
-/// The lengths at the borders of the vectors and the chunks, and one less.
+/// The lengths at the borders of the vectors and the chunks, and less by one: a part adds a byte or more.
 pub const LENGTHS: [usize; 22] = [
     0, 1, 14, 15, 16, 17, 30, 31, 32, 33, 62, 63, 64, 65, 126, 127, 128, 129, 254, 255, 256, 257,
 ];

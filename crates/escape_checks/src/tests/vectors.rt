@@ -70,7 +70,7 @@ fn has_last<S: LoadLast>(src: &[u8], count: usize) -> bool
         && lanes[count..S::LANES].iter().all(|lane| *lane == 0)
 }
 
-/// So it has for a text of each length, and of these for each count.
+/// A vector has the last bytes of a text, of each length and of each count.
 fn have_last<S: LoadLast>(rt: &impl Abort, text: &[u8; 80]) {
     for len in 0..=80usize {
         for count in 0..S::LANES.min(len + 1) {

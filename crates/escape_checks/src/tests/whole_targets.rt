@@ -60,6 +60,8 @@ fn target_in(
 
 /// Whether the first `count` bytes are the output, and none from `end` on was written.
 pub fn is_written(target: &[u8], count: usize, end: usize, output: &[u8]) -> bool {
-    let rest = target.get(end..).unwrap_or_default();
-    target.get(..count) == Some(output) && all_are(rest, UNTOUCHED)
+    match target.get(end..) {
+        Some(rest) => target.get(..count) == Some(output) && all_are(rest, UNTOUCHED),
+        None => false,
+    }
 }

@@ -12,7 +12,7 @@ ghost use Rattle.escape_simd.specs.Output.{bound, quoted};
 ghost use Rattle.escape_simd.specs.Script.{IsOnlyScript};
 
 use crate::kernel::Kernel;
-use crate::simd::{HTML_MODE, JSON_MODE, SCRIPT_MODE, avx2, avx512, neon, sse2, v128};
+use crate::simd::{HTML_MODE, JSON_MODE, SCRIPT_MODE, avx2, avx512, neon, sse2, v128, whole};
 
 /// Writes the JSON string literal of a text (RFC 8259, section 7), with its quotation marks, to the front of `dst`,
 /// with the kernel `kernel`. Returns the length of the literal in bytes. The call allocates nothing and does not
@@ -190,7 +190,7 @@ fn format_by<const MODE: u8>(kernel: Kernel, value: &str, dst: &mut [u8]) -> usi
     ensures { IsWritten (lanes_of kernel) (mode_numbered MODE) value.now dst.old dst.new result }
 {
     match kernel {
-        Kernel::Avx2 => avx2::format_in_mode::<MODE>(value, dst),
+        Kernel::Avx2 => whole::format_in_mode::<avx2::Simd256u, MODE, 32>(value, dst),
         _ => format_by_other::<MODE>(kernel, value, dst),
     }
 }
@@ -202,11 +202,11 @@ fn format_by_other<const MODE: u8>(kernel: Kernel, value: &str, dst: &mut [u8]) 
     ensures { IsWritten (lanes_of kernel) (mode_numbered MODE) value.now dst.old dst.new result }
 {
     match kernel {
-        Kernel::V128 => v128::format_in_mode::<MODE>(value, dst),
-        Kernel::Sse2 => sse2::format_in_mode::<MODE>(value, dst),
-        Kernel::Neon => neon::format_in_mode::<MODE>(value, dst),
-        Kernel::Avx2 => avx2::format_in_mode::<MODE>(value, dst),
-        Kernel::Avx512 => avx512::format_in_mode::<MODE>(value, dst),
+        Kernel::V128 => whole::format_in_mode::<v128::Simd128u, MODE, 16>(value, dst),
+        Kernel::Sse2 => whole::format_in_mode::<sse2::Simd128u, MODE, 16>(value, dst),
+        Kernel::Neon => whole::format_in_mode::<neon::Simd128u, MODE, 16>(value, dst),
+        Kernel::Avx2 => whole::format_in_mode::<avx2::Simd256u, MODE, 32>(value, dst),
+        Kernel::Avx512 => whole::format_in_mode::<avx512::Simd512u, MODE, 64>(value, dst),
     }
 }
 
@@ -216,10 +216,10 @@ fn inner_by<const MODE: u8>(kernel: Kernel, value: &str, dst: &mut [u8]) -> usiz
     ensures { IsInnerWritten (lanes_of kernel) (mode_numbered MODE) value.now dst.old dst.new result }
 {
     match kernel {
-        Kernel::V128 => v128::format_inner::<MODE>(value, dst),
-        Kernel::Sse2 => sse2::format_inner::<MODE>(value, dst),
-        Kernel::Neon => neon::format_inner::<MODE>(value, dst),
-        Kernel::Avx2 => avx2::format_inner::<MODE>(value, dst),
-        Kernel::Avx512 => avx512::format_inner::<MODE>(value, dst),
+        Kernel::V128 => whole::format_inner::<v128::Simd128u, MODE, 16>(value, dst),
+        Kernel::Sse2 => whole::format_inner::<sse2::Simd128u, MODE, 16>(value, dst),
+        Kernel::Neon => whole::format_inner::<neon::Simd128u, MODE, 16>(value, dst),
+        Kernel::Avx2 => whole::format_inner::<avx2::Simd256u, MODE, 32>(value, dst),
+        Kernel::Avx512 => whole::format_inner::<avx512::Simd512u, MODE, 64>(value, dst),
     }
 }

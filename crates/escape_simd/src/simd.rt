@@ -14,7 +14,7 @@ mod turns;
 pub mod util;
 pub mod v128;
 mod vector;
-mod whole;
+pub(crate) mod whole;
 
 pub(crate) use body::{escape_at, escape_chunks};
 pub(crate) use chunk::flags_at;

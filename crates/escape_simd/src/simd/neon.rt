@@ -4,10 +4,9 @@ ghost use Rattle.std.proofs.Common.{lit≤};
 ghost use Rattle.escape_lanes.specs.Mode.{mode_of, script};
 ghost use Rattle.escape_lanes.specs.Written.{bytes_of};
 ghost use Rattle.escape_simd.specs.Output.{bound};
-ghost use Rattle.escape_simd.specs.Formatted.{IsFormatted, IsInnerWritten, IsWritten};
+ghost use Rattle.escape_simd.specs.Formatted.{IsFormatted, IsWritten};
 ghost use Rattle.escape_simd.specs.Headline.{IsOnlyOutput};
 ghost use Rattle.escape_simd.specs.Laws.{IsOfOneText};
-ghost use Rattle.escape_simd.specs.Modes.{mode_numbered};
 
 use crate::simd::vector::{HTML_MODE, JSON_MODE, SCRIPT_MODE, Vector};
 use crate::simd::whole;
@@ -94,9 +93,9 @@ pub fn format_string<const HTML: bool>(value: &str, dst: &mut [u8]) -> usize
     ensures equal_texts { IsOfOneText (mode_of HTML) value.now (take result dst.new) }
 {
     if HTML {
-        return format_in_mode::<{ HTML_MODE }>(value, dst);
+        return whole::format_in_mode::<Simd128u, { HTML_MODE }, 16>(value, dst);
     }
-    format_in_mode::<{ JSON_MODE }>(value, dst)
+    whole::format_in_mode::<Simd128u, { JSON_MODE }, 16>(value, dst)
 }
 
 /// Escapes the text to the front of the target as a JSON string literal that can stand in a script
@@ -126,25 +125,5 @@ pub fn format_script_string(value: &str, dst: &mut [u8]) -> usize
     ensures headline { IsOnlyOutput script (take result dst.new) (chars value.now) }
     ensures equal_texts { IsOfOneText script value.now (take result dst.new) }
 {
-    format_in_mode::<{ SCRIPT_MODE }>(value, dst)
-}
-
-/// As [`format_string`], in the mode numbered `MODE`.
-#[inline(never)]
-pub(crate) fn format_in_mode<const MODE: u8>(value: &str, dst: &mut [u8]) -> usize
-    requires { bound (mode_numbered MODE) (length value.now) ≤ length dst.old }
-    ensures written { IsWritten 16 (mode_numbered MODE) value.now dst.old dst.new result }
-    ensures headline { IsOnlyOutput (mode_numbered MODE) (take result dst.new) (chars value.now) }
-    ensures equal_texts { IsOfOneText (mode_numbered MODE) value.now (take result dst.new) }
-{
-    whole::format_in_mode::<Simd128u, MODE, 16>(value, dst)
-}
-
-/// Escapes the text to the front of `dst` in the mode numbered `MODE`, with no quotation marks, and
-/// returns how many bytes it became.
-pub(crate) fn format_inner<const MODE: u8>(value: &str, dst: &mut [u8]) -> usize
-    requires { 6 * length value.now + 32 ≤ length dst.old }
-    ensures { IsInnerWritten 16 (mode_numbered MODE) value.now dst.old dst.new result }
-{
-    whole::format_inner::<Simd128u, MODE, 16>(value, dst)
+    whole::format_in_mode::<Simd128u, { SCRIPT_MODE }, 16>(value, dst)
 }

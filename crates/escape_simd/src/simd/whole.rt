@@ -130,7 +130,7 @@ fn format_short<V: Vector<N>, const MODE: u8, const N: usize>(text: &[u8], dst: 
 }
 
 /// As [`format`], with the target made over `dst`.
-#[inline(always)]
+#[inline(never)]
 pub(crate) fn format_in_mode<V: Vector<N>, const MODE: u8, const N: usize>(
     value: &str,
     dst: &mut [u8],

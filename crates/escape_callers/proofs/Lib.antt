@@ -1,2 +1,3 @@
 pub mod LineLemmas
 pub mod FilterLemmas
+pub mod FrontLemmas

@@ -1,3 +1,2 @@
 pub mod LineLemmas
 pub mod FilterLemmas
-pub mod FrontLemmas

@@ -1,5 +1,5 @@
 use Rattle.std.proofs.Common.{ℕ, List, refl}
-use Rattle.escape_callers.proofs.FrontLemmas.{appended-more, front-first, front-more, front-kept}
+use Rattle.escape_text.proofs.FrontLemmas.{appended-more, front-first, front-more, front-kept}
 use Rattle.escape_callers.proofs.entries.append_fields.Goals as goal
 
 pub returns-in_err-escape_into-clause-front : goal.returns-in_err-escape_into-clause-front

@@ -1,5 +1,5 @@
 use Rattle.std.proofs.Common.{append_assoc, refl}
-use Rattle.escape_callers.proofs.FrontLemmas.{front-first, front-more, front-kept}
+use Rattle.escape_text.proofs.FrontLemmas.{front-first, front-more, front-kept}
 use Rattle.escape_callers.proofs.page.append_page.Goals as goal
 
 pub returns-in_err-extend_from_slice-2-clause-front : goal.returns-in_err-extend_from_slice-2-clause-front

@@ -6,7 +6,7 @@ use escape_simd::json::{EscapeError, escape_into};
 use std::alloc::Allocator;
 
 /// What a line of the log says.
-#[derive(Debug, Clone, Copy)]
+#[derive(Clone, Copy)]
 pub struct Entry<'a> {
     pub level: &'a str,
     pub message: &'a str,

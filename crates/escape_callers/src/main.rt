@@ -25,19 +25,21 @@ const ENTRIES: [Entry; 1] = [Entry {
 
 fn main(rt: HostRuntime) -> io::Result<()> {
     let mut output = BufWriter::new(rt.alloc(), io::writer(&rt))?;
+    write_each(rt.alloc(), &mut output)?;
+    let mut input = BufReader::new(rt.alloc(), rt.reader())?;
+    filter(rt.alloc(), &mut input, &mut output)
+}
 
+/// Writes what each caller but the filter makes.
+fn write_each<W: Write>(alloc: Global, output: &mut W) -> io::Result<()> {
     // So short texts are refused for want of memory alone.
-    let Ok(bytes) = log_and_page(rt.alloc()) else {
+    let Ok(bytes) = log_and_page(alloc) else {
         return Err(ErrorKind::OutOfMemory.into());
     };
     output.write_all(bytes.as_slice())?;
-
-    write_report(&ENTRIES, &mut output)?;
-    write_label("tab\there", &mut output)?;
-    output.write_all(b"\n")?;
-
-    let mut input = BufReader::new(rt.alloc(), rt.reader())?;
-    filter(rt.alloc(), &mut input, &mut output)
+    write_report(&ENTRIES, output)?;
+    write_label("tab\there", output)?;
+    output.write_all(b"\n")
 }
 
 /// A log and a page, each on a line of its own.

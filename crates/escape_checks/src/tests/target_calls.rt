@@ -21,14 +21,14 @@ fn written_to<const N: usize, S: Simd<Element = u8>>() -> [u8; 160]
     requires some { 1 ≤ N }
 {
     let mut bytes = [0xee; 160];
-    let end = Target::<N>::new(&mut bytes).len();
-    Target::<N>::new(&mut bytes).quote(0);
-    Target::<N>::new(&mut bytes).escape(1, b"&lt;\0\0\0\0");
-    Target::<N>::new(&mut bytes).put_block(9, b"a\\\"b\\\\cdefghijkl", 2);
-    Target::<N>::new(&mut bytes).put_front(25, b"f");
-    Target::<N>::new(&mut bytes).put(27, &[b'p'; N]);
-    Target::<N>::new(&mut bytes).store(91, &S::loadu(LANES));
-    Target::<N>::new(&mut bytes).quote(end - 1);
+    let mut target = Target::<N>::new(&mut bytes);
+    target.quote(0);
+    target.escape(1, b"&lt;\0\0\0\0");
+    target.put_block(9, b"a\\\"b\\\\cdefghijkl", 2);
+    target.put_front(25, b"f");
+    target.put(27, &[b'p'; N]);
+    target.store(91, &S::loadu(LANES));
+    target.quote(target.len() - 1);
     bytes
 }
 

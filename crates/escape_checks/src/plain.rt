@@ -31,7 +31,8 @@ fn output(alloc: Global, mode: Mode, text: &str) -> Result<String, AllocError> {
     Ok(output)
 }
 
-fn replacement(mode: Mode, character: char) -> Option<&'static str> {
+/// What stands for the character, or none where it stands for itself.
+pub fn replacement(mode: Mode, character: char) -> Option<&'static str> {
     match mode {
         Mode::Html => html(character),
         Mode::Json => json(character),

@@ -1,5 +1,7 @@
 //! Masks and flags as numbers, a bit for each lane.
 
+ghost use Rattle.std.specs.Prelude.{◌≤◌};
+
 use escape_lanes::simd::BitMask;
 use escape_lanes::simd::bits::NeonBits;
 use escape_lanes::simd::lane_bits::{clear_first_lane, count_gaps, eight_lanes, shift_lanes};
@@ -17,7 +19,7 @@ fn front_of<M: BitMask>(mask: &M, n: usize) -> Front {
 /// The mask has these fronts, for each `n`.
 pub fn has_fronts<M: BitMask>(rt: &impl Abort, mask: &M, fronts: &[(usize, Front)]) {
     for (n, front) in fronts {
-        assert_eq!(rt; front_of(mask, *n), *front, "{n}");
+        assert!(rt; front_of(mask, *n) == *front, "{n}");
     }
 }
 
@@ -43,14 +45,19 @@ fn masks_that_are_cut(rt: HostRuntime) {
     );
 }
 
+/// Of the mask so many lanes are left, without its last `n`.
+fn is_cut<M: BitMask + PartialEq>(rt: &impl Abort, mask: M, n: usize, left: M) {
+    assert!(rt; mask.clear_high_bits(n.min(M::LEN)) == left, "{n}");
+}
+
 #[test]
 fn numbers_that_are_cut(rt: HostRuntime) {
-    assert_eq!(rt; 0x8001u16.clear_high_bits(1), 0x0001);
-    assert_eq!(rt; 0x8001u16.clear_high_bits(16), 0);
-    assert_eq!(rt; u32::MAX.clear_high_bits(0), u32::MAX);
-    assert_eq!(rt; u32::MAX.clear_high_bits(32), 0);
-    assert_eq!(rt; u64::MAX.clear_high_bits(63), 1);
-    assert_eq!(rt; u64::MAX.clear_high_bits(64), 0);
+    is_cut(&rt, 0x8001u16, 1, 0x0001);
+    is_cut(&rt, 0x8001u16, 16, 0);
+    is_cut(&rt, u32::MAX, 0, u32::MAX);
+    is_cut(&rt, u32::MAX, 32, 0);
+    is_cut(&rt, u64::MAX, 63, 1);
+    is_cut(&rt, u64::MAX, 64, 0);
 }
 
 // A lane of `NeonBits` is four bits.
@@ -84,38 +91,48 @@ fn behind_first(flags: u64) -> u64 {
 
 #[test]
 fn flags_behind_the_first(rt: HostRuntime) {
-    for (flags, behind) in [
-        (0x06, 0x04),
-        (0x8000_0000_0000_0000, 0),
-        (u64::MAX, 0xffff_ffff_ffff_fffe),
-    ] {
-        assert_eq!(rt; behind_first(flags), behind);
-    }
+    assert!(rt; behind_first(0x06) == 0x04);
+    assert!(rt; behind_first(0x8000_0000_0000_0000) == 0);
+    assert!(rt; behind_first(u64::MAX) == 0xffff_ffff_ffff_fffe);
 }
 
 #[test]
 fn flags_that_are_moved(rt: HostRuntime) {
     for count in 0..64usize {
-        assert_eq!(rt; shift_lanes(u64::MAX, count), u64::MAX >> count, "{count}");
+        assert!(rt;
+            shift_lanes(u64::MAX, count) == u64::MAX >> count,
+            "{count}"
+        );
     }
+}
+
+/// The eight lanes of each byte.
+static EIGHTS: [u8; 8] = [0x11, 0x22, 0x33, 0x44, 0x55, 0x66, 0x77, 0x88];
+
+#[test]
+fn eight_flags_that_are_moved(rt: HostRuntime) {
     for at in 0..8usize {
-        let lanes = 0x11 * (at as u8 + 1);
-        assert_eq!(rt; eight_lanes(0x8877_6655_4433_2211, at), lanes, "{at}");
+        assert!(rt;
+            eight_lanes(0x8877_6655_4433_2211, at) == EIGHTS[at],
+            "{at}"
+        );
     }
+}
+
+/// Whether the first `count` lanes have half as many ends of runs where every second lane is flagged, and none
+/// where all are.
+fn has_ends(count: usize) -> bool
+    requires { count ≤ 64 }
+{
+    count_gaps(0x5555_5555_5555_5555, count) == count / 2 && count_gaps(u64::MAX, count) == 0
 }
 
 #[test]
 fn ends_of_runs(rt: HostRuntime) {
     // A run of two, whose end is the fourth lane or past the lanes that are asked for.
-    assert_eq!(rt; count_gaps(0x06, 4), 1);
-    assert_eq!(rt; count_gaps(0x06, 3), 0);
-    // Every second lane is flagged, or all are.
+    assert!(rt; count_gaps(0x06, 4) == 1);
+    assert!(rt; count_gaps(0x06, 3) == 0);
     for count in 0..=64usize {
-        assert_eq!(rt;
-            count_gaps(0x5555_5555_5555_5555, count),
-            count / 2,
-            "{count}"
-        );
-        assert_eq!(rt; count_gaps(u64::MAX, count), 0, "{count}");
+        assert!(rt; has_ends(count), "{count}");
     }
 }

@@ -2,33 +2,34 @@
 
 use crate::plain::plain;
 use crate::routes::{KERNELS, MODES, WAYS, Way, format, lanes};
-use crate::tests::texts::{LENGTHS, WIDTHS, in_letters, repeated};
+use crate::tests::texts::{LENGTHS, WIDTHS, repeated};
 use crate::tests::whole_targets::{UNTOUCHED, is_right_by};
 use escape_simd::Kernel;
 use escape_stream::Mode;
 use std::process::Abort;
 
-/// Each kernel writes what stands for the text character by character, in each mode.
-fn is_right(rt: &(impl Abort + AllocGlobal), text: &str) {
+/// Each kernel writes what stands for a text of these parts character by character, in each mode.
+fn is_right(rt: &(impl Abort + AllocGlobal), parts: &[(usize, &str)]) {
     for mode in MODES {
-        is_right_in(rt, mode, text);
+        is_right_in(rt, mode, parts);
     }
 }
 
 /// Each kernel writes it in one mode, into a target of exactly the bound and into a longer one.
-fn is_right_in(rt: &(impl Abort + AllocGlobal), mode: Mode, text: &str) {
-    let wanted = plain(rt, mode, text);
+fn is_right_in(rt: &(impl Abort + AllocGlobal), mode: Mode, parts: &[(usize, &str)]) {
+    let text = repeated(rt, parts);
+    let wanted = plain(rt, mode, &text);
     for kernel in KERNELS {
-        is_right_by(rt, kernel, mode, text, 0, wanted.as_bytes());
-        is_right_by(rt, kernel, mode, text, 100, wanted.as_bytes());
+        is_right_by(rt, kernel, mode, &text, 0, wanted.as_bytes());
+        is_right_by(rt, kernel, mode, &text, 100, wanted.as_bytes());
     }
 }
 
 #[test]
 fn letters_or_quotes_of_each_length(rt: HostRuntime) {
     for len in 0..=257 {
-        is_right(&rt, &repeated(&rt, &[(len, "a")]));
-        is_right(&rt, &repeated(&rt, &[(len, "\"")]));
+        is_right(&rt, &[(len, "a")]);
+        is_right(&rt, &[(len, "\"")]);
     }
 }
 
@@ -37,7 +38,7 @@ fn letters_or_quotes_of_each_length(rt: HostRuntime) {
 fn is_right_with(rt: &(impl Abort + AllocGlobal), mode: Mode, part: &str) {
     for len in LENGTHS {
         for place in 0..=len {
-            is_right_in(rt, mode, &in_letters(rt, place, part, len - place));
+            is_right_in(rt, mode, &[(place, "a"), (1, part), (len - place, "a")]);
         }
     }
 }
@@ -51,16 +52,22 @@ fn a_part_at_each_place(rt: HostRuntime) {
     is_right_with(&rt, Mode::Script, "\u{2028}");
 }
 
+/// Each kernel writes so many quotes that begin near the end of the width, in letters of three widths.
+fn is_right_with_run(rt: &(impl Abort + AllocGlobal), width: usize, count: usize) {
+    for place in width.saturating_sub(1)..width.saturating_add(2) {
+        let letters = width.saturating_mul(3).saturating_sub(place);
+        let after = letters.saturating_sub(count);
+        is_right(rt, &[(place, "a"), (count, "\""), (after, "a")]);
+    }
+}
+
 #[test]
 fn runs_across_each_width(rt: HostRuntime) {
     for width in WIDTHS {
-        for count in [1, 2, 3, width] {
-            for place in [width - 1, width, width + 1] {
-                let after = (3 * width).saturating_sub(place).saturating_sub(count);
-                let parts = [(place, "a"), (count, "\""), (after, "a")];
-                is_right(&rt, &repeated(&rt, &parts));
-            }
-        }
+        is_right_with_run(&rt, width, 1);
+        is_right_with_run(&rt, width, 2);
+        is_right_with_run(&rt, width, 3);
+        is_right_with_run(&rt, width, width);
     }
 }
 
@@ -69,7 +76,7 @@ fn runs_across_each_width(rt: HostRuntime) {
 #[test]
 fn a_quote_before_the_rest(rt: HostRuntime) {
     for kernel in KERNELS {
-        is_right(&rt, &repeated(&rt, &[(lanes(kernel), "a"), (1, "\"a\"b")]));
+        is_right(&rt, &[(lanes(kernel), "a"), (1, "\"a\"b")]);
     }
 }
 
@@ -102,26 +109,25 @@ fn byte_loop_behind_kernel(rt: HostRuntime) {
 fn is_right_with_many(rt: &(impl Abort + AllocGlobal), width: usize, part: &str) {
     let count = width.checked_div(part.len()).unwrap_or(0).saturating_add(1);
     for before in 0..3 {
-        is_right(
-            rt,
-            &repeated(rt, &[(before, "a"), (count, part), (1, "a\"a")]),
-        );
+        is_right(rt, &[(before, "a"), (count, part), (1, "a\"a")]);
     }
 }
 
-// Escapes in each share of a vector's bytes, with what begins with e2 among them and across the borders.
+/// Escapes in each share of a vector's bytes, with what begins with e2 among them and across the borders.
+const SHARES: [&str; 7] = [
+    "\"a",
+    "\"aaaa",
+    "\"aaaaa",
+    "\"aaaaaa",
+    "\"\u{2028}",
+    "\u{2029}\u{2026}<",
+    "\"\u{20ac}\n",
+];
+
 #[test]
 fn many_escapes_in_each_width(rt: HostRuntime) {
     for width in WIDTHS {
-        for part in [
-            "\"a",
-            "\"aaaa",
-            "\"aaaaa",
-            "\"aaaaaa",
-            "\"\u{2028}",
-            "\u{2029}\u{2026}<",
-            "\"\u{20ac}\n",
-        ] {
+        for part in SHARES {
             is_right_with_many(&rt, width, part);
         }
     }
@@ -132,24 +138,25 @@ fn many_escapes_in_each_width(rt: HostRuntime) {
 #[test]
 fn letters_after_many_escapes(rt: HostRuntime) {
     for width in WIDTHS {
-        for before in [0, 64] {
-            for after in 9..16 {
-                let parts = [(before, "a"), (width - 8, "\""), (after, "a")];
-                is_right(&rt, &repeated(&rt, &parts));
-            }
+        for after in 9..16 {
+            is_right(&rt, &[(width - 8, "\""), (after, "a")]);
+            is_right(&rt, &[(64, "a"), (width - 8, "\""), (after, "a")]);
         }
     }
+}
+
+/// Each kernel writes the part between so many escapes, in script mode.
+fn is_right_in_markup(rt: &(impl Abort + AllocGlobal), before: usize, part: &str, after: usize) {
+    is_right_in(rt, Mode::Script, &[(before, "<"), (1, part), (after, "<")]);
 }
 
 // Many escapes are written a block at a time where no separator may begin in it: so one at each place of such
 // a text, and a character that begins as it does.
 #[test]
 fn a_separator_at_each_place_of_many_escapes(rt: HostRuntime) {
-    for part in ["\u{2028}", "\u{2026}"] {
-        for place in 0..=130 {
-            let text = repeated(&rt, &[(place, "<"), (1, part), (130 - place, "<")]);
-            is_right_in(&rt, Mode::Script, &text);
-        }
+    for place in 0..=130 {
+        is_right_in_markup(&rt, place, "\u{2028}", 130 - place);
+        is_right_in_markup(&rt, place, "\u{2026}", 130 - place);
     }
 }
 
@@ -157,7 +164,17 @@ fn a_separator_at_each_place_of_many_escapes(rt: HostRuntime) {
 #[test]
 fn an_ellipsis_and_letters_of_each_length(rt: HostRuntime) {
     for len in 0..=257 {
-        is_right_in(&rt, Mode::Script, &in_letters(&rt, 0, "\u{2026}", len));
+        is_right_in(&rt, Mode::Script, &[(1, "\u{2026}"), (len, "a")]);
+    }
+}
+
+/// How many letters follow a part.
+const AFTER: [usize; 4] = [0, 1, 15, 40];
+
+/// Each kernel writes the part after so many letters, in script mode.
+fn is_right_after(rt: &(impl Abort + AllocGlobal), before: usize, part: &str) {
+    for after in AFTER {
+        is_right_in(rt, Mode::Script, &[(before, "a"), (1, part), (after, "a")]);
     }
 }
 
@@ -165,29 +182,29 @@ fn an_ellipsis_and_letters_of_each_length(rt: HostRuntime) {
 fn is_right_near_each_border(rt: &(impl Abort + AllocGlobal), part: &str) {
     for width in WIDTHS {
         for before in 0..5 {
-            for after in [0, 1, 15, 40] {
-                let text = in_letters(rt, width - before, part, after);
-                is_right_in(rt, Mode::Script, &text);
-            }
+            is_right_after(rt, width - before, part);
         }
     }
 }
 
+/// Characters that begin with e2, and one whose code point is e2.
+const OF_E2: [&str; 11] = [
+    "\u{2000}",
+    "\u{2027}",
+    "\u{202a}",
+    "\u{20ac}",
+    "\u{2fff}",
+    "\u{2029}",
+    "\u{2028}\u{2029}",
+    "\"\u{2028}",
+    "\u{2029}<",
+    "\u{2026}\u{2028}",
+    "\u{e2}\u{80}\u{a8}",
+];
+
 #[test]
 fn characters_of_e2_against_each_border(rt: HostRuntime) {
-    for part in [
-        "\u{2000}",
-        "\u{2027}",
-        "\u{202a}",
-        "\u{20ac}",
-        "\u{2fff}",
-        "\u{2029}",
-        "\u{2028}\u{2029}",
-        "\"\u{2028}",
-        "\u{2029}<",
-        "\u{2026}\u{2028}",
-        "\u{e2}\u{80}\u{a8}",
-    ] {
+    for part in OF_E2 {
         is_right_near_each_border(&rt, part);
     }
 }

@@ -10,6 +10,7 @@ use escape_stream::Mode;
 use escape_text::html::{escape_html_compact, escape_html_cow};
 use escape_text::json::escape_compact;
 use std::borrow::CowStr;
+use std::process::Abort;
 
 static COMPACT: [Answer; 6] = [
     (Mode::Json, "\n", "\"\\n\"", 4),
@@ -54,15 +55,23 @@ fn compact_len(heap: &Heap, text: &str) -> Option<usize> {
     }
 }
 
-// Texts that are written at once, as they are, and in several pieces.
+/// The literal of so many letters before a part and after it has these bytes more than the letters.
+fn has_exact_capacity(rt: &(impl Abort + AllocGlobal), letters: usize, part: &str, more: usize) {
+    let heap = Rationed::new(rt.alloc());
+    let text = in_letters(rt, letters, part, letters);
+    let len = letters.saturating_mul(2).saturating_add(more);
+    assert!(rt; compact_len(&heap, &text) == Some(len), "{len}");
+}
+
+/// How long texts are that are written at once, as they are, and in several pieces.
+const LETTERS: [usize; 6] = [0, 79, 80, 200, 600, 20000];
+
 #[test]
 fn the_capacity_is_the_length(rt: HostRuntime) {
-    let heap = Rationed::new(rt.alloc());
-    for letters in [0, 79, 80, 200, 600, 20000] {
-        for (part, more) in [("", 2), ("\"", 4), ("\x01", 8)] {
-            let text = in_letters(&rt, letters, part, letters);
-            assert!(rt; compact_len(&heap, &text) == Some(2 * letters + more));
-        }
+    for letters in LETTERS {
+        has_exact_capacity(&rt, letters, "", 2);
+        has_exact_capacity(&rt, letters, "\"", 4);
+        has_exact_capacity(&rt, letters, "\x01", 8);
     }
 }
 
@@ -75,10 +84,13 @@ fn is_borrowed(heap: &Heap, text: &str) -> bool {
     }
 }
 
+/// How many parts clean texts have.
+const COUNTS: [usize; 6] = [0, 1, 31, 32, 200, 20000];
+
 #[test]
 fn a_clean_text_is_borrowed_and_asks_for_nothing(rt: HostRuntime) {
     let heap = Rationed::new(rt.alloc());
-    for count in [0, 1, 31, 32, 200, 20000] {
+    for count in COUNTS {
         assert!(rt; is_borrowed(&heap, &repeated(&rt, &[(count, "a\u{2028}")])));
     }
 }

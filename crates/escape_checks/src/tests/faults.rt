@@ -4,54 +4,53 @@ ghost use Rattle.escape_lanes.specs.Mode.{html};
 ghost use Rattle.escape_simd.specs.Output.{plain};
 
 use crate::routes::{KERNELS, MODES};
+use crate::tests::texts::repeated;
 use escape_simd::Kernel;
 use escape_stream::{Mode, PIECE, ToolFault, run};
 use std::alloc::Global;
 use std::io;
 use std::io::{ErrorKind, Read, Write};
 use std::process::Abort;
-use std::test::Fail;
 
-/// What a run returns, and what its output holds after a first byte ff.
-fn escaped<R: Read + Drop>(
-    alloc: Global,
-    mode: Mode,
-    kernel: Kernel,
-    mut input: R,
-) -> Result<(Result<(), ToolFault>, Vec<u8>), Fail> {
-    let mut output = vec![in alloc; 0xff]?;
-    let result = run(alloc, mode, kernel, &mut input, &mut output);
-    Ok((result, output))
+/// Whether a run ends so, where its output holds a byte ff before and these bytes then.
+fn ends_with<R: Read>(
+    rt: &(impl Abort + AllocGlobal),
+    (mode, kernel): (Mode, Kernel),
+    input: &mut R,
+    ended: Result<(), ToolFault>,
+    held: &[u8],
+) -> bool {
+    let mut output = vec![in rt.alloc(); 0xff].expect(rt, "no memory");
+    run(rt.alloc(), mode, kernel, input, &mut output) == ended && output.as_slice() == held
 }
 
+static NOT_UTF8: [&[u8]; 7] = [
+    b"\xc3",
+    b"\xed\xa0\x80",
+    b"\xf4\x90\x80\x80",
+    b"\xc0\xaf",
+    b"\xf0\x9d\x84",
+    b"a\xff",
+    b"a\xe2\x80",
+];
+
 /// A run by each kernel refuses the bytes, and writes nothing.
-fn is_refused(rt: &(impl Abort + AllocGlobal), mode: Mode, bytes: &[u8]) -> Result<(), Fail> {
+fn is_refused(rt: &(impl Abort + AllocGlobal), mode: Mode, bytes: &[u8]) {
+    let refused = Err(ToolFault::NotUtf8);
     for kernel in KERNELS {
-        let (result, output) = escaped(rt.alloc(), mode, kernel, bytes)?;
-        let is_refused = result == Err(ToolFault::NotUtf8)
-            && output.as_slice() == b"\xff".as_slice();
+        let mut input = bytes;
+        let is_refused = ends_with(rt, (mode, kernel), &mut input, refused, b"\xff");
         assert!(rt; is_refused, "{mode:?} {kernel:?} {bytes:?}");
     }
-    Ok(())
 }
 
 #[test]
-fn refuses_what_is_not_utf8(rt: HostRuntime) -> Result<(), Fail> {
-    let rows: [&[u8]; 7] = [
-        b"\xc3",
-        b"\xed\xa0\x80",
-        b"\xf4\x90\x80\x80",
-        b"\xc0\xaf",
-        b"\xf0\x9d\x84",
-        b"a\xff",
-        b"a\xe2\x80",
-    ];
-    for mode in MODES {
-        for bytes in rows {
-            is_refused(&rt, mode, bytes)?;
+fn refuses_what_is_not_utf8(rt: HostRuntime) {
+    for bytes in &NOT_UTF8 {
+        for mode in MODES {
+            is_refused(&rt, mode, bytes);
         }
     }
-    Ok(())
 }
 
 /// Gives its bytes one a call, then one error where it has one, and then the end.
@@ -77,37 +76,44 @@ impl Read for OneByOne<'_> {
     }
 }
 
-/// What a run on the bytes one by one, and then the error, returns, and what its output then holds.
-fn read_one_by_one(
-    alloc: Global,
+/// Whether a run on the bytes one by one, and then the error, ends so, and its output then holds these.
+fn is_read_one_by_one(
+    rt: &(impl Abort + AllocGlobal),
     bytes: &[u8],
     error: Option<ErrorKind>,
-) -> Result<(Result<(), ToolFault>, Vec<u8>), Fail> {
-    escaped(alloc, Mode::Html, Kernel::Avx2, OneByOne { bytes, error })
+    ended: Result<(), ToolFault>,
+    held: &[u8],
+) -> bool {
+    let mut input = OneByOne { bytes, error };
+    ends_with(rt, (Mode::Html, Kernel::Avx2), &mut input, ended, held)
 }
 
 #[test]
-fn reads_one_byte_a_call(rt: HostRuntime) -> Result<(), Fail> {
-    let (result, output) = read_one_by_one(rt.alloc(), b"\xe2\x80\xa6", None)?;
-    assert!(rt; result == Ok(()) && output.as_slice() == b"\xff\xe2\x80\xa6".as_slice());
-    Ok(())
+fn reads_one_byte_a_call(rt: HostRuntime) {
+    let held = b"\xff\xe2\x80\xa6";
+    assert!(rt; is_read_one_by_one(&rt, b"\xe2\x80\xa6", None, Ok(()), held));
+}
+
+const KINDS: [ErrorKind; 3] = [
+    ErrorKind::Other,
+    ErrorKind::Interrupted,
+    ErrorKind::WouldBlock,
+];
+
+/// A run fails at this error after the bytes, and writes nothing.
+fn stops_after(rt: &(impl Abort + AllocGlobal), bytes: &[u8], kind: ErrorKind) {
+    let failed = Err(ToolFault::ReadFailed);
+    let is_failed = is_read_one_by_one(rt, bytes, Some(kind), failed, b"\xff");
+    assert!(rt; is_failed, "{kind:?} {bytes:?}");
 }
 
 #[test]
-fn stops_at_a_failed_read(rt: HostRuntime) -> Result<(), Fail> {
-    for kind in [
-        ErrorKind::Other,
-        ErrorKind::Interrupted,
-        ErrorKind::WouldBlock,
-    ] {
-        for bytes in [b"<a".as_slice(), b"\xff".as_slice(), b"".as_slice()] {
-            let (result, output) = read_one_by_one(rt.alloc(), bytes, Some(kind))?;
-            let is_failed = result == Err(ToolFault::ReadFailed)
-                && output.as_slice() == b"\xff".as_slice();
-            assert!(rt; is_failed, "{kind:?} {bytes:?}");
-        }
+fn stops_at_a_failed_read(rt: HostRuntime) {
+    for kind in KINDS {
+        stops_after(&rt, b"<a", kind);
+        stops_after(&rt, b"\xff", kind);
+        stops_after(&rt, b"", kind);
     }
-    Ok(())
 }
 
 /// Takes at most `step` bytes a call while it has room, and then none. Where it has an error it gives
@@ -162,15 +168,18 @@ fn fails_with(alloc: Global, bytes: &[u8], mut output: Narrow, held: &[u8]) -> b
     result == Err(ToolFault::WriteFailed) && output.held.as_slice() == held
 }
 
+/// The step, the room and the error of a writer, and what it then holds.
+static NARROW: [(usize, usize, Option<ErrorKind>, &[u8]); 4] = [
+    (3, 3, None, b"&lt"),
+    (2, 2, Some(ErrorKind::Other), b"&l"),
+    (9, 0, Some(ErrorKind::Interrupted), b""),
+    (1, 1, Some(ErrorKind::Interrupted), b"&"),
+];
+
 #[test]
 fn fails_at_narrow_writers(rt: HostRuntime) {
-    for (step, room, error, held) in [
-        (3, 3, None, b"&lt".as_slice()),
-        (2, 2, Some(ErrorKind::Other), b"&l".as_slice()),
-        (9, 0, Some(ErrorKind::Interrupted), b"".as_slice()),
-        (1, 1, Some(ErrorKind::Interrupted), b"&".as_slice()),
-    ] {
-        let output = Narrow::new(rt.alloc(), step, room, error);
+    for (step, room, error, held) in &NARROW {
+        let output = Narrow::new(rt.alloc(), *step, *room, *error);
         assert!(rt; fails_with(rt.alloc(), b"<", output, held), "{step} {room}");
     }
 }
@@ -182,15 +191,26 @@ fn a_flush_that_fails(rt: HostRuntime) {
     assert!(rt; fails_with(rt.alloc(), b"<", output, b"&lt;"));
 }
 
-#[test]
-fn a_write_that_fails_in_a_later_piece(rt: HostRuntime) -> Result<(), Fail> {
-    let letters = vec![in rt.alloc(); b'a'; 2 * PIECE]?;
-    for room in [PIECE - 1, PIECE, PIECE + 1, 2 * PIECE - 1] {
-        let output = Narrow::new(rt.alloc(), usize::MAX, room, None);
-        let held = letters.get(..room).expect(&rt, "too few letters");
-        assert!(rt; fails_with(rt.alloc(), &letters, output, held), "{room}");
+/// Whether a run on the letters fails at a writer that has room for so many of them, and leaves it with these.
+fn fails_past(alloc: Global, letters: &[u8], room: usize) -> bool {
+    match letters.get(..room) {
+        Some(held) => {
+            let output = Narrow::new(alloc, usize::MAX, room, None);
+            fails_with(alloc, letters, output, held)
+        }
+        None => false,
     }
-    Ok(())
+}
+
+/// For how many bytes writers of two pieces have room.
+const ROOMS: [usize; 4] = [PIECE - 1, PIECE, PIECE + 1, 2 * PIECE - 1];
+
+#[test]
+fn a_write_that_fails_in_a_later_piece(rt: HostRuntime) {
+    let letters = repeated(&rt, &[(2 * PIECE, "a")]);
+    for room in ROOMS {
+        assert!(rt; fails_past(rt.alloc(), letters.as_bytes(), room), "{room}");
+    }
 }
 
 /// A caller over memory has the exact bytes.
@@ -203,10 +223,15 @@ fn html_of(alloc: Global, bytes: &[u8]) -> Result<Vec<u8>, ToolFault>
     Ok(output)
 }
 
+fn stays_as_it_is(alloc: Global, letters: &[u8]) -> bool {
+    match html_of(alloc, letters) {
+        Ok(output) => output.as_slice() == letters,
+        Err(_) => false,
+    }
+}
+
 #[test]
-fn reads_a_large_input(rt: HostRuntime) -> Result<(), Fail> {
-    let letters = vec![in rt.alloc(); b'a'; 300_000]?;
-    let output = html_of(rt.alloc(), letters.as_slice())?;
-    assert!(rt; output == letters);
-    Ok(())
+fn reads_a_large_input(rt: HostRuntime) {
+    let letters = repeated(&rt, &[(300_000, "a")]);
+    assert!(rt; stays_as_it_is(rt.alloc(), letters.as_bytes()));
 }

@@ -11,7 +11,7 @@ use escape_simd::{Kernel, Refusal};
 use escape_stream::{Mode, ToolFault, run_in};
 use escape_text::html::escape_html_compact;
 use escape_text::json::{escape_compact, escape_script_compact};
-use std::alloc::{AllocError, Global};
+use std::alloc::Global;
 use std::process::Abort;
 
 pub type Heap = Rationed<Global>;
@@ -32,13 +32,10 @@ pub fn vector_of<'a>(
     len: usize,
     spare: usize,
 ) -> Vec<u8, &'a Heap> {
-    filled(heap, len, spare).expect(rt, "no memory")
-}
-
-fn filled(heap: &Heap, len: usize, spare: usize) -> Result<Vec<u8, &Heap>, AllocError> {
-    let mut vector = Vec::with_capacity(heap, len.saturating_add(spare))?;
-    vector.resize(len, 0xff)?;
-    Ok(vector)
+    let capacity = len.saturating_add(spare);
+    let mut vector = Vec::with_capacity(heap, capacity).expect(rt, "no memory");
+    vector.resize(len, 0xff).expect(rt, "no memory");
+    vector
 }
 
 /// Whether these are `len` bytes ff, and then the others.
@@ -130,22 +127,26 @@ fn a_long_text_asks_once_for_the_bound(rt: HostRuntime) {
     asks_once(&rt, (Call::Json, &text, 6 * len + 35, &output), 1, 0);
 }
 
+/// Whether the call appends to one byte, and asks for nothing.
+fn is_nothing_asked(heap: &Heap, row: Row<'_>, dst: &mut Vec<u8, &Heap>) -> bool {
+    heap.ration(0);
+    is_appended(row, dst, 1) && heap.requests().made == 0
+}
+
 /// The call asks for nothing, where there is room for `spare` bytes.
 fn asks_for_nothing(rt: &(impl Abort + AllocGlobal), row: Row<'_>, spare: usize) {
     let heap = Rationed::new(rt.alloc());
     let mut dst = vector_of(rt, &heap, 1, spare);
-    heap.ration(0);
-    let is_appended = is_appended(row, &mut dst, 1);
-    assert!(rt; is_appended && heap.requests().made == 0);
+    assert!(rt; is_nothing_asked(&heap, row, &mut dst));
 }
 
 #[test]
 fn appending_asks_for_nothing_where_there_is_room(rt: HostRuntime) {
     for row in &ROWS {
         let bound = row.2;
-        for spare in [bound, bound.saturating_add(1), bound.saturating_mul(2)] {
-            asks_for_nothing(&rt, *row, spare);
-        }
+        asks_for_nothing(&rt, *row, bound);
+        asks_for_nothing(&rt, *row, bound.saturating_add(1));
+        asks_for_nothing(&rt, *row, bound.saturating_mul(2));
     }
 }
 
@@ -168,58 +169,81 @@ fn appending_often_asks_seldom(rt: HostRuntime) {
     }
 }
 
-/// Whether a list stops after so many texts, since memory for the next is refused, and has these bytes.
-fn is_stopped_after(written: usize, dst: &mut Vec<u8, &Heap>, letters: &str, bytes: &[u8]) -> bool {
-    escape_html_each(&["<", letters], dst) == Err((written, EscapeHtmlError::OutOfMemory))
-        && is_ff_and(dst, 1, bytes)
+/// How a list ends: so many texts were written, and memory for the next was refused.
+type Ended = Result<(), (usize, EscapeHtmlError)>;
+
+/// Whether a list of two texts ends so, and leaves these bytes after a byte ff.
+fn is_list_of(dst: &mut Vec<u8, &Heap>, letters: &str, ended: Ended, bytes: &[u8]) -> bool {
+    escape_html_each(&["<", letters], dst) == ended && is_ff_and(dst, 1, bytes)
 }
 
-fn is_whole_list(dst: &mut Vec<u8, &Heap>, letters: &str) -> bool {
-    escape_html_each(&["<", letters], dst).is_ok()
-        && dst.starts_with(b"\xff&lt;a")
-        && dst.ends_with(letters.as_bytes())
-        && dst.len() == 1 + 4 + 100
+/// A list that is granted so many requests ends so. Returns how many bytes it asked for last.
+fn last_size_of_list(
+    rt: &(impl Abort + AllocGlobal),
+    granted: u64,
+    letters: &str,
+    ended: Ended,
+    bytes: &[u8],
+) -> usize {
+    let heap = Rationed::new(rt.alloc());
+    let mut dst = vector_of(rt, &heap, 1, 0);
+    heap.ration(granted);
+    assert!(rt; is_list_of(&mut dst, letters, ended, bytes), "{granted}");
+    heap.requests().last_size
 }
 
 #[test]
 fn texts_before_a_refusal_stay(rt: HostRuntime) {
     let letters = repeated(&rt, &[(100, "a")]);
-    let heap = Rationed::new(rt.alloc());
-    let mut first = vector_of(&rt, &heap, 1, 0);
-    let mut second = vector_of(&rt, &heap, 1, 0);
-    let mut third = vector_of(&rt, &heap, 1, 0);
-    heap.ration(0);
-    assert!(rt; is_stopped_after(0, &mut first, &letters, b""));
-    heap.ration(1);
-    assert!(rt; is_stopped_after(1, &mut second, &letters, b"&lt;"));
-    heap.ration(2);
-    assert!(rt; is_whole_list(&mut third, &letters));
-    assert!(rt; heap.requests().last_size == 1 + 4 + 632);
+    let output = repeated(&rt, &[(1, "&lt;"), (100, "a")]);
+    let refusal = EscapeHtmlError::OutOfMemory;
+    last_size_of_list(&rt, 0, &letters, Err((0, refusal)), b"");
+    last_size_of_list(&rt, 1, &letters, Err((1, refusal)), b"&lt;");
+    let size = last_size_of_list(&rt, 2, &letters, Ok(()), output.as_bytes());
+    assert!(rt; size == 1 + 4 + 632);
 }
 
-/// What the call of the mode answers: the compact one, or the one that asks for the bound.
+/// What the call of the mode answers that asks for the bound.
+fn bounded<'a>(heap: &'a Heap, mode: Mode, text: &str) -> Result<String<&'a Heap>, Refusal> {
+    Ok(match mode {
+        Mode::Json => escape_in(heap, text)?,
+        Mode::Html => escape_html_in(heap, text)?,
+        Mode::Script => escape_script_in(heap, text)?,
+    })
+}
+
+/// What the compact call of the mode answers.
+fn compact<'a>(heap: &'a Heap, mode: Mode, text: &str) -> Result<String<&'a Heap>, Refusal> {
+    Ok(match mode {
+        Mode::Json => escape_compact(heap, text)?,
+        Mode::Html => escape_html_compact(heap, text)?,
+        Mode::Script => escape_script_compact(heap, text)?,
+    })
+}
+
 fn answer<'a>(
     heap: &'a Heap,
     is_compact: bool,
     mode: Mode,
     text: &str,
 ) -> Result<String<&'a Heap>, Refusal> {
-    Ok(match (mode, is_compact) {
-        (Mode::Json, false) => escape_in(heap, text)?,
-        (Mode::Json, true) => escape_compact(heap, text)?,
-        (Mode::Html, false) => escape_html_in(heap, text)?,
-        (Mode::Html, true) => escape_html_compact(heap, text)?,
-        (Mode::Script, false) => escape_script_in(heap, text)?,
-        (Mode::Script, true) => escape_script_compact(heap, text)?,
-    })
+    if is_compact {
+        compact(heap, mode, text)
+    } else {
+        bounded(heap, mode, text)
+    }
 }
 
 /// Whether the answer is this text, in a string of this capacity.
 fn is_text(answer: Result<String<&Heap>, Refusal>, text: &str, capacity: usize) -> bool {
     match answer {
-        Ok(answer) => answer.as_str() == text && answer.capacity() == capacity,
+        Ok(answer) => is_string(&answer, text, capacity),
         Err(_) => false,
     }
+}
+
+fn is_string(string: &String<&Heap>, text: &str, capacity: usize) -> bool {
+    string.as_str() == text && string.capacity() == capacity
 }
 
 pub fn is_out_of_memory<T: Drop>(outcome: Result<T, Refusal>) -> bool {
@@ -280,15 +304,16 @@ fn is_run_of(
     heap.ration(granted);
     let mut input = b"<".as_slice();
     let ended = run_in(&heap, mode, kernel, &mut input, &mut output);
-    let requests = heap.requests();
-    ended == outcome
-        && is_ff_and(&output, 1, written)
-        && requests.made == made
-        && (made == 1 || requests.last_size == 38)
+    ended == outcome && is_ff_and(&output, 1, written) && is_asked(heap.requests(), made)
+}
+
+/// Whether so many requests were made, the second for what a piece of one byte may become.
+fn is_asked(requests: Requests, made: u64) -> bool {
+    requests.made == made && (made == 1 || requests.last_size == 38)
 }
 
 fn one_byte(rt: &(impl Abort + AllocGlobal)) -> Vec<u8> {
-    vec![in rt.alloc(); 0xff].expect(rt, "no memory")
+    vec![in rt.alloc(); 0xff; 1].expect(rt, "no memory")
 }
 
 fn asks_twice(rt: &(impl Abort + AllocGlobal), mode: Mode, kernel: Kernel, written: &[u8]) {

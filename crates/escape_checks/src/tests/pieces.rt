@@ -12,30 +12,37 @@ use std::process::Abort;
 /// What lies across a border: a run of escapes, a character, separators.
 const ACROSS: [&str; 3] = ["\"\\\n<&>", "\u{1d11e}", "\u{2028}\u{2029}"];
 
-/// The calls that allocate append and answer what stands for the text character by character, in each mode.
-fn calls_are_right(rt: &(impl Abort + AllocGlobal), text: &str) {
+/// The calls that allocate append and answer what stands for a text of these parts character by character, in
+/// each mode.
+fn calls_are_right(rt: &(impl Abort + AllocGlobal), parts: &[(usize, &str)]) {
+    let text = repeated(rt, parts);
     for mode in MODES {
-        calls_write(rt, mode, text, &plain(rt, mode, text));
+        calls_write(rt, mode, &text, &plain(rt, mode, &text));
     }
 }
 
-/// A text of `len` bytes: letters alone, letters after a quotation mark, or quotation marks alone.
-fn text_of(rt: &(impl Abort + AllocGlobal), quotes: usize, len: usize) -> String {
+/// The parts of a text of `len` bytes: letters alone, letters after a quotation mark, or quotation marks alone.
+fn parts_of(quotes: usize, len: usize) -> [(usize, &'static str); 2] {
     let quotes = quotes.min(len);
-    repeated(rt, &[(quotes, "\""), (len - quotes, "a")])
+    [(quotes, "\""), (len - quotes, "a")]
 }
 
 /// How many quotation marks the texts begin with.
 const QUOTES: [usize; 3] = [0, 1, usize::MAX];
 
+/// The calls write what stands for a text of `len` bytes of each kind.
+fn calls_are_right_of_len(rt: &(impl Abort + AllocGlobal), len: usize) {
+    for quotes in QUOTES {
+        calls_are_right(rt, &parts_of(quotes, len));
+    }
+}
+
 #[test]
 fn calls_on_texts_as_long_as_pieces(rt: HostRuntime) {
-    for end in [escape_simd::PIECE, 2 * escape_simd::PIECE] {
-        for len in [end - 1, end, end + 1] {
-            for quotes in QUOTES {
-                calls_are_right(&rt, &text_of(&rt, quotes, len));
-            }
-        }
+    let piece = escape_simd::PIECE;
+    for more in 0..3 {
+        calls_are_right_of_len(&rt, piece - 1 + more);
+        calls_are_right_of_len(&rt, 2 * piece - 1 + more);
     }
 }
 
@@ -53,9 +60,9 @@ const ENDS: [usize; 6] = [
 #[test]
 fn targets_on_texts_as_long_as_pieces(rt: HostRuntime) {
     for end in ENDS {
-        for len in [end - 1, end, end + 1] {
+        for len in end - 1..end + 2 {
             for quotes in QUOTES {
-                targets_are_right(&rt, &text_of(&rt, quotes, len));
+                targets_are_right(&rt, &parts_of(quotes, len));
             }
         }
     }
@@ -66,26 +73,35 @@ fn targets_across_borders(rt: HostRuntime) {
     for end in ENDS {
         for across in ACROSS {
             for first in end - 6..end + 3 {
-                let parts = [(first, "a"), (1, across), (600, "b")];
-                targets_are_right(&rt, &repeated(&rt, &parts));
+                targets_are_right(&rt, &[(first, "a"), (1, across), (600, "b")]);
             }
         }
     }
 }
 
+/// How long the texts of runs are.
+const RUN_LENGTHS: [usize; 4] = [
+    escape_stream::PIECE - 1,
+    escape_stream::PIECE,
+    escape_stream::PIECE + 1,
+    2 * escape_stream::PIECE,
+];
+
 #[test]
 fn runs_on_texts_as_long_as_pieces(rt: HostRuntime) {
-    let piece = escape_stream::PIECE;
-    for len in [piece - 1, piece, piece + 1, 2 * piece] {
+    for len in RUN_LENGTHS {
         for quotes in QUOTES {
-            runs_are_right(&rt, &text_of(&rt, quotes, len));
+            runs_are_right(&rt, &parts_of(quotes, len));
         }
     }
 }
 
+/// How many letters follow what is across, and a quotation mark after that.
+const MORE: [usize; 3] = [0, 40, 300];
+
 /// The calls write what stands for a text with a clean front that ends near here.
 fn calls_are_right_after(rt: &(impl Abort + AllocGlobal), front: usize, across: &str) {
-    for more in [0, 40, 300] {
+    for more in MORE {
         let parts = [
             (front, "a"),
             (1, across),
@@ -93,16 +109,18 @@ fn calls_are_right_after(rt: &(impl Abort + AllocGlobal), front: usize, across: 
             (1, "\""),
             (more, "c"),
         ];
-        calls_are_right(rt, &repeated(rt, &parts));
+        calls_are_right(rt, &parts);
     }
 }
 
-// The calls append clean chunks as they are, up to the first that has an escape. A clean front can end after a
-// vector, two, a chunk, these after each other, and so many chunks.
+/// Where a clean front can end: after a vector, two, a chunk, these after each other, and so many chunks.
+const FRONT_ENDS: [usize; 6] = [32, 64, 128, 160, 256, 512];
+
+// The calls append clean chunks as they are, up to the first that has an escape.
 #[test]
 fn calls_after_clean_fronts(rt: HostRuntime) {
     for across in ACROSS {
-        for end in [32, 64, 128, 160, 256, 512] {
+        for end in FRONT_ENDS {
             for front in end - 7..end + 2 {
                 calls_are_right_after(&rt, front, across);
             }
@@ -121,7 +139,7 @@ fn calls_are_right_across(rt: &(impl Abort + AllocGlobal), front: usize, end: us
             (1, across),
             (40, "b"),
         ];
-        calls_are_right(rt, &repeated(rt, &parts));
+        calls_are_right(rt, &parts);
     }
 }
 
@@ -139,8 +157,7 @@ fn calls_across_borders(rt: HostRuntime) {
 fn runs_across_borders(rt: HostRuntime) {
     for across in ACROSS {
         for first in escape_stream::PIECE - 6..escape_stream::PIECE + 3 {
-            let parts = [(first, "a"), (1, across), (40, "b")];
-            runs_are_right(&rt, &repeated(&rt, &parts));
+            runs_are_right(&rt, &[(first, "a"), (1, across), (40, "b")]);
         }
     }
 }

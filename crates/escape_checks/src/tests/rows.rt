@@ -9,8 +9,8 @@ use escape_simd::simd::util::escape_unchecked;
 use escape_stream::Mode;
 use std::process::Abort;
 
-/// Parts of a text, or of what stands for it, each with how often it comes.
-type Parts = &'static [(usize, &'static str)];
+/// A text, and what stands for it.
+type Row = (&'static str, &'static str);
 
 /// Each character below U+0080.
 const ASCII: &str = "\
@@ -35,77 +35,31 @@ const ASCII_MARKUP_FREE: &str = "\
     jklmnopqrstuvwxyz{|}~\x7f";
 
 /// What RFC 8259 has a string literal of the text be, where it is the shortest with lower-case digits.
-static LITERALS: [(Parts, Parts); 21] = [
-    (&[(1, ASCII)], &[(1, ASCII_LITERAL)]),
-    (&[], &[(2, "\"")]),
-    (&[(1, "\n\x01\x7f")], &[(1, "\"\\n\\u0001\x7f\"")]),
-    (&[(1, "\x0b")], &[(1, "\"\\u000b\"")]),
-    (&[(1, "\\")], &[(1, "\"\\\\\"")]),
-    (&[(1, "\u{1d11e}")], &[(1, "\"\u{1d11e}\"")]),
-    (&[(1, "a\"")], &[(1, "\"a\\\"\"")]),
-    (&[(1, "\"a\\\"\"")], &[(1, "\"\\\"a\\\\\\\"\\\"\"")]),
-    (&[(1, "\x1f")], &[(1, "\"\\u001f\"")]),
-    (&[(1, "a/b\u{80}")], &[(1, "\"a/b\u{80}\"")]),
-    (&[(1, "\t")], &[(1, "\"\\t\"")]),
-    (&[(1, "\x08\x0c\r")], &[(1, "\"\\b\\f\\r\"")]),
-    (
-        &[(31, "a"), (1, "\"\"b")],
-        &[(1, "\""), (31, "a"), (1, "\\\"\\\"b\"")],
-    ),
-    (
-        &[(16, "a"), (1, "\"a\"b")],
-        &[(1, "\""), (16, "a"), (1, "\\\"a\\\"b\"")],
-    ),
-    (
-        &[(32, "a"), (1, "\"a\"b")],
-        &[(1, "\""), (32, "a"), (1, "\\\"a\\\"b\"")],
-    ),
-    (
-        &[(64, "a"), (1, "\"a\"b")],
-        &[(1, "\""), (64, "a"), (1, "\\\"a\\\"b\"")],
-    ),
-    (&[(64, "a")], &[(1, "\""), (64, "a"), (1, "\"")]),
-    (&[(256, "\"")], &[(1, "\""), (256, "\\\""), (1, "\"")]),
-    (
-        &[(63, "a"), (1, "\\"), (64, "a")],
-        &[(1, "\""), (63, "a"), (1, "\\\\"), (64, "a"), (1, "\"")],
-    ),
-    (
-        &[(40, "a"), (1, "\""), (23, "a")],
-        &[(1, "\""), (40, "a"), (1, "\\\""), (23, "a"), (1, "\"")],
-    ),
-    (&[(64, "\x01")], &[(1, "\""), (64, "\\u0001"), (1, "\"")]),
+static LITERALS: [Row; 12] = [
+    (ASCII, ASCII_LITERAL),
+    ("", "\"\""),
+    ("\n\x01\x7f", "\"\\n\\u0001\x7f\""),
+    ("\x0b", "\"\\u000b\""),
+    ("\\", "\"\\\\\""),
+    ("\u{1d11e}", "\"\u{1d11e}\""),
+    ("a\"", "\"a\\\"\""),
+    ("\"a\\\"\"", "\"\\\"a\\\\\\\"\\\"\""),
+    ("\x1f", "\"\\u001f\""),
+    ("a/b\u{80}", "\"a/b\u{80}\""),
+    ("\t", "\"\\t\""),
+    ("\x08\x0c\r", "\"\\b\\f\\r\""),
 ];
 
 /// What stands for the text in HTML.
-static MARKUP_FREE: [(Parts, Parts); 14] = [
-    (&[(1, ASCII)], &[(1, ASCII_MARKUP_FREE)]),
-    (&[], &[]),
-    (
-        &[(1, "<a href='/x'>")],
-        &[(1, "&lt;a href=&#x27;&#x2f;x&#x27;&gt;")],
-    ),
-    (&[(1, "&amp;")], &[(1, "&amp;amp;")]),
-    (&[(1, "<")], &[(1, "&lt;")]),
-    (&[(1, "\"\n\u{80}")], &[(1, "&quot;\n\u{80}")]),
+static MARKUP_FREE: [Row; 7] = [
+    (ASCII, ASCII_MARKUP_FREE),
+    ("", ""),
+    ("<a href='/x'>", "&lt;a href=&#x27;&#x2f;x&#x27;&gt;"),
+    ("&amp;", "&amp;amp;"),
+    ("<", "&lt;"),
+    ("\"\n\u{80}", "&quot;\n\u{80}"),
     // A byte order mark stays.
-    (&[(1, "\u{feff}\"a")], &[(1, "\u{feff}&quot;a")]),
-    (&[(16, "<a")], &[(16, "&lt;a")]),
-    (&[(33, "<")], &[(33, "&lt;")]),
-    (&[(6, "\u{20ac}")], &[(6, "\u{20ac}")]),
-    (
-        &[(15, "a"), (1, "&\u{20ac}")],
-        &[(15, "a"), (1, "&amp;\u{20ac}")],
-    ),
-    (
-        &[(50, "a"), (1, ">"), (13, "a")],
-        &[(50, "a"), (1, "&gt;"), (13, "a")],
-    ),
-    (
-        &[(1, "/"), (126, "a"), (1, "/")],
-        &[(1, "&#x2f;"), (126, "a"), (1, "&#x2f;")],
-    ),
-    (&[(128, "a"), (1, "'")], &[(128, "a"), (1, "&#x27;")]),
+    ("\u{feff}\"a", "\u{feff}&quot;a"),
 ];
 
 /// Its script literal.
@@ -117,37 +71,20 @@ const ASCII_SCRIPT_LITERAL: &str = "\
     lmnopqrstuvwxyz{|}~\x7f\"";
 
 /// The shortest literal with lower-case digits that is safe inside a script element.
-static SCRIPT_LITERALS: [(Parts, Parts); 15] = [
-    (&[(1, ASCII)], &[(1, ASCII_SCRIPT_LITERAL)]),
-    (&[], &[(2, "\"")]),
+static SCRIPT_LITERALS: [Row; 10] = [
+    (ASCII, ASCII_SCRIPT_LITERAL),
+    ("", "\"\""),
     (
-        &[(1, "</script>&\u{2028}")],
-        &[(1, "\"\\u003c/script\\u003e\\u0026\\u2028\"")],
+        "</script>&\u{2028}",
+        "\"\\u003c/script\\u003e\\u0026\\u2028\"",
     ),
-    (&[(1, "\u{2026}")], &[(1, "\"\u{2026}\"")]),
-    (
-        &[(15, "a"), (1, "\u{2029}")],
-        &[(1, "\""), (15, "a"), (1, "\\u2029\"")],
-    ),
-    (&[(1, "a/b")], &[(1, "\"a/b\"")]),
-    (&[(1, "\n<")], &[(1, "\"\\n\\u003c\"")]),
-    (&[(1, "\u{20ac}")], &[(1, "\"\u{20ac}\"")]),
-    (&[(1, "\u{2028}\u{2029}")], &[(1, "\"\\u2028\\u2029\"")]),
-    (&[(1, "\u{2026}\u{2028}")], &[(1, "\"\u{2026}\\u2028\"")]),
-    (
-        &[(14, "a"), (1, "\u{2028}")],
-        &[(1, "\""), (14, "a"), (1, "\\u2028\"")],
-    ),
-    (
-        &[(31, "a"), (1, "\u{2028}")],
-        &[(1, "\""), (31, "a"), (1, "\\u2028\"")],
-    ),
-    (
-        &[(63, "a"), (1, "\u{2029}")],
-        &[(1, "\""), (63, "a"), (1, "\\u2029\"")],
-    ),
-    (&[(64, "<")], &[(1, "\""), (64, "\\u003c"), (1, "\"")]),
-    (&[(1, "&")], &[(1, "\"\\u0026\"")]),
+    ("\u{2026}", "\"\u{2026}\""),
+    ("a/b", "\"a/b\""),
+    ("\n<", "\"\\n\\u003c\""),
+    ("\u{20ac}", "\"\u{20ac}\""),
+    ("\u{2028}\u{2029}", "\"\\u2028\\u2029\""),
+    ("\u{2026}\u{2028}", "\"\u{2026}\\u2028\""),
+    ("&", "\"\\u0026\""),
 ];
 
 /// All that writes in this mode writes the output for the text.
@@ -169,9 +106,9 @@ fn is_none(rt: &impl Abort, writer: Option<Writer>, mode: Mode, text: &str) {
     }
 }
 
-fn all_write_rows(rt: &(impl Abort + AllocGlobal), mode: Mode, rows: &[(Parts, Parts)]) {
+fn all_write_rows(rt: &(impl Abort + AllocGlobal), mode: Mode, rows: &[Row]) {
     for (text, output) in rows {
-        all_write(rt, mode, &repeated(rt, text), &repeated(rt, output));
+        all_write(rt, mode, text, output);
     }
 }
 
@@ -188,6 +125,120 @@ fn script_literals(rt: HostRuntime) {
 #[test]
 fn markup_free(rt: HostRuntime) {
     all_write_rows(&rt, Mode::Html, &MARKUP_FREE);
+}
+
+/// All that writes in this mode writes the output of parts for the text of parts, each as often as its number says.
+fn all_write_parts(
+    rt: &(impl Abort + AllocGlobal),
+    mode: Mode,
+    text: &[(usize, &str)],
+    output: &[(usize, &str)],
+) {
+    all_write(rt, mode, &repeated(rt, text), &repeated(rt, output));
+}
+
+/// All that writes a literal in this mode writes so many letters, and then `end` for the part.
+fn all_write_after(
+    rt: &(impl Abort + AllocGlobal),
+    mode: Mode,
+    letters: usize,
+    part: &str,
+    end: &str,
+) {
+    all_write_parts(
+        rt,
+        mode,
+        &[(letters, "a"), (1, part)],
+        &[(1, "\""), (letters, "a"), (1, end)],
+    );
+}
+
+#[test]
+fn literals_after_letters(rt: HostRuntime) {
+    all_write_after(&rt, Mode::Json, 31, "\"\"b", "\\\"\\\"b\"");
+    all_write_after(&rt, Mode::Json, 16, "\"a\"b", "\\\"a\\\"b\"");
+    all_write_after(&rt, Mode::Json, 32, "\"a\"b", "\\\"a\\\"b\"");
+    all_write_after(&rt, Mode::Json, 64, "\"a\"b", "\\\"a\\\"b\"");
+    all_write_after(&rt, Mode::Json, 64, "", "\"");
+    all_write_after(&rt, Mode::Script, 14, "\u{2028}", "\\u2028\"");
+    all_write_after(&rt, Mode::Script, 15, "\u{2029}", "\\u2029\"");
+    all_write_after(&rt, Mode::Script, 31, "\u{2028}", "\\u2028\"");
+    all_write_after(&rt, Mode::Script, 63, "\u{2029}", "\\u2029\"");
+}
+
+/// All that writes a literal in this mode writes so many of the output for so many of the part.
+fn all_write_many(
+    rt: &(impl Abort + AllocGlobal),
+    mode: Mode,
+    count: usize,
+    part: &str,
+    output: &str,
+) {
+    all_write_parts(
+        rt,
+        mode,
+        &[(count, part)],
+        &[(1, "\""), (count, output), (1, "\"")],
+    );
+}
+
+#[test]
+fn literals_of_many_escapes(rt: HostRuntime) {
+    all_write_many(&rt, Mode::Json, 256, "\"", "\\\"");
+    all_write_many(&rt, Mode::Json, 64, "\x01", "\\u0001");
+    all_write_many(&rt, Mode::Script, 64, "<", "\\u003c");
+}
+
+#[test]
+fn literals_of_an_escape_in_letters(rt: HostRuntime) {
+    all_write_parts(
+        &rt,
+        Mode::Json,
+        &[(63, "a"), (1, "\\"), (64, "a")],
+        &[(1, "\""), (63, "a"), (1, "\\\\"), (64, "a"), (1, "\"")],
+    );
+    all_write_parts(
+        &rt,
+        Mode::Json,
+        &[(40, "a"), (1, "\""), (23, "a")],
+        &[(1, "\""), (40, "a"), (1, "\\\""), (23, "a"), (1, "\"")],
+    );
+}
+
+/// All that writes HTML writes the output of parts for the text of parts.
+fn all_write_html(
+    rt: &(impl Abort + AllocGlobal),
+    text: &[(usize, &str)],
+    output: &[(usize, &str)],
+) {
+    all_write_parts(rt, Mode::Html, text, output);
+}
+
+#[test]
+fn markup_free_of_many_parts(rt: HostRuntime) {
+    all_write_html(&rt, &[(16, "<a")], &[(16, "&lt;a")]);
+    all_write_html(&rt, &[(33, "<")], &[(33, "&lt;")]);
+    all_write_html(&rt, &[(6, "\u{20ac}")], &[(6, "\u{20ac}")]);
+}
+
+#[test]
+fn markup_free_with_letters(rt: HostRuntime) {
+    all_write_html(
+        &rt,
+        &[(15, "a"), (1, "&\u{20ac}")],
+        &[(15, "a"), (1, "&amp;\u{20ac}")],
+    );
+    all_write_html(
+        &rt,
+        &[(50, "a"), (1, ">"), (13, "a")],
+        &[(50, "a"), (1, "&gt;"), (13, "a")],
+    );
+    all_write_html(
+        &rt,
+        &[(1, "/"), (126, "a"), (1, "/")],
+        &[(1, "&#x2f;"), (126, "a"), (1, "&#x2f;")],
+    );
+    all_write_html(&rt, &[(128, "a"), (1, "'")], &[(128, "a"), (1, "&#x27;")]);
 }
 
 /// Whether the texts are appended as these.

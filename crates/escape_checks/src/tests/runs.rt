@@ -58,14 +58,18 @@ fn always_out_of_memory(rt: HostRuntime) {
     calls_write(&rt, Mode::Script, "<\n", "\"\\u003c\\n\"");
 }
 
-/// A run by each kernel writes what stands for the text, in each mode.
-pub fn runs_are_right(rt: &(impl Abort + AllocGlobal), text: &str) {
+/// A run by each kernel writes what stands for a text of these parts, in each mode.
+pub fn runs_are_right(rt: &(impl Abort + AllocGlobal), parts: &[(usize, &str)]) {
+    let text = repeated(rt, parts);
     for mode in MODES {
-        let wanted = plain(rt, mode, text);
-        for kernel in KERNELS {
-            let is_right = runs_write(rt.alloc(), kernel, mode, text, wanted.as_bytes());
-            holds(rt, is_right, mode, text);
-        }
+        each_run_writes(rt, mode, &text, &plain(rt, mode, &text));
+    }
+}
+
+fn each_run_writes(rt: &(impl Abort + AllocGlobal), mode: Mode, text: &str, wanted: &str) {
+    for kernel in KERNELS {
+        let is_right = runs_write(rt.alloc(), kernel, mode, text, wanted.as_bytes());
+        holds(rt, is_right, mode, text);
     }
 }
 
@@ -73,10 +77,10 @@ pub fn runs_are_right(rt: &(impl Abort + AllocGlobal), text: &str) {
 // run is to end well.
 #[test]
 fn run_always_fails(rt: HostRuntime) {
-    runs_are_right(&rt, "");
-    runs_are_right(&rt, "<");
-    runs_are_right(&rt, "</script>&\u{2028}");
-    runs_are_right(&rt, &repeated(&rt, &[(3000, "a<\u{2028}\"b")]));
+    runs_are_right(&rt, &[]);
+    runs_are_right(&rt, &[(1, "<")]);
+    runs_are_right(&rt, &[(1, "</script>&\u{2028}")]);
+    runs_are_right(&rt, &[(3000, "a<\u{2028}\"b")]);
 }
 
 /// Whether a run writes this, at most `step` bytes a call, and flushes once, after the last write.
@@ -89,10 +93,13 @@ fn flushes_once(alloc: Global, mode: Mode, text: &str, wanted: &str, step: usize
         && output.flushed == wanted.len()
 }
 
+/// How many bytes writers take a call.
+const STEPS: [usize; 3] = [1, 5, usize::MAX];
+
 fn runs_flush_once(rt: &(impl Abort + AllocGlobal), text: &str) {
     for mode in MODES {
         let wanted = plain(rt, mode, text);
-        for step in [1, 5, usize::MAX] {
+        for step in STEPS {
             let is_right = flushes_once(rt.alloc(), mode, text, &wanted, step);
             holds(rt, is_right, mode, text);
         }

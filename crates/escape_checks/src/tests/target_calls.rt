@@ -1,14 +1,15 @@
 //! The calls of a target, at each width.
 ghost use Rattle.std.specs.Prelude.{◌≡◌, ◌≤◌};
 
+use crate::tests::whole_targets::{UNTOUCHED, is_written};
 use escape_lanes::simd::target::{Target, Ticks};
 use escape_lanes::simd::{Simd, avx2, avx512, neon, sse2, v128};
 use std::process::Abort;
 
 #[test]
 fn counts_take_no_bytes(rt: HostRuntime) {
-    assert_eq!(rt; size_of::<Ticks>(), 0);
-    assert_eq!(rt; size_of::<Target<'_, 16>>(), size_of::<&mut [u8]>());
+    assert!(rt; size_of::<Ticks>() == 0);
+    assert!(rt; size_of::<Target<'_, 16>>() == size_of::<&mut [u8]>());
 }
 
 /// Bytes that all differ, as many as the widest vector has.
@@ -52,17 +53,14 @@ fn each_call_at_each_width(rt: HostRuntime) {
     assert!(rt; written_to::<64, avx512::Simd512u>() == expected(64));
 }
 
-/// Whether exactly the first `count` lanes are written, between two bytes that stay.
+/// Whether exactly the first `count` lanes are written, between bytes that stay.
 fn writes_front<const N: usize, S: Simd>(src: &[u8; 64], count: usize) -> bool
     requires lanes { S.LANES ≡ N }
     requires front { count ≤ N }
 {
-    let mut bytes = [0xee; 66];
-    let mut target = Target::<N>::new(&mut bytes);
-    target.store_front(1, &S::loadu(src), count);
-    let mut expected = [0xee; 66];
-    expected[1..1 + count].copy_from_slice(&src[..count]);
-    bytes == expected
+    let mut bytes = [UNTOUCHED; 66];
+    Target::<N>::new(&mut bytes).store_front(1, &S::loadu(src), count);
+    bytes[0] == UNTOUCHED && is_written(&bytes[1..], count, count, &src[..count])
 }
 
 fn writes_each_front<const N: usize, S: Simd>(rt: &impl Abort)

@@ -66,22 +66,28 @@ fn display_is(alloc: Global, mode: Mode, text: &str, wanted: &str) -> bool {
     }
 }
 
-/// The calls of each mode hand on what stands for the text character by character: to a string, a writer and a
-/// formatter.
-pub fn targets_are_right(rt: &(impl Abort + AllocGlobal), text: &str) {
+/// The calls of each mode hand on what stands for a text of these parts character by character: to a string, a
+/// writer and a formatter.
+pub fn targets_are_right(rt: &(impl Abort + AllocGlobal), parts: &[(usize, &str)]) {
+    let text = repeated(rt, parts);
     for mode in MODES {
-        let wanted = plain(rt, mode, text);
-        holds(rt, string_is(rt.alloc(), mode, text, &wanted), mode, text);
-        holds(rt, bytes_are(rt.alloc(), mode, text, &wanted), mode, text);
-        holds(rt, display_is(rt.alloc(), mode, text, &wanted), mode, text);
+        each_target_has(rt, mode, &text, &plain(rt, mode, &text));
     }
 }
 
+fn each_target_has(rt: &(impl Abort + AllocGlobal), mode: Mode, text: &str, wanted: &str) {
+    holds(rt, string_is(rt.alloc(), mode, text, wanted), mode, text);
+    holds(rt, bytes_are(rt.alloc(), mode, text, wanted), mode, text);
+    holds(rt, display_is(rt.alloc(), mode, text, wanted), mode, text);
+}
+
+const PARTS: [&str; 3] = ["\u{2028}<", "aé\"", "\u{1}"];
+
 #[test]
 fn each_target_has_the_plain_escaping(rt: HostRuntime) {
-    for part in ["\u{2028}<", "aé\"", "\u{1}"] {
+    for part in PARTS {
         for count in LENGTHS {
-            targets_are_right(&rt, &repeated(&rt, &[(1, "a"), (count, part)]));
+            targets_are_right(&rt, &[(1, "a"), (count, part)]);
         }
     }
 }

@@ -20,11 +20,16 @@ pub fn repeated(rt: &(impl Abort + AllocGlobal), parts: &[(usize, &str)]) -> Str
 fn joined(alloc: Global, parts: &[(usize, &str)]) -> Result<String, AllocError> {
     let mut text = String::new(alloc);
     for (count, part) in parts {
-        for _ in 0..*count {
-            text.push_str(part)?;
-        }
+        push_often(&mut text, *count, part)?;
     }
     Ok(text)
+}
+
+fn push_often(text: &mut String, count: usize, part: &str) -> Result<(), AllocError> {
+    for _ in 0..count {
+        text.push_str(part)?;
+    }
+    Ok(())
 }
 
 /// The part, with so many letters a before it and after it.

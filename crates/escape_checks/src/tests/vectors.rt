@@ -1,6 +1,7 @@
 //! The operations of each vector.
 ghost use Rattle.std.specs.Prelude.{◌<◌, ◌≤◌, length};
 
+use crate::tests::texts::all_are;
 use escape_lanes::simd::{BitMask, LoadLast, Mask, Simd, avx2, avx512, neon, sse2, v128};
 use std::process::Abort;
 
@@ -14,24 +15,37 @@ fn both_of<M: Mask>(a: M, b: M) -> M::BitMask {
     (a & b).bitmask()
 }
 
+fn are_byte<S: Simd<Element = u8>>(v: &S, byte: u8) -> S::Mask {
+    v.eq(&S::splat(byte))
+}
+
+fn first_any<S: Simd<Element = u8>>(v: &S) -> usize {
+    any_of(are_byte(v, 1), are_byte(v, 0xff), are_byte(v, 2)).first_offset()
+}
+
+fn first_high<S: Simd<Element = u8>>(v: &S) -> usize {
+    S::splat(0x80).le(v).bitmask().first_offset()
+}
+
+fn first_both<S: Simd<Element = u8>>(v: &S) -> usize {
+    let bound = S::splat(0x80);
+    both_of(bound.le(v), v.le(&bound)).first_offset()
+}
+
+fn first_zero<S: Simd<Element = u8>>(v: &S) -> usize {
+    are_byte(v, 0).bitmask().first_offset()
+}
+
 /// The first lanes where `src` has one of three bytes, 0x80 or more, exactly 0x80, and 0.
 fn first_lanes<S: Simd<Element = u8>>(src: &[u8]) -> [usize; 4]
     requires { S.LANES ≤ length src.now }
 {
     let v = S::loadu(src);
-    let any = any_of(
-        v.eq(&S::splat(1)),
-        v.eq(&S::splat(0xff)),
-        v.eq(&S::splat(2)),
-    );
-    let high = S::splat(0x80).le(&v).bitmask();
-    let both = both_of(S::splat(0x80).le(&v), v.le(&S::splat(0x80)));
-    let none = v.eq(&S::splat(0)).bitmask();
     [
-        any.first_offset(),
-        high.first_offset(),
-        both.first_offset(),
-        none.first_offset(),
+        first_any(&v),
+        first_high(&v),
+        first_both(&v),
+        first_zero(&v),
     ]
 }
 
@@ -41,11 +55,11 @@ fn comparisons_of_unsigned_lanes(rt: HostRuntime) {
     src[2] = 0xff;
     src[5] = 0x80;
     src[7] = 2;
-    assert_eq!(rt; first_lanes::<v128::Simd128u>(&src), [2, 2, 5, 16]);
-    assert_eq!(rt; first_lanes::<sse2::Simd128u>(&src), [2, 2, 5, 16]);
-    assert_eq!(rt; first_lanes::<neon::Simd128u>(&src), [2, 2, 5, 16]);
-    assert_eq!(rt; first_lanes::<avx2::Simd256u>(&src), [2, 2, 5, 32]);
-    assert_eq!(rt; first_lanes::<avx512::Simd512u>(&src), [2, 2, 5, 64]);
+    assert!(rt; first_lanes::<v128::Simd128u>(&src) == [2, 2, 5, 16]);
+    assert!(rt; first_lanes::<sse2::Simd128u>(&src) == [2, 2, 5, 16]);
+    assert!(rt; first_lanes::<neon::Simd128u>(&src) == [2, 2, 5, 16]);
+    assert!(rt; first_lanes::<avx2::Simd256u>(&src) == [2, 2, 5, 32]);
+    assert!(rt; first_lanes::<avx512::Simd512u>(&src) == [2, 2, 5, 64]);
 }
 
 /// Bytes that all differ.
@@ -66,16 +80,20 @@ fn has_last<S: LoadLast>(src: &[u8], count: usize) -> bool
 {
     let mut lanes = [0xee; 64];
     S::load_last(src, count).storeu(&mut lanes);
-    lanes.starts_with(&src[src.len() - count..])
-        && lanes[count..S::LANES].iter().all(|lane| *lane == 0)
+    lanes.starts_with(&src[src.len() - count..]) && all_are(&lanes[count..S::LANES], 0)
+}
+
+/// A vector has the last bytes of a text, of each count.
+fn has_each_last<S: LoadLast>(rt: &impl Abort, text: &[u8]) {
+    for count in 0..S::LANES.min(text.len().saturating_add(1)) {
+        assert!(rt; has_last::<S>(text, count), "{count} of {}", text.len());
+    }
 }
 
 /// A vector has the last bytes of a text, of each length and of each count.
 fn have_last<S: LoadLast>(rt: &impl Abort, text: &[u8; 80]) {
     for len in 0..=80usize {
-        for count in 0..S::LANES.min(len + 1) {
-            assert!(rt; has_last::<S>(&text[..len], count), "{count} of {len}");
-        }
+        has_each_last::<S>(rt, &text[..len]);
     }
 }
 

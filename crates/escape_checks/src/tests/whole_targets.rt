@@ -3,9 +3,7 @@
 use crate::routes::{Way, format, lanes, room};
 use crate::tests::texts::all_are;
 use escape_simd::Kernel;
-use escape_simd::html::EscapeHtmlError;
 use escape_stream::Mode;
-use std::alloc::Global;
 use std::process::Abort;
 
 /// What a target holds before.
@@ -42,20 +40,13 @@ fn whole_target(
     text: &str,
     more: usize,
 ) -> (usize, Vec<u8>) {
-    target_in(rt.alloc(), way, kernel, mode, text, more).expect(rt, "no memory")
-}
-
-fn target_in(
-    alloc: Global,
-    way: Way,
-    kernel: Kernel,
-    mode: Mode,
-    text: &str,
-    more: usize,
-) -> Result<(usize, Vec<u8>), EscapeHtmlError> {
-    let mut target = vec![in alloc; UNTOUCHED; room(mode, text)?.saturating_add(more)]?;
+    let room = room(mode, text).expect(rt, "too large");
+    let mut target = vec![in rt.alloc(); UNTOUCHED; room.saturating_add(more)].expect(
+        rt,
+        "no memory",
+    );
     let count = format(way, kernel, mode, text, &mut target);
-    Ok((count, target))
+    (count, target)
 }
 
 /// Whether the first `count` bytes are the output, and none from `end` on was written.

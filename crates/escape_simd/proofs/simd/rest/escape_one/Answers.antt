@@ -12,6 +12,8 @@ returns g c =
 pub escape_by_mask-requires : goal.escape_by_mask-requires
 escape_by_mask-requires g c =
     let text : List ℕ = c.args.text.now in let n : ℕ = g.row.N in let r = c.requires in
-    let is = c.as_flattened.ensures.value ∙ c.hold-held.ensures ∙ held-one text (g.V.Vector.lanes c.load_last.result) n (omega (arith, r.few)) c.load_last.ensures in
-    (omega arith, last-vector (mode_numbered g.row.MODE) (reach true n) n text c.as_flattened.result.now 0 (length text) (2 * n - length text) c.args.to (omega arith) (omega arith) is
-    (length (bytes_of c.args.target.now)) (bits_of 64 c.args.flags) (omega (arith, r.few)) (omega (arith, r.few)) r.flagged r.room)
+    let is = c.as_flattened.ensures.value ∙ c.hold-held.ensures ∙ held-one text (g.V.Vector.lanes c.load_last.result) n (omega (arith, r.few)) c.load_last.ensures in (
+      omega arith,
+      last-vector (mode_numbered g.row.MODE) (reach true n) n text c.as_flattened.result.now 0 (length text) (2 * n - length text) c.args.to (omega arith) (omega arith) is
+          (length (bytes_of c.args.target.now)) (bits_of 64 c.args.flags) (omega (arith, r.few)) (omega (arith, r.few)) r.flagged r.room,
+    )

@@ -15,6 +15,10 @@ returns-in-Err g c =
 pub escape_last-requires : goal.escape_last-requires
 escape_last-requires g c =
     let src : List ℕ = c.args.src.now in let at : ℕ = c.args.at in let r = c.requires in let e = c.in-Err.ensures in let count = length-drop at src in
-    let is : take (length src - at) (drop at src) ≡ drop at src = take_all (length src - at) (drop at src) (omega (arith, count)) in
-    (omega arith, (subst (λ xs. AreLast (mode_numbered g.row.MODE) g.row.N xs (bits_of 64 c.in-Err.flags.first) (bits_of 64 c.in-Err.flags.last)) (sym is) e.flagged,
-    omega (arith, r.room, ap length is, count, ap (λ t. length (bytes_of t)) e.unchanged.target)))
+    let is : take (length src - at) (drop at src) ≡ drop at src = take_all (length src - at) (drop at src) (omega (arith, count)) in (
+      omega arith,
+      (
+        subst (λ xs. AreLast (mode_numbered g.row.MODE) g.row.N xs (bits_of 64 c.in-Err.flags.first) (bits_of 64 c.in-Err.flags.last)) (sym is) e.flagged,
+        omega (arith, r.room, ap length is, count, ap (λ t. length (bytes_of t)) e.unchanged.target),
+      ),
+    )

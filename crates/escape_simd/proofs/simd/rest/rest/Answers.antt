@@ -1,4 +1,4 @@
-use Rattle.escape_simd.proofs.Words.{◌≡◌, ◌+◌, ◌-◌, ◌/◌, ◌∙◌, true, ℕ, List, length, length-drop, take, drop, refl, ap, sym, subst, arith, take_all, bits_of, bytes_of, mode_numbered, AreLast, Escapes, reach}
+use Rattle.escape_simd.proofs.Words.{◌≡◌, ◌+◌, ◌-◌, ◌/◌, ◌∙◌, true, ℕ, List, length, length-drop, take, drop, refl, ap, subst, arith, take_all, mode_numbered, Escapes, reach}
 use Rattle.escape_simd.proofs.Last.{rest-escaped}
 use Rattle.escape_simd.proofs.simd.rest.rest.Goals as goal
 
@@ -11,10 +11,3 @@ returns-in-Err g c =
     let e = subst (λ v. Escapes mode (reach true n) (length text) v v text c.store_last.new.target c.escape_last.new.target 0 (length text) c.args.to c.escape_last.result c.store_last.new.ticks c.escape_last.new.ticks) (ap (λ k. k / n + 1) (ap length is ∙ count)) c.escape_last.ensures in
     let f = subst (λ t. Escapes mode (reach true n) (length text) ((length src - at) / n + 1) ((length src - at) / n + 1) text t c.escape_last.new.target 0 (length text) c.args.to c.escape_last.result c.store_last.new.ticks c.escape_last.new.ticks) asked.target e in
     rest-escaped src text at n c.args.ticks.now is r.inside refl asked.ticks f
-
-pub escape_last-requires : goal.escape_last-requires
-escape_last-requires g c =
-    let src : List ℕ = c.args.src.now in let at : ℕ = c.args.at in let r = c.requires in let e = c.in-Err.ensures in let count = length-drop at src in
-    let is : take (length src - at) (drop at src) ≡ drop at src = take_all (length src - at) (drop at src) (omega (arith, count)) in
-    (omega arith, (subst (λ xs. AreLast (mode_numbered g.row.MODE) g.row.N xs (bits_of 64 c.in-Err.flags.first) (bits_of 64 c.in-Err.flags.last)) (sym is) e.flagged,
-    omega (arith, r.room, ap length is, count, ap (λ t. length (bytes_of t)) e.unchanged.target)))

@@ -19,7 +19,7 @@ use escape_simd::{
 use std::str;
 
 /// What is written.
-#[derive(Clone, Copy, Debug, PartialEq, Eq)]
+#[derive(Clone, Copy)]
 pub(crate) enum Mode {
     Json,
     Html,
@@ -27,7 +27,7 @@ pub(crate) enum Mode {
 }
 
 /// Why nothing is written. Its number is the status, which is 0 where all is.
-#[derive(Clone, Copy, Debug, PartialEq, Eq)]
+#[derive(Clone, Copy)]
 pub(crate) enum Refusal {
     NotUtf8 = 1,
     TooShort = 2,

@@ -1,6 +1,5 @@
 //! The calls that append, beside those that make the output in an array.
 use crate::texts::{CORPORA, Corpus, RANGES, Range, pieces, text_of};
-use crate::timing::{nanos_since, print_ratios};
 use escape_simd::html::escape_html_into;
 use escape_simd::json::escape_into;
 use escape_text::{html, json};
@@ -9,7 +8,7 @@ use std::test::Fail;
 use std::time::{Clock, Instant};
 
 /// How the output is made.
-#[derive(Clone, Copy)]
+#[derive(Debug, Clone, Copy, PartialEq, Eq)]
 enum Call {
     Into,
     IntoString,
@@ -53,24 +52,18 @@ fn each_mode(
     range: Range,
 ) -> Result<(), Fail> {
     let texts = pieces(rt.alloc(), whole, range)?;
+    let (shortest, longest) = (range.shortest, range.longest);
     for is_html in [false, true] {
-        report(rt, is_html, corpus, range, texts.as_slice())?;
+        let mode = if is_html { "Html" } else { "Json" };
+        print!(rt; "{mode} {corpus:<8?} {shortest:>4}-{longest:<4}")?;
+        let best = best_of_rounds(rt, is_html, texts.as_slice())?;
+        for nanos in best {
+            let of_first = best[0] as f64 / nanos as f64;
+            print!(rt; " {of_first:>7.2}")?;
+        }
+        println!(rt)?;
     }
     Ok(())
-}
-
-fn report(
-    rt: &(impl Clock + Print + AllocGlobal),
-    is_html: bool,
-    corpus: Corpus,
-    range: Range,
-    texts: &[&str],
-) -> Result<(), Fail> {
-    let mode = if is_html { "Html" } else { "Json" };
-    let (shortest, longest) = (range.shortest, range.longest);
-    print!(rt; "{mode} {corpus:<8?} {shortest:>4}-{longest:<4}")?;
-    let best = best_of_rounds(rt, is_html, texts)?;
-    print_ratios(rt, &best)
 }
 
 /// The nanoseconds that each call takes for the texts in its best round.
@@ -88,7 +81,8 @@ fn best_of_rounds(
         for (place, call) in CALLS.iter().enumerate() {
             let start = Instant::now(rt)?;
             pass(*call, is_html, texts, &mut targets)?;
-            best[place] = best[place].min(nanos_since(rt, start)?);
+            let nanos = u32::try_from(start.elapsed(rt)?.as_nanos())?;
+            best[place] = best[place].min(nanos.max(1));
         }
     }
     Ok(best)

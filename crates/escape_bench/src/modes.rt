@@ -7,7 +7,7 @@ use escape_simd::tables::{html_row, json_row, script_entry};
 use escape_simd::{Kernel, format_html_string, format_json_string, format_script_string};
 use std::alloc::Global;
 
-#[derive(Debug, Clone, Copy)]
+#[derive(Debug, Clone, Copy, PartialEq, Eq)]
 pub enum Mode {
     Json,
     Html,

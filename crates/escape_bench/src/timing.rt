@@ -1,5 +1,5 @@
 //! The best of many rounds, with the ways in turn in each round.
-ghost use Rattle.std.specs.Prelude.{◌≤◌, ◌<◌, ◌+◌, ◌*◌, length};
+ghost use Rattle.std.specs.Prelude.{◌≤◌, ◌+◌, ◌*◌, length};
 
 use crate::modes::{Mode, answer, append, format_string};
 use crate::per_byte::{Table, per_byte};
@@ -63,41 +63,25 @@ pub fn agree(escaping: &mut Escaping, texts: &[&str], wanted: &mut [u8], dst: &m
 {
     for text in texts {
         let count = once(Way::Loop, escaping, text, wanted);
-        let agrees = match wanted.get(..count) {
-            Some(wanted) => kernels_agree(escaping, text, wanted, dst)
-                && calls_agree(escaping, text, wanted, dst),
-            None => false,
+        let Some(wanted) = wanted.get(..count) else {
+            return false;
         };
-        if !agrees {
+        for way in &WAYS[2..7] {
+            let written = once(*way, escaping, text, dst);
+            if dst.get(..written) != Some(wanted) {
+                return false;
+            }
+        }
+        once(Way::Appending, escaping, text, dst);
+        if escaping.appended.as_slice() != wanted {
             return false;
+        }
+        match answer(escaping.alloc, escaping.mode, text) {
+            Some(answered) if answered.as_bytes() == wanted => {}
+            _ => return false,
         }
     }
     true
-}
-
-fn kernels_agree(escaping: &mut Escaping, text: &str, wanted: &[u8], dst: &mut [u8]) -> bool
-    requires { ROOM ≤ length dst.old }
-{
-    for way in &WAYS[2..7] {
-        let written = once(*way, escaping, text, dst);
-        if dst.get(..written) != Some(wanted) {
-            return false;
-        }
-    }
-    true
-}
-
-fn calls_agree(escaping: &mut Escaping, text: &str, wanted: &[u8], dst: &mut [u8]) -> bool
-    requires { ROOM ≤ length dst.old }
-{
-    once(Way::Appending, escaping, text, dst);
-    if escaping.appended.as_slice() != wanted {
-        return false;
-    }
-    match answer(escaping.alloc, escaping.mode, text) {
-        Some(answered) => answered.as_bytes() == wanted,
-        None => false,
-    }
 }
 
 /// The nanoseconds that the texts take in the best round, for each way.
@@ -112,50 +96,15 @@ pub fn best_of_rounds(
     let mut best = [u32::MAX; 9];
     for _ in 0..ROUNDS {
         for (place, way) in WAYS.iter().enumerate() {
-            let nanos = time_of(rt, *way, escaping, texts, dst)?;
-            best[place] = best[place].min(nanos);
+            let start = Instant::now(rt)?;
+            for _ in 0..PASSES {
+                pass(*way, escaping, texts, dst);
+            }
+            let nanos = u32::try_from(start.elapsed(rt)?.as_nanos())?;
+            best[place] = best[place].min(nanos.max(1));
         }
     }
     Ok(best)
-}
-
-/// The nanoseconds that the texts take now, and 1 at least.
-fn time_of(
-    rt: &impl Clock,
-    way: Way,
-    escaping: &mut Escaping,
-    texts: &[&str],
-    dst: &mut [u8],
-) -> Result<u32, Fail>
-    requires { ROOM ≤ length dst.old }
-{
-    let start = Instant::now(rt)?;
-    for _ in 0..PASSES {
-        pass(way, escaping, texts, dst);
-    }
-    nanos_since(rt, start)
-}
-
-/// The nanoseconds since then, and 1 at least.
-pub fn nanos_since(rt: &impl Clock, start: Instant) -> Result<u32, Fail> {
-    Ok(u32::try_from(start.elapsed(rt)?.as_nanos())?.max(1))
-}
-
-/// Prints how many times as fast as the first each of the times is, and ends the line.
-pub fn print_ratios(rt: &impl Print, nanos: &[u32]) -> Result<(), Fail>
-    requires { 0 < length nanos.now }
-{
-    let first = nanos[0] as f64;
-    for nanos in nanos {
-        print_ratio(rt, first / *nanos as f64)?;
-    }
-    println!(rt)?;
-    Ok(())
-}
-
-fn print_ratio(rt: &impl Print, ratio: f64) -> Result<(), Fail> {
-    print!(rt; " {ratio:>7.2}")?;
-    Ok(())
 }
 
 #[inline(never)]

@@ -1,4 +1,3 @@
 pub mod ToWrite
 pub mod WriterLemmas
 pub mod ScriptLists
-pub mod FrontLemmas

@@ -1,5 +1,5 @@
 -- A vector of a text as a whole: stored where it is clean, and what blocks cost.
-use Rattle.std.proofs.Common.{◌≡◌, ℕ, ◌+◌, ◌-◌, ◌*◌, ◌/◌, ◌<◌, ◌≤◌, Bool, true, false, List, ◌++◌, length, length-drop, length-take-le, map, replicate, take, drop, get_or, refl, sym, ap, subst, ◌∙◌, arith}
+use Rattle.std.proofs.Common.{◌≡◌, ℕ, ◌+◌, ◌-◌, ◌/◌, ◌<◌, ◌≤◌, Bool, true, false, List, ◌++◌, length, length-drop, length-take-le, map, replicate, take, drop, get_or, refl, sym, ap, subst, ◌∙◌, arith}
 use Rattle.escape_simd.proofs.Words.{cases_Bool, drop-drop, get_or-drop, get_or-take, take-take, bits_of, gaps, length-bits_of, none_set, Mode, script, needs_escape, replacement, bytes_of, stored_of, Target, inner, passed, escaped_count, run_count, AreShort, Escapes, HasVectors, HoldsFlags, IsStored, IsVectorAt, Passed, Stretch}
 use Rattle.escape_simd.proofs.Escapes.{other-byte, passed-alone}
 use Rattle.escape_simd.proofs.Gaps.{gaps-paid_mask}
@@ -80,19 +80,6 @@ escapes-asked t0 asked e s = record {
     classified = omega (arith, e, s.cost.classified);
   };
 }
-
--- four clean vectors were stored, and classified before
-pub chunk-clean : {N : ℕ} (mode : Mode) (slack : ℕ) (src : List ℕ) (old m1 m2 m3 new : Target N) (at to t0 t1 : ℕ) → at + (4 + 1) * N ≤ length src
-    → CleanFrom mode src at (at + N) → CleanFrom mode src (at + N) (at + N + N) → CleanFrom mode src (at + 2 * N) (at + 2 * N + N) → CleanFrom mode src (at + 3 * N) (at + 3 * N + N)
-    → IsStored slack src old m1 at N to → IsStored slack src m1 m2 (at + N) N (to + N) → IsStored slack src m2 m3 (at + 2 * N) N (to + 2 * N) → IsStored slack src m3 new (at + 3 * N) N (to + 3 * N)
-    → t1 ≡ t0 + 4 → Escapes mode slack (at + 4 * N) 4 0 src old new at (at + 4 * N) to (to + 4 * N) t0 t1
-chunk-clean {N} mode slack src old m1 m2 m3 new at to t0 t1 inside c1 c2 c3 c4 s1 s2 s3 s4 asked =
-    let e1 = vector-clean mode slack src old m1 at N to t1 (omega arith) c1 s1 in
-    let e2 = vector-clean mode slack src m1 m2 (at + N) N (to + N) t1 (omega arith) c2 s2 in
-    let e3 = vector-clean mode slack src m2 m3 (at + 2 * N) N (to + 2 * N) t1 (omega arith) c3 s3 in
-    let e4 = vector-clean mode slack src m3 new (at + 3 * N) N (to + 3 * N) t1 (omega arith) c4 s4 in
-    let all = escapes-onward (escapes-onward (escapes-onward e1 e2) (escapes-begun (omega arith) (omega arith) e3)) (escapes-begun (omega arith) (omega arith) e4) in
-    escapes-asked t0 4 asked (escapes-ended (omega arith) (omega arith) (omega arith) all)
 
 -- what escaped a text from a place on, as a text of its own
 pub escapes-later : {N : ℕ} {mode : Mode} {slack border vectors asked : ℕ} {old new : Target N} {next to end t0 t1 : ℕ} (src text : List ℕ) (at : ℕ) → text ≡ drop at src → at ≤ length src

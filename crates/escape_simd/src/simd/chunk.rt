@@ -65,28 +65,6 @@ fn vector_from<V: Vector<N>, const MODE: u8, const N: usize>(
     escape_by_mask::<V, MODE, N, false>(src, from, N - passed, flags, target, to, ticks)
 }
 
-/// As [`vector_from`], the vector at `at` and the one behind it.
-#[inline(always)]
-fn two_from<V: Vector<N>, const MODE: u8, const N: usize>(
-    src: &[u8],
-    at: usize,
-    from: usize,
-    first: u64,
-    second: u64,
-    target: &mut Target<'_, N>,
-    to: usize,
-    ticks: &mut Ticks,
-) -> (usize, usize)
-    requires first { HoldsFlags (mode_numbered MODE) src.now at N at (bits_of 64 first) }
-    requires second { HoldsFlags (mode_numbered MODE) src.now (at + N) N (at + N) (bits_of 64 second) }
-    requires passed { Passed (mode_numbered MODE) src.now at from }
-    requires room { HasVectors N 2 src.now at from to (length (bytes_of target.old)) }
-    ensures { Escapes (mode_numbered MODE) N (at + 2 * N) 2 2 src.now target.old target.new from result.0 to result.1 ticks.old ticks.new }
-{
-    let (next, end) = vector_from::<V, MODE, N>(src, at, from, first, target, to, ticks);
-    vector_from::<V, MODE, N>(src, at + N, next, second, target, end, ticks)
-}
-
 /// Escapes four vectors of the text. They are classified at once, since most are clean. Returns the places after
 /// them.
 #[inline(always)]
@@ -114,8 +92,32 @@ pub(crate) fn chunk<V: Vector<N>, const MODE: u8, const N: usize>(
         store_loaded::<V, N, false>(&v4, src, fourth, N, target, to + 3 * N);
         return (at + 4 * N, to + 4 * N);
     }
-    let (bits1, bits2) = (flags1.bits(), flags2.bits());
-    let (next, end) = two_from::<V, MODE, N>(src, at, at, bits1, bits2, target, to, ticks);
-    let (bits3, bits4) = (flags3.bits(), flags4.bits());
-    two_from::<V, MODE, N>(src, third, next, bits3, bits4, target, end, ticks)
+    let (next, end) = escape_by_mask::<V, MODE, N, false>(
+        src,
+        at,
+        N,
+        flags1.bits(),
+        target,
+        to,
+        ticks,
+    );
+    let (next, end) = vector_from::<V, MODE, N>(
+        src,
+        second,
+        next,
+        flags2.bits(),
+        target,
+        end,
+        ticks,
+    );
+    let (next, end) = vector_from::<V, MODE, N>(
+        src,
+        third,
+        next,
+        flags3.bits(),
+        target,
+        end,
+        ticks,
+    );
+    vector_from::<V, MODE, N>(src, fourth, next, flags4.bits(), target, end, ticks)
 }

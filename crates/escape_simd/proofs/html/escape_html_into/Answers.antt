@@ -4,6 +4,3 @@ use Rattle.escape_simd.proofs.html.escape_html_into.Goals as goal
 
 pub returns-clause-output : goal.returns-clause-output
 returns-clause-output g c = IsEscaping-appended html _ _ _ c.in_ok-append.ensures.exact c.utf8.value
-
-pub returns-in_err-append-clause-has_room : goal.returns-in_err-append-clause-has_room
-returns-in_err-append-clause-has_room g c = λ room. cc (c.in_err-append.ensures.has_room room)

@@ -7,6 +7,3 @@ returns-clause-output g c = IsEscaping-appended script _ _ _ c.in_ok-append.ensu
 
 pub returns-clause-safe : goal.returns-clause-safe
 returns-clause-safe g c = (IsEscaping-appended script _ _ _ c.in_ok-append.ensures.exact c.utf8.value).harmless.safe
-
-pub returns-in_err-append-clause-has_room : goal.returns-in_err-append-clause-has_room
-returns-in_err-append-clause-has_room g c = λ room. cc (c.in_err-append.ensures.has_room room)

@@ -28,8 +28,3 @@ pub returns-clause-len : goal.returns-clause-len
 returns-clause-len g c =
     let bytes = rw c.in_ok-bytes.ensures.items at c.append_output.ensures in
     HasOutputLength-output _ _ _ (ap (λ v. v.items) c.from_utf8_unchecked.ensures.value ∙ bytes)
-
-pub returns-clause-exact : goal.returns-clause-exact
-returns-clause-exact g c =
-    let bytes = rw c.in_ok-bytes.ensures.items at c.append_output.ensures in
-    ap (λ v. v.items) c.from_utf8_unchecked.ensures.value ∙ bytes

@@ -1,4 +1,3 @@
-use Rattle.std.proofs.Common.{ℕ, length, length-append, length-drop, length-take, ap, arith}
 use Rattle.escape_simd.specs.Modes.{mode_numbered}
 use Rattle.escape_simd.proofs.Parts.{front-rest}
 use Rattle.escape_simd.proofs.output.bytes.append_many.Goals as goal
@@ -10,13 +9,3 @@ returns-then-rest g c =
 pub returns : goal.returns
 returns g c =
     front-rest (mode_numbered g.row.MODE) c.args.text.now c.args.dst.now.items c.append_front-at.new.dst.items c.append_in_place.new.dst.items c.append_front-at.result c.append_front-at.ensures.front c.append_in_place.ensures
-
-pub append_two-requires-clause-room : goal.append_two-requires-clause-room
-append_two-requires-clause-room g c =
-    let e = c.append_front-at.ensures in
-    omega (arith, c.requires.room, e.left, e.capacity, ap length e.front.appended, length-append {A = ℕ}, length-take {A = ℕ}, length-drop {A = ℕ})
-
-pub append_in_place-requires : goal.append_in_place-requires
-append_in_place-requires g c =
-    let e = c.append_front-at.ensures in
-    omega (arith, c.requires.room, e.left, e.capacity, ap length e.front.appended, length-append {A = ℕ}, length-take {A = ℕ}, length-drop {A = ℕ})

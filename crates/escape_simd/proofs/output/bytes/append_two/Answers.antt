@@ -1,4 +1,4 @@
-use Rattle.escape_simd.proofs.Words.{◌≡◌, ℕ, ◌+◌, ◌-◌, List, ◌++◌, length, length-append, length-take, take, map, refl, sym, ap, ◌∙◌, arith, take_all, bits_of, needs_escape, mode_numbered}
+use Rattle.escape_simd.proofs.Words.{◌≡◌, ℕ, ◌+◌, ◌-◌, List, ◌++◌, length, take, map, refl, sym, ap, ◌∙◌, arith, take_all, bits_of, needs_escape, mode_numbered}
 use Rattle.escape_simd.proofs.Last.{last-long_text}
 use Rattle.escape_simd.proofs.Parts.{marked, two-none, vector-over}
 use Rattle.escape_simd.proofs.Vectors.{mask-held}
@@ -24,13 +24,3 @@ returns g c =
     ∙ vector-over old text c.push_vector.new.dst.items len last 32 32 (omega (arith, c.len-len.ensures)) (omega (arith, c.requires.some)) first
     ∙ ap (λ xs. old ++ xs) (take_all (last + 32) text (omega (arith, all)) ∙ sym itself))
     c.push_quote.ensures.items
-
-pub push_vector-requires-2 : goal.push_vector-requires-2
-push_vector-requires-2 g c =
-    let e = c.push_vector.ensures in
-    (omega (arith, c.requires.some, c.len-len.ensures, ap length e.items, length-append {A = ℕ}, length-take {A = ℕ}, c.load-v1.result.are_bytes.full), omega (arith, c.requires.some, c.requires.room, c.len-len.ensures, e.capacity))
-
-pub push_quote-requires : goal.push_quote-requires
-push_quote-requires g c =
-    let e = c.push_vector-2.ensures in
-    omega (arith, c.requires.some, c.requires.room, c.len-len.ensures, c.push_vector.ensures.capacity, e.capacity, ap length e.items, length-append {A = ℕ}, length-take {A = ℕ}, c.load-v2.result.are_bytes.full)

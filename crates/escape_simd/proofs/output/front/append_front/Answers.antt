@@ -1,4 +1,4 @@
-use Rattle.std.proofs.Common.{List, ℕ, ◌++◌, length, length-append, length-take, ap, ◌∙◌, arith}
+use Rattle.std.proofs.Common.{List, ℕ, ◌++◌, ap, ◌∙◌, arith}
 use Rattle.escape_simd.specs.Modes.{mode_numbered}
 use Rattle.escape_simd.proofs.Parts.{front-more}
 use Rattle.escape_simd.proofs.output.front.append_front.Goals as goal
@@ -20,13 +20,3 @@ vectors-preserved g c =
       left = omega (arith, i, c.vectors-test.true);
       capacity = omega (arith, c.vectors.invariant.capacity, c.push_all.ensures.capacity);
     }
-
-pub push_chunk-requires-clause-room : goal.push_chunk-requires-clause-room
-push_chunk-requires-clause-room g c =
-    let i = c.chunks.invariant in
-    omega (arith, i.front.inside, i.capacity, c.chunks-test.true, c.requires.room, ap length i.front.appended, length-append {A = ℕ}, length-take {A = ℕ})
-
-pub push_all-requires : goal.push_all-requires
-push_all-requires g c =
-    let i = c.vectors.invariant in
-    omega (arith, i.front.inside, i.capacity, c.vectors-test.true, c.requires.room, ap length i.front.appended, ap length c.lanes_at.ensures, length-append {A = ℕ}, length-take {A = ℕ})

@@ -52,17 +52,3 @@ returns-clause-clean g c =
     let e = two-clean mode (reach true n) n src c.args.target.now c.store.new.target c.store-2.new.target at c.args.to c.args.ticks.now c.flags_at-flags2.new.ticks (omega (arith, c.if-count.false, r.inside)) r.few clean1 (subst (λ k. CleanFrom mode src (length src - n) k) all clean2)
     c.store.ensures c.store-2.ensures (omega (arith, c.flags_at-flags1.ensures.tick, c.flags_at-flags2.ensures.tick)) in
     subst (λ v. Escapes mode (reach true n) (length src) v 0 src c.args.target.now c.store-2.new.target at (length src) c.args.to (c.args.to + (length src - at)) c.args.ticks.now c.flags_at-flags2.new.ticks) (two-begun n (length src - at) c.if-count.false (omega (arith, r.few))) e
-
-pub returns-then-not-all_zero-clause-unchanged : goal.returns-then-not-all_zero-clause-unchanged
-returns-then-not-all_zero-clause-unchanged g c = record {
-  target = refl;
-  ticks = c.flags.ensures.tick ∙ ap (λ k. c.args.ticks.now + k) (one-begun g.row.N (length c.args.src.now - c.args.at) c.if-count.true);
-}
-
-pub returns-then-not-none-clause-unchanged : goal.returns-then-not-none-clause-unchanged
-returns-then-not-none-clause-unchanged g c =
-    let twice : c.flags_at-flags2.new.ticks ≡ c.args.ticks.now + 2 = omega (arith, c.flags_at-flags1.ensures.tick, c.flags_at-flags2.ensures.tick) in
-    record {
-      target = refl;
-      ticks = twice ∙ ap (λ k. c.args.ticks.now + k) (two-begun g.row.N (length c.args.src.now - c.args.at) c.if-count.false (omega (arith, c.requires.few)));
-    }

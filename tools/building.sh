@@ -27,10 +27,10 @@ compiler_for() {
   esac
 }
 
-# link_shared COMPILER LIBRARY SONAME FILE: links the static library to a shared one. It needs no other
-# library, not even C's. A file that is in use is replaced, and not written over.
+# link_shared COMPILER LIBRARY SONAME FILE: links the static library to a shared one. It needs no library but
+# C's, of which some levels call memset. A file that is in use is replaced, and not written over.
 link_shared() {
-  "$1" -shared -nostdlib -Wl,-soname,"$3" -Wl,--no-undefined -o "$4.new" \
+  "$1" -shared -Wl,-soname,"$3" -Wl,--no-undefined -o "$4.new" \
     -Wl,--whole-archive "$2" -Wl,--no-whole-archive &&
     mv -f "$4.new" "$4"
 }

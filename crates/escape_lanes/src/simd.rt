@@ -21,5 +21,5 @@ pub mod vector;
 
 pub use flags::Flags;
 pub use last::LoadLast;
-pub use traits::{BitMask, Mask, Simd};
+pub use traits::{BitMask, LoadStore, Mask, Simd};
 pub use vector::Vector;

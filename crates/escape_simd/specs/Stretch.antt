@@ -163,13 +163,13 @@ pub record HasVectors (N vectors : ℕ) (src : List ℕ) (at from to size : ℕ)
   pub room : to + 6 * (at + vectors * N - from) + N ≤ size
 
 -- The bytes of a text from `at` on are fewer than two vectors have, and there is room for what they become.
-pub record HasRest (N : ℕ) (src : List ℕ) (at to size : ℕ) : Type 0 where
+pub record HasTail (N : ℕ) (src : List ℕ) (at to size : ℕ) : Type 0 where
   pub inside : at ≤ length src
   pub few : length src < at + 2 * N
   pub room : to + 6 * (length src - at) + reach true N ≤ size
 
 -- A short text, with the flags of its last vector, and where it has as many bytes as one, those of its first one.
-pub record AreLast (mode : Mode) (N : ℕ) (text : List ℕ) (first last : List Bool) : Type 0 where
+pub record AreTail (mode : Mode) (N : ℕ) (text : List ℕ) (first last : List Bool) : Type 0 where
   pub few : length text < 2 * N
   pub front : N ≤ length text → HoldsFlags mode text 0 N 0 first
   pub back : HoldsFlags mode text (length text - N) (min (length text) N) (length text - N) last

@@ -46,7 +46,7 @@ pub fn classify<'a, V: Vector<N>, const MODE: u8, const N: usize>(
 {
     let bytes = &text[at..at + N];
     (
-        flags::<V, MODE, N>(&V::loadu(bytes), ticks),
+        flags::<V, MODE, N>(&V::load(bytes), ticks),
         Classified { bytes },
     )
 }

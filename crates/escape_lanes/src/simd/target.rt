@@ -6,7 +6,7 @@ ghost use Rattle.escape_lanes.specs.Written.{bytes_of, stored_of, escaped_of, qu
 use crate::simd::front::copy_front;
 use crate::simd::ticks::Tally;
 pub use crate::simd::ticks::Ticks;
-use crate::simd::traits::Simd;
+use crate::simd::traits::LoadStore;
 
 /// A slice that a kernel with vectors of `N` bytes writes to, and nowhere else.
 ///
@@ -77,7 +77,7 @@ impl<'a, const N: usize> Target<'a, N> {
     ///
     /// The vector has `N` lanes, and the target `N` bytes from `at` on.
     #[inline(always)]
-    pub fn store<S: Simd>(&mut self, at: usize, v: &S)
+    pub fn store<S: LoadStore>(&mut self, at: usize, v: &S)
         requires lanes { S.LANES ≡ N }
         requires room { at + N ≤ length (bytes_of self.old) }
         ensures same_slice { IsSameSlice self.old self.new }
@@ -88,7 +88,7 @@ impl<'a, const N: usize> Target<'a, N> {
         ensures writes { writes_of self.new ≡ writes_of self.old + 1 }
     {
         let mut lanes = [0u8; N];
-        v.storeu(&mut lanes);
+        v.put(&mut lanes);
         self.put(at, &lanes);
     }
 
@@ -96,7 +96,7 @@ impl<'a, const N: usize> Target<'a, N> {
     ///
     /// The vector has `N` lanes, `k` of which are written, and the target `k` bytes from `at` on.
     #[inline(always)]
-    pub fn store_front<S: Simd>(&mut self, at: usize, v: &S, k: usize)
+    pub fn store_front<S: LoadStore>(&mut self, at: usize, v: &S, k: usize)
         requires lanes { S.LANES ≡ N }
         requires count { k ≤ N }
         requires room { at + k ≤ length (bytes_of self.old) }
@@ -108,7 +108,7 @@ impl<'a, const N: usize> Target<'a, N> {
         ensures writes { writes_of self.new ≡ writes_of self.old + 1 }
     {
         let mut lanes = [0u8; N];
-        v.storeu(&mut lanes);
+        v.put(&mut lanes);
         self.put_front(at, &lanes[..k]);
     }
 

@@ -8,7 +8,7 @@ ghost use Rattle.escape_simd.specs.Stretch.{Escapes, IsByteWise, IsVectorAt, rea
 use crate::simd::store::{store, tick};
 use crate::simd::turns::turns;
 use crate::simd::util::{are_short, escape_blocks};
-use crate::simd::vector::{SCRIPT_MODE, Vector};
+use crate::simd::{SCRIPT_MODE, Vector};
 use escape_lanes::simd::BitMask;
 use escape_lanes::simd::lane_bits::count_gaps;
 use escape_lanes::simd::target::{Target, Ticks};

@@ -10,7 +10,7 @@ ghost use Rattle.escape_simd.specs.Stretch.{Escaped, Stretch, IsFlaggedAt, IsRun
 mod blocks;
 
 use crate::simd::entry::{entry, is_separator, separator_entry};
-use crate::simd::vector::{HTML_MODE, JSON_MODE, SCRIPT_MODE};
+use crate::simd::{HTML_MODE, JSON_MODE, SCRIPT_MODE};
 pub(crate) use blocks::{are_short, escape_blocks};
 use escape_lanes::simd::target::Target;
 

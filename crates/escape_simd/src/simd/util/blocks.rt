@@ -12,7 +12,7 @@ ghost use Rattle.escape_simd.specs.Modes.{mode_numbered};
 ghost use Rattle.escape_simd.specs.Stretch.{AreShort, HasBlocks, Stretch};
 
 use crate::simd::entry::SEPARATOR_LEAD;
-use crate::simd::vector::{HTML_MODE, SCRIPT_MODE};
+use crate::simd::{HTML_MODE, SCRIPT_MODE};
 use escape_lanes::simd::lane_bits::{eight_lanes, shift_lanes};
 use escape_lanes::simd::target::Target;
 use escape_lanes::tables::{json_entry, spread_row};

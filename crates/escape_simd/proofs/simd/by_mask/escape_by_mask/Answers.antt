@@ -15,7 +15,7 @@ pub returns-then-are_short : goal.returns-then-are_short
 returns-then-are_short g c =
     let last = not (nat_eq (value_of (number g.row.LAST)) 0) in let far = reach-bounds last g.row.N g.met.V.Vector.several in
     vector-blocks (mode_numbered g.row.MODE) (reach last g.row.N) c.args.src.now c.args.target.now c.escape_blocks-end.new.target c.args.at c.args.valid c.args.to c.escape_blocks-end.result (length (bytes_of c.args.target.now)) c.args.flags c.args.ticks.now c.tick_for_blocks.new.ticks
-    c.requires (c.are_short.ensures c.if-are_short.true) g.met.V.Vector.few g.met.V.Vector.several (omega (arith, far)) (c.pay_for_blocks.ensures c.if-pay_for_blocks.true) c.escape_blocks-end.ensures.stretch c.escape_blocks-end.ensures.stored c.tick_for_blocks.ensures
+    c.requires (c.are_short.ensures c.if-are_short.true) g.met.V.Vector.most g.met.V.Vector.several (omega (arith, far)) (c.pay_for_blocks.ensures c.if-pay_for_blocks.true) c.escape_blocks-end.ensures.stretch c.escape_blocks-end.ensures.stored c.tick_for_blocks.ensures
 
 pub turns-passed-requires : goal.turns-passed-requires
 turns-passed-requires g c =

@@ -3,7 +3,7 @@ use Rattle.escape_simd.proofs.Words.{take_all, bits_of, none_set, mode_numbered,
 use Rattle.escape_simd.proofs.Lanes.{CleanFrom, held-none, none_set-joined}
 use Rattle.escape_simd.proofs.Last.{last-long_text, last-mask, last-short, one-begun, rest-escaped, two-begun, two-clean}
 use Rattle.escape_simd.proofs.Vectors.{escapes-ended, flags-clean, mask-held, vector-clean}
-use Rattle.escape_simd.proofs.simd.rest.store_last.Goals as goal
+use Rattle.escape_simd.proofs.simd.tail.store_clean_tail.Goals as goal
 
 pub returns-then-not-all_zero-clause-flagged : goal.returns-then-not-all_zero-clause-flagged
 returns-then-not-all_zero-clause-flagged g c =
@@ -11,8 +11,8 @@ returns-then-not-all_zero-clause-flagged g c =
     let text : List ℕ = take (length src - at) (drop at src) in let count = length-drop at src in
     let is : text ≡ drop at src = take_all (length src - at) (drop at src) (omega (arith, count)) in
     let bits = bits_of 64 c.clear_high_bits-last.result in
-    let held = last-mask mode n src (g.V.Vector.lanes c.load_last-v.result) at (t c.flags.result) (bits_of 64 c.bits.result) bits g.met.V.Vector.few r.inside (omega (arith, c.if-count.true)) (g.met.V.Vector.width c.load_last-v.result)
-    c.load_last-v.ensures c.flags.ensures.lanes (c.bits.ensures ∙ ap (λ m. t c.flags.result ++ replicate (64 - m) false) g.met.V.Vector.flag_width) c.clear_high_bits-last.ensures in
+    let held = last-mask mode n src (g.V.LoadStore.lanes c.load_last-v.result) at (t c.flags.result) (bits_of 64 c.bits.result) bits g.met.V.Vector.most r.inside (omega (arith, c.if-count.true)) (g.met.V.LoadStore.width c.load_last-v.result ∙ g.met.V.Vector.lane_count)
+    c.load_last-v.ensures c.flags.ensures.lanes (c.bits.ensures ∙ ap (λ m. t c.flags.result ++ replicate (64 - m) false) g.met.V.Vector.flag_count) c.clear_high_bits-last.ensures in
     last-short mode n src (drop at src) at (bits_of 64 0) bits refl r.inside c.if-count.true held
 
 pub returns-then-count-clause-clean : goal.returns-then-count-clause-clean
@@ -21,8 +21,8 @@ returns-then-count-clause-clean g c =
     let text : List ℕ = take (length src - at) (drop at src) in let count = length-drop at src in
     let is : text ≡ drop at src = take_all (length src - at) (drop at src) (omega (arith, count)) in
     let bits = bits_of 64 c.clear_high_bits-last.result in
-    let held = last-mask mode n src (g.V.Vector.lanes c.load_last-v.result) at (t c.flags.result) (bits_of 64 c.bits.result) bits g.met.V.Vector.few r.inside (omega (arith, c.if-count.true)) (g.met.V.Vector.width c.load_last-v.result)
-    c.load_last-v.ensures c.flags.ensures.lanes (c.bits.ensures ∙ ap (λ m. t c.flags.result ++ replicate (64 - m) false) g.met.V.Vector.flag_width) c.clear_high_bits-last.ensures in
+    let held = last-mask mode n src (g.V.LoadStore.lanes c.load_last-v.result) at (t c.flags.result) (bits_of 64 c.bits.result) bits g.met.V.Vector.most r.inside (omega (arith, c.if-count.true)) (g.met.V.LoadStore.width c.load_last-v.result ∙ g.met.V.Vector.lane_count)
+    c.load_last-v.ensures c.flags.ensures.lanes (c.bits.ensures ∙ ap (λ m. t c.flags.result ++ replicate (64 - m) false) g.met.V.Vector.flag_count) c.clear_high_bits-last.ensures in
     let all : length src - at ≡ length text = sym (ap length is ∙ count) in
     let clean = held-none mode text 0 (length text) 0 bits (subst (λ k. HoldsFlags mode text 0 k 0 bits) all (subst (λ xs. HoldsFlags mode xs 0 (length src - at) 0 bits) (sym is) held)) (omega arith) (sym c.all_zero.ensures ∙ c.if-not-all_zero.false) in
     let e = vector-clean mode (reach true n) text c.args.target.now c.store_lanes.new.target 0 (length text) c.args.to c.flags.new.ticks (omega arith) clean c.store_lanes.ensures in
@@ -33,9 +33,9 @@ returns-then-not-none-clause-flagged g c =
     let mode = mode_numbered g.row.MODE in let n : ℕ = g.row.N in let src : List ℕ = c.args.src.now in let at : ℕ = c.args.at in let r = c.requires in let t = g.V.Flags.Flags.truths in
     let text : List ℕ = take (length src - at) (drop at src) in let count = length-drop at src in
     let is : text ≡ drop at src = take_all (length src - at) (drop at src) (omega (arith, count)) in
-    let lanes = g.met.V.Vector.flag_width in
-    let held1 = mask-held mode n src at (t c.flags_at-flags1.result) (bits_of 64 c.bits-then-not-none.result) g.met.V.Vector.few (omega (arith, c.if-count.false)) c.flags_at-flags1.ensures.flagged (c.bits-then-not-none.ensures ∙ ap (λ m. t c.flags_at-flags1.result ++ replicate (64 - m) false) lanes) in
-    let held2 = mask-held mode n src (length src - n) (t c.flags_at-flags2.result) (bits_of 64 c.bits-then-not-none-2.result) g.met.V.Vector.few (omega (arith, c.if-count.false)) c.flags_at-flags2.ensures.flagged (c.bits-then-not-none-2.ensures ∙ ap (λ m. t c.flags_at-flags2.result ++ replicate (64 - m) false) lanes) in
+    let lanes = g.met.V.Vector.flag_count in
+    let held1 = mask-held mode n src at (t c.flags_at-flags1.result) (bits_of 64 c.bits-then-not-none.result) g.met.V.Vector.most (omega (arith, c.if-count.false)) c.flags_at-flags1.ensures.flagged (c.bits-then-not-none.ensures ∙ ap (λ m. t c.flags_at-flags1.result ++ replicate (64 - m) false) lanes) in
+    let held2 = mask-held mode n src (length src - n) (t c.flags_at-flags2.result) (bits_of 64 c.bits-then-not-none-2.result) g.met.V.Vector.most (omega (arith, c.if-count.false)) c.flags_at-flags2.ensures.flagged (c.bits-then-not-none-2.ensures ∙ ap (λ m. t c.flags_at-flags2.result ++ replicate (64 - m) false) lanes) in
     last-long_text mode n src (drop at src) at (bits_of 64 c.bits-then-not-none.result) (bits_of 64 c.bits-then-not-none-2.result) refl (omega (arith, c.if-count.false, r.inside)) r.few held1 held2
 
 pub returns-clause-clean : goal.returns-clause-clean
@@ -43,7 +43,7 @@ returns-clause-clean g c =
     let mode = mode_numbered g.row.MODE in let n : ℕ = g.row.N in let src : List ℕ = c.args.src.now in let at : ℕ = c.args.at in let r = c.requires in let t = g.V.Flags.Flags.truths in
     let text : List ℕ = take (length src - at) (drop at src) in let count = length-drop at src in
     let is : text ≡ drop at src = take_all (length src - at) (drop at src) (omega (arith, count)) in
-    let lanes = g.met.V.Vector.flag_width in
+    let lanes = g.met.V.Vector.flag_count in
     let w = g.met.V.Flags.Flags.width in
     let nones = none_set-joined (t c.flags_at-flags1.result) (t c.flags_at-flags2.result) (w c.flags_at-flags1.result ∙ sym (w c.flags_at-flags2.result)) (ap none_set (sym c.join.ensures) ∙ sym c.none.ensures ∙ c.if-not-none.false) in
     let clean1 = flags-clean mode n src at (t c.flags_at-flags1.result) (omega (arith, c.if-count.false)) c.flags_at-flags1.ensures.flagged nones.0 in

@@ -7,3 +7,4 @@ pub mod Nibble
 pub mod Words
 pub mod Written
 pub mod Spread
+pub mod Short

@@ -13,7 +13,7 @@ use mir.Syntax.{w8}
 use mir.Val.{zeroes}
 use Rattle.escape_lanes.specs.Bits.{bits_of, length-bits_of, none_set}
 use Rattle.escape_lanes.specs.Lanes.{AreBytes}
-use Rattle.escape_lanes.specs.Mode.{Mode, json, script}
+use Rattle.escape_lanes.specs.Mode.{Mode, json, script, mode_numbered}
 use Rattle.escape_lanes.specs.Replacement.{needs_escape, replacement}
 use Rattle.escape_lanes.specs.Short.{is_long, shortened}
 use Rattle.escape_lanes.proofs.BitLemmas.{bits-wide}
@@ -110,6 +110,10 @@ long-bits mode long told xs v bytes is ms e =
     let same : ms ≡ map (is_long mode) xs = e ∙ ap (map long) is ∙ map-map long shortened xs ∙ map-bytes (λ b. long (shortened b)) (is_long mode) 16 xs bytes told in
     let full : length ms ≡ 16 = ap length same ∙ length-map xs (is_long mode) ∙ bytes.full in
     rw (mask_l-mod ms 64 (omega (arith, full)), bits-wide 16 48 (mask_l ms) (rw full at (mask_l-lt ms)), bits-mask ms 16 full) (ap (λ bs. bs ++ replicate 48 false) same)
+
+-- a number past those of the other modes
+pub mode-script : (n : ℕ) → 2 ≤ n → mode_numbered n ≡ script
+mode-script n h = grind arith
 
 -- as many lanes
 pub shortened-full : (xs v : List ℕ) → AreBytes 16 xs → v ≡ map shortened xs → length v ≡ 16

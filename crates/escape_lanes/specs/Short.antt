@@ -1,12 +1,7 @@
 -- Short escapes: a reverse solidus, and the byte itself or a control character's letter.
-use Rattle.std.specs.Prelude.{ℕ, Bool, true, false, ◌&&◌, ◌==◌, not, length, if◌then◌else◌}
-use Rattle.escape_lanes.specs.Mode.{Mode, json, script}
+use Rattle.std.specs.Prelude.{ℕ, Bool, ◌&&◌, ◌==◌, not, length, if◌then◌else◌}
+use Rattle.escape_lanes.specs.Mode.{Mode}
 use Rattle.escape_lanes.specs.Replacement.{needs_escape, replacement}
-
--- the mode of a JSON string literal, which can stand in a script element or not
-abbrev pub literal_mode : Bool → Mode
-literal_mode true = script
-literal_mode false = json
 
 -- what stands after the reverse solidus of a short escape: a control character's letter, and any other byte itself
 unfoldable pub shortened : ℕ → ℕ

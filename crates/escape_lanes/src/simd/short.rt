@@ -1,11 +1,13 @@
 //! Short escapes: a reverse solidus, and the byte itself or a control character's letter.
-ghost use Rattle.std.specs.Prelude.{◌≡◌, ℕ, ◌+◌, ◌*◌, ◌/◌, ◌≤◌, ◌++◌, ◌&&◌, not, false, length, take, drop, map, replicate};
+ghost use Rattle.std.specs.Prelude.{◌≡◌, ◌≢◌, ℕ, ◌+◌, ◌*◌, ◌/◌, ◌≤◌, ◌++◌, ◌&&◌, not, false, length, take, drop, map, replicate};
 ghost use Rattle.std.specs.Simd.Lanes.{zip2};
 ghost use Rattle.escape_lanes.specs.Bits.{bits_of, none_set};
-ghost use Rattle.escape_lanes.specs.Short.{literal_mode, shortened, is_long};
+ghost use Rattle.escape_lanes.specs.Mode.{mode_numbered};
+ghost use Rattle.escape_lanes.specs.Short.{shortened, is_long};
 
 use crate::simd::lane_bits::shift_lanes;
 use crate::simd::lanes::load;
+use crate::simd::vector::SCRIPT_MODE;
 use std::simd::prelude::*;
 
 /// Returns the 16 bytes of the text from `at` on, with the letter of its short escape in place of each control
@@ -28,13 +30,14 @@ pub fn shorten(text: &[u8], at: usize) -> u8x16
 
 /// Returns a bit for each of the text's 16 bytes from `at` on: it is set if the byte needs an escape and has no short one.
 #[inline(always)]
-fn long_lanes(text: &[u8], at: usize, in_script: bool) -> u64
-    requires { at + 16 ≤ length text.now }
-    ensures { bits_of 64 result ≡ map (is_long (literal_mode in_script)) (take 16 (drop at text.now)) ++ replicate 48 false }
+fn long_lanes<const MODE: u8>(text: &[u8], at: usize) -> u64
+    requires mode { MODE ≢ 1 }
+    requires inside { at + 16 ≤ length text.now }
+    ensures { bits_of 64 result ≡ map (is_long (mode_numbered MODE)) (take 16 (drop at text.now)) ++ replicate 48 false }
 {
     let bytes = shorten(text, at);
     let control = bytes.simd_le(u8x16::splat(0x1f));
-    if !in_script {
+    if MODE < SCRIPT_MODE {
         return control.to_bitmask();
     }
     let angle = (bytes | u8x16::splat(2)).simd_eq(u8x16::splat(b'>'));
@@ -43,20 +46,20 @@ fn long_lanes(text: &[u8], at: usize, in_script: bool) -> u64
     (control | angle | ampersand | lead).to_bitmask()
 }
 
-/// Returns whether a byte of the text is flagged that needs an escape, in a JSON string literal or in one that can stand
-/// in a script element, and has no short one.
+/// Returns whether a byte of the text is flagged that needs an escape and has no short one. HTML has none at all.
 ///
 /// The text has a multiple of 16 bytes, at most 64. Of a text with `"` and `\u{1}` that is so where the second is flagged.
 #[inline(always)]
-pub fn has_long(text: &[u8], flags: u64, in_script: bool) -> bool
+pub fn has_long<const MODE: u8>(text: &[u8], flags: u64) -> bool
+    requires mode { MODE ≢ 1 }
     requires sixteens { length text.now ≡ 16 * (length text.now / 16) }
     requires few { length text.now ≤ 64 }
-    ensures { result ≡ not (none_set (zip2 ◌&&◌ (map (is_long (literal_mode in_script)) text.now) (bits_of 64 flags))) }
+    ensures { result ≡ not (none_set (zip2 ◌&&◌ (map (is_long (mode_numbered MODE)) text.now) (bits_of 64 flags))) }
 {
     let mut long = 0;
     let mut next = 0;
     'pieces: while next < text.len() {
-        long |= long_lanes(text, next, in_script) & shift_lanes(flags, next);
+        long |= long_lanes::<MODE>(text, next) & shift_lanes(flags, next);
         next += 16;
     }
     long != 0

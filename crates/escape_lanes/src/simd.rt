@@ -12,6 +12,7 @@ pub mod lane_bits;
 mod lanes;
 pub mod last;
 pub mod neon;
+pub mod short;
 pub mod sse2;
 pub mod target;
 mod ticks;

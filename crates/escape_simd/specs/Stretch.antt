@@ -184,13 +184,11 @@ abbrev pub AreShort : Mode → ℕ → List ℕ → ℕ → List Bool → Type 0
 AreShort mode n src at bits =
     (k : ℕ) → k < n → slice_index_or bits k false ≡ true → needs_escape mode (slice_index src (at + k)) ≡ true → length (replacement mode (slice_index src (at + k))) ≡ 2
 
--- a vector's first `valid` bytes can be escaped by blocks: some are flagged, and each of these has a short escape
-pub record HasBlocks (mode : Mode) (N : ℕ) (src : List ℕ) (at valid to size : ℕ) (bits : List Bool) : Type 0 where
+-- a text's `valid` bytes can be escaped by blocks: some are flagged, and each of these has a short escape
+pub record HasBlocks (mode : Mode) (src : List ℕ) (at valid to size : ℕ) (bits : List Bool) : Type 0 where
   pub flags : HoldsFlags mode src at valid at bits
   pub some : none_set bits ≡ false
-  pub short : AreShort mode N src at bits
-  pub sixteens : N ≡ 16 * (N / 16)
-  pub most : N ≤ 64
-  pub few : valid ≤ N
-  pub inside : at + N ≤ length src
+  pub short : AreShort mode valid src at bits
+  pub few : valid ≤ 64
+  pub inside : at + valid + 16 ≤ length src
   pub room : to + 2 * valid + 16 ≤ size

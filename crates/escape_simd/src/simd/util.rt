@@ -11,7 +11,7 @@ mod blocks;
 
 use crate::simd::entry::{entry, is_separator, separator_entry};
 use crate::simd::{HTML_MODE, JSON_MODE, SCRIPT_MODE};
-pub(crate) use blocks::{are_short, escape_blocks};
+pub(crate) use blocks::{are_paid, are_short, escape_blocks};
 use escape_lanes::simd::target::Target;
 
 /// Writes what stands for the byte at `at`, which needs an escape, or for the separator that begins

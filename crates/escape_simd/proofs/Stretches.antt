@@ -93,6 +93,24 @@ pub onward_at : {N : ℕ} {mode : Mode} {slack : ℕ} {src : List ℕ} {old mid 
     → Stretch mode slack src old mid at i to p → Stretch mode slack src mid new j next q end → i ≡ j → p ≡ q → Stretch mode slack src old new at next to end
 onward_at a b e f = onward (rw (e, f) at a) b
 
+-- a stretch of a text from a place on, as a text of its own
+pub stretch-later : {N : ℕ} {mode : Mode} {slack : ℕ} {old new : Target N} {next to end : ℕ} (src : List ℕ) (at : ℕ) → at ≤ length src → Stretch mode slack (drop at src) old new 0 next to end → Stretch mode slack src old new at (at + next) to end
+stretch-later {N} {mode} {slack} {old} {new} {next} {to} {end} src at inside s =
+    let there : drop next (drop at src) ≡ drop (at + next) src = drop-drop next at src in let count = length-drop at src in
+    let r0 = rest-is mode (drop at src) 0 in let r1 = rest-is mode (drop at src) next ∙ ap (λ xs. length (inner mode xs)) there in
+    let q0 = rest-is mode src at in let q1 = rest-is mode src (at + next) in let c = ap (escaped_count mode) there in
+    record {
+      same_slice = s.same_slice;
+      forward = omega arith;
+      inside = omega (arith, s.inside, count, inside);
+      limit = omega (arith, s.limit, r0, r1, q0, q1);
+      bytes = ap (λ xs. take end (bytes_of new) ++ inner mode xs) (sym there) ∙ s.bytes;
+      kept = s.kept;
+      escaped = omega (arith, s.escaped, c);
+      quotes = s.quotes;
+      writes = s.writes;
+    }
+
 -- in the modes that go byte by byte, what stands for bytes is cut where they are
 inner-cut : (is_html : Bool) (xs ys : List ℕ) → inner (mode_of is_html) (xs ++ ys) ≡ inner (mode_of is_html) xs ++ inner (mode_of is_html) ys
 inner-cut true xs ys = flat_map-append (replacement html) xs ys

@@ -5,7 +5,7 @@ use Rattle.escape_simd.proofs.Escapes.{other-byte, passed-alone}
 use Rattle.escape_simd.proofs.Gaps.{gaps-paid_mask}
 use Rattle.escape_simd.proofs.Lanes.{CleanFrom, held-shifted, held-whole, none_clean, none_set-at}
 use Rattle.escape_simd.proofs.RestSteps.{rest-is}
-use Rattle.escape_simd.proofs.Stretches.{ended, onward, onward_to, standing, stored_ahead, widened}
+use Rattle.escape_simd.proofs.Stretches.{ended, onward, onward_to, standing, stored_ahead, stretch-later, widened}
 use Rattle.escape_simd.proofs.Texts.{passed_clean-here}
 use Rattle.escape_simd.proofs.Turns.{ahead-front, ahead-passed, ahead-runs}
 
@@ -94,23 +94,9 @@ pub escapes-later : {N : ℕ} {mode : Mode} {slack border vectors asked : ℕ} {
     → Escapes mode slack border vectors asked text old new 0 next to end t0 t1 → Escapes mode slack (at + border) vectors asked src old new at (at + next) to end t0 t1
 escapes-later {N} {mode} {slack} {border} {vectors} {asked} {old} {new} {next} {to} {end} {t0} {t1} src text at is inside given =
     let e = subst (λ xs. Escapes mode slack border vectors asked xs old new 0 next to end t0 t1) is given in
-    let s = e.stretch in let p = e.passed in let count = length-drop at src in
-    let there : drop next (drop at src) ≡ drop (at + next) src = drop-drop next at src in
-    let r0 = rest-is mode (drop at src) 0 in let r1 = rest-is mode (drop at src) next ∙ ap (λ xs. length (inner mode xs)) there in
-    let q0 = rest-is mode src at in let q1 = rest-is mode src (at + next) in
-    let c = ap (escaped_count mode) there in let u = ap (run_count mode) there in
+    let p = e.passed in let u = ap (run_count mode) (drop-drop next at src) in
     record {
-      stretch = record {
-        same_slice = s.same_slice;
-        forward = omega arith;
-        inside = omega (arith, s.inside, count, inside);
-        limit = omega (arith, s.limit, r0, r1, q0, q1);
-        bytes = ap (λ xs. take end (bytes_of new) ++ inner mode xs) (sym there) ∙ s.bytes;
-        kept = s.kept;
-        escaped = omega (arith, s.escaped, c);
-        quotes = s.quotes;
-        writes = s.writes;
-      };
+      stretch = stretch-later src at inside e.stretch;
       passed = record {
         whole = omega (arith, p.whole);
         near = omega (arith, p.near);

@@ -7,7 +7,7 @@ ghost use Rattle.escape_simd.specs.Modes.{mode_numbered};
 ghost use Rattle.escape_simd.specs.Stretch.{Escapes, IsByteWise, IsVectorAt, reach};
 
 use crate::simd::store::{store, tick};
-use crate::simd::turns::turns;
+use crate::simd::turns::escape_by_turns;
 use crate::simd::util::{are_paid, are_short, escape_blocks};
 use crate::simd::{SCRIPT_MODE, Vector};
 use escape_lanes::simd::BitMask;
@@ -42,24 +42,31 @@ pub(crate) fn escape_by_mask<V: Vector<N>, const MODE: u8, const N: usize, const
     src: &[u8],
     at: usize,
     valid: usize,
-    flags: u64,
+    mask: u64,
     target: &mut Target<'_, N>,
     to: usize,
     ticks: &mut Ticks,
 ) -> (usize, usize)
-    requires { IsVectorAt (mode_numbered MODE) N (reach LAST N) src.now at valid to (length (bytes_of target.old)) (bits_of 64 flags) }
+    requires { IsVectorAt (mode_numbered MODE) N (reach LAST N) src.now at valid to (length (bytes_of target.old)) (bits_of 64 mask) }
     ensures { Escapes (mode_numbered MODE) (reach LAST N) (at + valid) 1 1 src.now target.old target.new at result.0 to result.1 ticks.old ticks.new }
 {
-    if flags.all_zero() {
+    if mask.all_zero() {
         store::<V, N, LAST>(src, at, valid, target, to);
         return (at + valid, to + valid);
     }
-    if V::LOOKS_UP && are_paid(flags, valid) && are_short::<MODE, N>(src, at, flags) {
-        tick_for_blocks::<V, MODE, N>(src, at, valid, flags, ticks);
-        let end = escape_blocks::<MODE, N>(src, at, valid, flags, target, to);
+    if V::LOOKS_UP && are_paid(mask, valid) && are_short::<MODE, N>(src, at, mask) {
+        tick_for_blocks::<V, MODE, N>(src, at, valid, mask, ticks);
+        let end = escape_blocks::<MODE, N>(src, at, valid, mask, target, to);
         return (at + valid, end);
     }
-    let (passed, end) = turns::<V, MODE, N, LAST>(&src[at..], valid, flags, target, to, ticks);
+    let (passed, end) = escape_by_turns::<V, MODE, N, LAST>(
+        &src[at..],
+        valid,
+        mask,
+        target,
+        to,
+        ticks,
+    );
     (past_border::<MODE>(at + valid, at + passed), end)
 }
 

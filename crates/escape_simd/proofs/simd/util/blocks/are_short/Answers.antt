@@ -6,7 +6,7 @@ use Rattle.escape_simd.proofs.simd.util.blocks.are_short.Goals as goal
 -- not that it is not
 twice : (a b : Bool) → a ≡ not b → not a ≡ true → b ≡ true
 twice a true is denied = refl
-twice a false is denied = sym denied ∙ ap not is
+twice a false is denied = sym (sym denied ∙ ap not is)
 
 pub returns-then-this-ne-HTML_MODE : goal.returns-then-this-ne-HTML_MODE
 returns-then-this-ne-HTML_MODE g c = λ short k h set needed.

@@ -14,6 +14,7 @@ pub(crate) fn display<const MODE: u8, W: fmt::Write>(
     value: &str,
     f: &mut fmt::Formatter<W>,
 ) -> fmt::Result
+    requires mode { MODE ≤ 2 }
     ensures { WritesOnOk W.write_str_gives f.old result
         (plain (mode_numbered MODE) value.now) f.new }
 {
@@ -32,7 +33,8 @@ fn display_itself<const MODE: u8, W: fmt::Write>(
     value: &str,
     f: &mut fmt::Formatter<W>,
 ) -> fmt::Result
-    requires { inner (mode_numbered MODE) value.now ≡ value.now }
+    requires mode { MODE ≤ 2 }
+    requires room { inner (mode_numbered MODE) value.now ≡ value.now }
     ensures { WritesOnOk W.write_str_gives f.old result
         (plain (mode_numbered MODE) value.now) f.new }
 {
@@ -50,6 +52,7 @@ fn display_pieces<const MODE: u8, W: fmt::Write>(
     value: &str,
     f: &mut fmt::Formatter<W>,
 ) -> fmt::Result
+    requires mode { MODE ≤ 2 }
     ensures { WritesOnOk W.write_str_gives f.old result
         (plain (mode_numbered MODE) value.now) f.new }
 {

@@ -12,6 +12,7 @@ pub(crate) fn append_text<const MODE: u8, A: Allocator>(
     value: &str,
     dst: &mut String<A>,
 ) -> Result<(), Refusal>
+    requires mode { MODE ≤ 2 }
     ensures exact { OnOk result (string_bytes dst.new
         ≡ string_bytes dst.old ++ plain (mode_numbered MODE) value.now) }
     ensures unchanged { OnErr result (string_bytes dst.new ≡ string_bytes dst.old) }
@@ -41,7 +42,8 @@ fn push_text<A: Allocator>(text: &str, dst: &mut String<A>)
 
 /// Appends the output for the text to a string that has room for it. Arrays are those of the adapters.
 pub(crate) fn append_output<const MODE: u8, A: Allocator>(value: &str, dst: &mut String<A>)
-    requires { string_len dst.old + length (plain (mode_numbered MODE) value.now)
+    requires mode { MODE ≤ 2 }
+    requires room { string_len dst.old + length (plain (mode_numbered MODE) value.now)
         ≤ string_capacity dst.old }
     ensures { string_bytes dst.new
         ≡ string_bytes dst.old ++ plain (mode_numbered MODE) value.now }
@@ -58,6 +60,7 @@ pub(crate) fn append_output<const MODE: u8, A: Allocator>(value: &str, dst: &mut
 
 /// Appends the output for a text that needs no escape.
 fn append_itself<const MODE: u8, A: Allocator>(value: &str, dst: &mut String<A>)
+    requires mode { MODE ≤ 2 }
     requires itself { inner (mode_numbered MODE) value.now ≡ value.now }
     requires room { string_len dst.old + length (plain (mode_numbered MODE) value.now)
         ≤ string_capacity dst.old }
@@ -72,7 +75,8 @@ fn append_itself<const MODE: u8, A: Allocator>(value: &str, dst: &mut String<A>)
 /// Appends the output for the text piece by piece.
 #[inline(never)]
 fn append_pieces<const MODE: u8, A: Allocator>(value: &str, dst: &mut String<A>)
-    requires { string_len dst.old + length (plain (mode_numbered MODE) value.now)
+    requires mode { MODE ≤ 2 }
+    requires room { string_len dst.old + length (plain (mode_numbered MODE) value.now)
         ≤ string_capacity dst.old }
     ensures { string_bytes dst.new
         ≡ string_bytes dst.old ++ plain (mode_numbered MODE) value.now }

@@ -20,7 +20,8 @@ const END: usize = 64;
 /// write_exact::<{ JSON_MODE }>("a\n", &mut dst[..5]) // dst begins with "a\n", with its quotes
 /// ```
 pub fn write_exact<const MODE: u8>(value: &str, dst: &mut [u8])
-    requires { length dst.old ≡ length (plain (mode_numbered MODE) value.now) }
+    requires mode { MODE ≤ 2 }
+    requires room { length dst.old ≡ length (plain (mode_numbered MODE) value.now) }
     ensures { dst.new ≡ plain (mode_numbered MODE) value.now }
 {
     if dst.len() <= END {
@@ -40,6 +41,7 @@ pub fn write_exact<const MODE: u8>(value: &str, dst: &mut [u8])
 
 /// Writes what is left of an output to `dst` from `at` on, and so to all that is left of `dst`.
 fn write_end<const MODE: u8>(rest: &str, first: bool, dst: &mut [u8], at: usize)
+    requires mode { MODE ≤ 2 }
     requires few { length dst.old ≤ at + END }
     requires ends { at + length (rest_to_write (mode_numbered MODE) (not first) rest.now) ≡ length dst.old }
     ensures { dst.new ≡ take at dst.old ++ rest_to_write (mode_numbered MODE) (not first) rest.now }

@@ -5,7 +5,7 @@ ghost use Rattle.escape_simd.specs.Modes.{mode_numbered};
 ghost use Rattle.escape_simd.specs.Output.{plain, inner, quote_of};
 ghost use Rattle.escape_text.specs.ToWrite.{quote_if, to_write, pieces_left};
 
-use escape_simd::output::{stands_for_itself, write_inner};
+use escape_simd::output::{is_clean, write_inner};
 use escape_simd::simd::HTML_MODE;
 
 /// How many bytes of a long text the adapters, the writers and the calls for a `String` escape at a time,
@@ -30,9 +30,10 @@ pub(crate) const SHORT_ROOM: usize = 508;
 /// marks. A text longer than a front is not asked.
 #[inline(always)]
 pub(crate) fn is_itself<const MODE: u8>(text: &str) -> bool
+    requires mode { MODE ≤ 2 }
     ensures { result ≡ true → inner (mode_numbered MODE) text.now ≡ text.now }
 {
-    text.len() <= FRONT && stands_for_itself::<MODE>(text)
+    text.len() <= FRONT && is_clean::<MODE>(text)
 }
 
 /// A text, and how far the output for it was made.
@@ -65,7 +66,8 @@ impl<'a> Pieces<'a> {
     pub(crate) fn next<'r, const MODE: u8>(&mut self, room: &'r mut [u8]) -> Option<&'r str>
     where
         'a: 'r,
-        requires { ROOM ≤ length room.old }
+        requires mode { MODE ≤ 2 }
+        requires room { ROOM ≤ length room.old }
         ensures piece { IfSome result (λ piece. to_write (mode_numbered MODE) self.old
             ≡ piece.now ++ to_write (mode_numbered MODE) self.new) }
         ensures end { IsNone result → to_write (mode_numbered MODE) self.old ≡ [] }
@@ -76,7 +78,7 @@ impl<'a> Pieces<'a> {
         }
         if self.begun && self.flagged == 0 && !self.rest.is_empty() {
             let (front, behind) = split_front(self.rest, FRONT);
-            if stands_for_itself::<MODE>(front) {
+            if is_clean::<MODE>(front) {
                 self.rest = behind;
                 return Some(front);
             }
@@ -107,7 +109,8 @@ pub(crate) fn split_front(text: &str, most: usize) -> (&str, &str)
 /// Returns the output for a text in the mode numbered `MODE`, written in `room` at once.
 #[inline(always)]
 pub(crate) fn escape_short<'r, const MODE: u8>(text: &str, room: &'r mut [u8]) -> &'r str
-    requires { 6 * length text.now + 34 ≤ length room.old }
+    requires mode { MODE ≤ 2 }
+    requires room { 6 * length text.now + 34 ≤ length room.old }
     ensures { result.now ≡ plain (mode_numbered MODE) text.now }
 {
     escape_piece::<MODE>(text, true, true, room)
@@ -121,7 +124,8 @@ pub(crate) fn escape_piece<'r, const MODE: u8>(
     last: bool,
     room: &'r mut [u8],
 ) -> &'r str
-    requires { 6 * length piece.now + 34 ≤ length room.old }
+    requires mode { MODE ≤ 2 }
+    requires room { 6 * length piece.now + 34 ≤ length room.old }
     ensures { result.now ≡ quote_if (mode_numbered MODE) first
         ++ (inner (mode_numbered MODE) piece.now ++ quote_if (mode_numbered MODE) last) }
 {
@@ -135,6 +139,7 @@ pub(crate) fn escape_piece<'r, const MODE: u8>(
 /// Returns what stands before and after an output: a quotation mark in JSON, also in script mode, and nothing in
 /// HTML.
 pub(crate) fn quote<const MODE: u8>() -> &'static str
+    requires mode { MODE ≤ 2 }
     ensures { result.now ≡ quote_of (mode_numbered MODE) }
 {
     if MODE == HTML_MODE { "" } else { "\"" }
@@ -143,7 +148,8 @@ pub(crate) fn quote<const MODE: u8>() -> &'static str
 /// Writes a quotation mark to `room` where one is wanted, and the mode has any. Returns the place after
 /// it.
 pub(crate) fn quote_at<const MODE: u8>(wanted: bool, room: &mut [u8], at: usize) -> usize
-    requires { at < length room.old }
+    requires mode { MODE ≤ 2 }
+    requires room { at < length room.old }
     ensures end { result ≡ at + length (quote_if (mode_numbered MODE) wanted) }
     ensures written { take result room.new
         ≡ take at room.old ++ quote_if (mode_numbered MODE) wanted }

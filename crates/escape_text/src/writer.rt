@@ -10,6 +10,7 @@ use std::io::{ErrorKind, Result, Write};
 
 /// Writes the output for the text, and does not flush. Arrays are those of the adapters.
 pub(crate) fn write_output<const MODE: u8, W: Write>(value: &str, writer: &mut W) -> Result<()>
+    requires mode { MODE ≤ 2 }
     ensures whole { OnOk result (Appends (W.contents writer.old) (W.contents writer.new)
         (plain (mode_numbered MODE) value.now)) }
     ensures beginning { OnErr result (AppendsBeginning (W.contents writer.old)
@@ -27,7 +28,8 @@ pub(crate) fn write_output<const MODE: u8, W: Write>(value: &str, writer: &mut W
 
 /// Writes the output for a text that needs no escape.
 fn write_itself<const MODE: u8, W: Write>(value: &str, writer: &mut W) -> Result<()>
-    requires { inner (mode_numbered MODE) value.now ≡ value.now }
+    requires mode { MODE ≤ 2 }
+    requires room { inner (mode_numbered MODE) value.now ≡ value.now }
     ensures whole { OnOk result (Appends (W.contents writer.old) (W.contents writer.new)
         (plain (mode_numbered MODE) value.now)) }
     ensures beginning { OnErr result (AppendsBeginning (W.contents writer.old)
@@ -41,6 +43,7 @@ fn write_itself<const MODE: u8, W: Write>(value: &str, writer: &mut W) -> Result
 /// Writes the output for the text piece by piece.
 #[inline(never)]
 fn write_pieces<const MODE: u8, W: Write>(value: &str, writer: &mut W) -> Result<()>
+    requires mode { MODE ≤ 2 }
     ensures whole { OnOk result (Appends (W.contents writer.old) (W.contents writer.new)
         (plain (mode_numbered MODE) value.now)) }
     ensures beginning { OnErr result (AppendsBeginning (W.contents writer.old)

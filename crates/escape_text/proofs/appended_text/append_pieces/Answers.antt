@@ -7,5 +7,5 @@ pieces-init g c =
     let whole = c.of-pieces.ensures (mode_numbered g.row.MODE) in
     record {
       text = ap (λ xs. string_bytes c.args.dst.now ++ xs) whole;
-      room = omega (arith, ap length whole, c.requires);
+      room = omega (arith, ap length whole, c.requires.room);
     }

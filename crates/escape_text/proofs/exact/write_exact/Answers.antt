@@ -14,7 +14,7 @@ pieces-smaller g c =
     let so_far : List ℕ = take c.pieces.at c.pieces.dst in
     let left : List ℕ = rest_to_write mode true rest in
     let whole = ap length c.pieces.invariant.text in
-    let some : 0 < length rest = some-rest_to_write mode rest (omega (arith, whole, length-append so_far left, length-take c.pieces.at c.pieces.dst, c.pieces.invariant.within, c.pieces.auto.dst, c.requires, c.pieces-test.true)) in
+    let some : 0 < length rest = some-rest_to_write mode rest (omega (arith, whole, length-append so_far left, length-take c.pieces.at c.pieces.dst, c.pieces.invariant.within, c.pieces.auto.dst, c.requires.room, c.pieces-test.true)) in
     c.split_front.ensures.shorter some
 
 pub pieces-preserved : goal.pieces-preserved

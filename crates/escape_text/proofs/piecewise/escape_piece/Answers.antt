@@ -7,13 +7,13 @@ use Rattle.escape_text.proofs.piecewise.escape_piece.Goals as goal
 pub write_inner-end-requires : goal.write_inner-end-requires
 write_inner-end-requires g c =
     let quote = length-quote_if (mode_numbered g.row.MODE) c.args.first in
-    omega (arith, quote, c.quote_at-open.ensures.end, c.requires)
+    omega (arith, quote, c.quote_at-open.ensures.end, c.requires.room)
 
 pub quote_at-close-requires : goal.quote_at-close-requires
 quote_at-close-requires g c =
     let mode = mode_numbered g.row.MODE in
     let quote = length-quote_if mode c.args.first in let most = (length-inner mode c.args.piece.now).1 in
-    omega (arith, quote, most, c.quote_at-open.ensures.end, c.write_inner-end.ensures.end, c.requires)
+    omega (arith, quote, most, c.quote_at-open.ensures.end, c.write_inner-end.ensures.end, c.requires.room)
 
 pub from_utf8_unchecked-requires : goal.from_utf8_unchecked-requires
 from_utf8_unchecked-requires g c =

@@ -11,7 +11,7 @@ pub returns-in_err-write_whole-clause-beginning : goal.returns-in_err-write_whol
 returns-in_err-write_whole-clause-beginning g c =
     let mode = mode_numbered g.row.MODE in let q : List ℕ = quote_of mode in let value : List ℕ = c.args.value.now in
     let held = g.W.Write.contents c.args.writer.now in let one = g.W.Write.contents c.write_whole.new.writer in
-    let all : q ++ (value ++ q) ≡ plain mode value = plain-itself mode value c.requires in
+    let all : q ++ (value ++ q) ≡ plain mode value = plain-itself mode value c.requires.room in
     let part = subst (AppendsBeginning held one) (c.as_bytes.ensures.value ∙ c.quote.ensures) c.in_err-write_whole.ensures.beginning in
     after_error c.from_residual.result _ (beginning-first held one (plain mode value) q (value ++ q) all part)
 
@@ -19,7 +19,7 @@ pub returns-in_err-write_whole-2-clause-beginning : goal.returns-in_err-write_wh
 returns-in_err-write_whole-2-clause-beginning g c =
     let mode = mode_numbered g.row.MODE in let q : List ℕ = quote_of mode in let value : List ℕ = c.args.value.now in
     let held = g.W.Write.contents c.args.writer.now in let one = g.W.Write.contents c.write_whole.new.writer in let two = g.W.Write.contents c.write_whole-2.new.writer in
-    let all : q ++ (value ++ q) ≡ plain mode value = plain-itself mode value c.requires in
+    let all : q ++ (value ++ q) ≡ plain mode value = plain-itself mode value c.requires.room in
     let first = subst (Appends held one) (c.as_bytes.ensures.value ∙ c.quote.ensures) c.in_ok-write_whole.ensures.whole in
     let part = subst (AppendsBeginning one two) c.as_bytes-2.ensures.value c.in_err-write_whole-2.ensures.beginning in
     after_error c.from_residual-in_err-write_whole-2.result _ (beginning-after held one two (plain mode value) q value q all first part)
@@ -29,7 +29,7 @@ returns-clause-beginning g c =
     let mode = mode_numbered g.row.MODE in let q : List ℕ = quote_of mode in let value : List ℕ = c.args.value.now in
     let held = g.W.Write.contents c.args.writer.now in let one = g.W.Write.contents c.write_whole.new.writer in
     let two = g.W.Write.contents c.write_whole-2.new.writer in let three = g.W.Write.contents c.write_whole-3.new.writer in
-    let all : q ++ (value ++ q) ≡ plain mode value = plain-itself mode value c.requires in
+    let all : q ++ (value ++ q) ≡ plain mode value = plain-itself mode value c.requires.room in
     let ends : (q ++ value) ++ (q ++ []) ≡ plain mode value = append_assoc q value (q ++ []) ∙ ap (λ xs. q ++ (value ++ xs)) (append-nil q) ∙ all in
     let first = subst (Appends held one) (c.as_bytes.ensures.value ∙ c.quote.ensures) c.in_ok-write_whole.ensures.whole in
     let second = subst (Appends one two) c.as_bytes-2.ensures.value c.in_ok-write_whole-2.ensures.whole in

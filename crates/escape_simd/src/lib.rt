@@ -25,6 +25,7 @@
 
 mod format;
 pub mod html;
+mod io_errors;
 pub mod json;
 mod kernel;
 mod mode;

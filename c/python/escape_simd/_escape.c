@@ -45,14 +45,19 @@ static void write_bytes(struct output *output, const unsigned char *piece, size_
 }
 
 static void measure_characters(struct output *output, const unsigned char *piece, size_t count) {
-    unsigned characters = 0, greatest = output->greatest;
-    size_t at;
-    for (at = 0; at < count; at++) {
-        characters += (piece[at] & 0xc0) != 0x80;
-        greatest = piece[at] > greatest ? piece[at] : greatest;
+    const unsigned char *end = piece + count;
+    while (piece < end) {
+        /* Sums of so few are bytes, of which a vector has many. */
+        size_t few = end - piece < 128 ? (size_t)(end - piece) : 128, at;
+        unsigned char characters = 0, greatest = 0;
+        for (at = 0; at < few; at++) {
+            characters += (piece[at] & 0xc0) != 0x80;
+            greatest = piece[at] > greatest ? piece[at] : greatest;
+        }
+        output->size += characters;
+        if (greatest > output->greatest) output->greatest = greatest;
+        piece += few;
     }
-    output->size += characters;
-    output->greatest = (unsigned char)greatest;
 }
 
 static void write_characters(struct output *output, const unsigned char *piece, size_t count) {

@@ -1,6 +1,4 @@
-/* How long the calls take: each text by the checked call, by the unchecked one, and copied by memcpy. A
- * line has nanoseconds for a text, best of many rounds, and what of the checked call's time the check for
- * UTF-8 takes. */
+/* Nanoseconds for a text by the calls from C, best of many rounds, as the rows of a table of docs/C.md. */
 #include "escape.h"
 
 #include <stdio.h>
@@ -62,28 +60,26 @@ int main(void) {
     static const struct { const char *name; size_t every; int wide; } CORPORA[] = {
         {"clean ASCII", 0, 0}, {"a quotation mark every 60 bytes", 60, 0}, {"Cyrillic letters", 0, 1}};
     static const size_t SIZES[] = {20, 1024, 1 << 20};
-    static const struct { const char *name; call *checked, *unchecked; size_t (*bound)(size_t); } MODES[] = {
-        {"json", escape_json, escape_json_unchecked, escape_json_bound},
-        {"html", escape_html, escape_html_unchecked, escape_html_bound},
-        {"script", escape_script, escape_script_unchecked, escape_script_bound}};
-    size_t m, c, s;
-    puts("| mode | text | bytes | checked, ns | unchecked, ns | memcpy, ns | of it the check |");
-    puts("|---|---|--:|--:|--:|--:|--:|");
-    for (m = 0; m < 3; m++)
-        for (c = 0; c < 3; c++)
-            for (s = 0; s < 3; s++) {
-                size_t length = SIZES[s], texts = length < 65536 ? 65536 / length : 1;
-                size_t room = MODES[m].bound(length), n;
-                char *text = malloc(texts * length), *buffer = malloc(room);
-                double checked, unchecked, copied;
-                if (!text || !buffer) return 1;
-                for (n = 0; n < texts; n++) fill(text + n * length, length, n, CORPORA[c].every, CORPORA[c].wide);
-                memset(buffer, 0, room);
-                checked = measured(MODES[m].checked, text, length, texts, buffer, room);
-                unchecked = measured(MODES[m].unchecked, text, length, texts, buffer, room);
-                copied = measured(copy, text, length, texts, buffer, room);
-                printf("| %s | %s | %zu | %.1f | %.1f | %.1f | %.0f%% |\n", MODES[m].name, CORPORA[c].name, length, checked, unchecked, copied, 100 * (checked - unchecked) / checked);
-                free(text), free(buffer);
-            }
+    static const struct { call *call; size_t (*bound)(size_t); } CALLS[] = {
+        {escape_json, escape_json_bound}, {escape_json_unchecked, escape_json_bound},
+        {escape_html, escape_html_bound}, {escape_html_unchecked, escape_html_bound}, {copy, escape_json_bound}};
+    static const char *const SHOWN[] = {"20", "1 KiB", "1 MiB"};
+    size_t way, c, s, n;
+    puts("| text | bytes | JSON | JSON, unchecked | HTML | HTML, unchecked | `memcpy` |");
+    puts("|---|--:|--:|--:|--:|--:|--:|");
+    for (c = 0; c < 3; c++)
+        for (s = 0; s < 3; s++) {
+            size_t length = SIZES[s], texts = length < 65536 ? 65536 / length : 1, room = escape_json_bound(length);
+            char *text = malloc(texts * length), *buffer = malloc(room);
+            if (!text || !buffer) return 1;
+            for (n = 0; n < texts; n++) fill(text + n * length, length, n, CORPORA[c].every, CORPORA[c].wide);
+            memset(buffer, 0, room);
+            printf("| %s | %s |", CORPORA[c].name, SHOWN[s]);
+            for (way = 0; way < sizeof CALLS / sizeof *CALLS; way++)
+                printf(" %.0f |", measured(CALLS[way].call, text, length, texts, buffer, CALLS[way].bound(length)));
+            puts("");
+            fflush(stdout);
+            free(text), free(buffer);
+        }
     return 0;
 }

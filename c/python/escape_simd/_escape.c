@@ -82,9 +82,16 @@ static size_t piece_length(const char *text, size_t length) {
     return length;
 }
 
+/* Lets other threads of Python run, if there is as much to do. Until let_none_run nothing of Python may be called. */
+static PyThreadState *let_others_run(size_t bytes) { return bytes > RELEASE ? PyEval_SaveThread() : NULL; }
+
+static void let_none_run(PyThreadState *thread) {
+    if (thread) PyEval_RestoreThread(thread);
+}
+
 /* Escapes the text and hands its pieces on. Returns whether the text is UTF-8. */
 static int escape_pieces(call *escape, const char *text, size_t length, take *take, struct output *output) {
-    PyThreadState *thread = length > RELEASE ? PyEval_SaveThread() : NULL;
+    PyThreadState *thread = let_others_run(length);
     unsigned char piece[ROOM];
     int is_utf8 = 1;
     while (length && is_utf8) {
@@ -95,7 +102,7 @@ static int escape_pieces(call *escape, const char *text, size_t length, take *ta
         text += next;
         length -= next;
     }
-    if (thread) PyEval_RestoreThread(thread);
+    let_none_run(thread);
     return is_utf8;
 }
 
@@ -122,12 +129,15 @@ static void write_quotes(PyObject *output) {
 
 /* Returns the output for a str of which nothing is escaped. */
 static PyObject *escape_clean(const struct mode *mode, PyObject *text) {
-    Py_ssize_t length = PyUnicode_GET_LENGTH(text), quotes = (Py_ssize_t)mode->quotes;
+    size_t length = (size_t)PyUnicode_GET_LENGTH(text), quotes = mode->quotes, kind = PyUnicode_KIND(text);
     PyObject *output;
+    PyThreadState *thread;
     if (!quotes && PyUnicode_CheckExact(text)) return Py_INCREF(text), text;
-    output = PyUnicode_New(length + 2 * quotes, PyUnicode_MAX_CHAR_VALUE(text));
-    if (!output || !length) return output;
-    if (PyUnicode_CopyCharacters(output, quotes, text, 0, length) < 0) return Py_DECREF(output), NULL;
+    output = PyUnicode_New((Py_ssize_t)(length + 2 * quotes), PyUnicode_MAX_CHAR_VALUE(text));
+    if (!output) return NULL;
+    thread = let_others_run(length * kind);
+    memcpy((char *)PyUnicode_DATA(output) + quotes * kind, PyUnicode_DATA(text), length * kind);
+    let_none_run(thread);
     if (quotes) write_quotes(output);
     return output;
 }

@@ -1,4 +1,5 @@
-"""Tests of the package escape_simd. Prints `passed NAME`, `failed NAME` or `skipped NAME`; tools/wheel --test runs it."""
+"""Tests of the package escape_simd, which tools/wheel --test installs. Prints `passed NAME`, `failed NAME` or `skipped
+NAME` for each test, and at the end `N passed, M failed, K skipped`."""
 
 import ast
 import doctest
@@ -494,21 +495,19 @@ def test_what_it_says():
 
 
 def main():
-    failed = 0
+    counts = {"passed": 0, "failed": 0, "skipped": 0}
     for test in [test for name, test in list(globals().items()) if name.startswith("test_")]:
-        name = "Python %d.%d: %s" % (sys.version_info[:2] + (test.__doc__,))
+        name, ended = "Python %d.%d: %s" % (sys.version_info[:2] + (test.__doc__,)), "passed"
         try:
             test()
-        except Skipped as why:
-            print("skipped", name, "(%s)" % why)
+        except Skipped as said:
+            ended, name = "skipped", "%s: %s" % (name, said)
         except Exception as error:
-            failed = 1
-            print("failed", name)
-            print("  %s: %.300s" % (type(error).__name__, error))
-        else:
-            print("passed", name)
-        sys.stdout.flush()
-    return failed
+            ended, name = "failed", "%s: %s: %.300s" % (name, type(error).__name__, error)
+        counts[ended] += 1
+        print(ended, name, flush=True)
+    print("%(passed)d passed, %(failed)d failed, %(skipped)d skipped" % counts)
+    return counts["failed"] != 0
 
 
 sys.exit(main())

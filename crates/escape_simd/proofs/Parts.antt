@@ -15,7 +15,7 @@ use Rattle.escape_lanes.specs.Written.{bytes_of}
 use Rattle.escape_lanes.specs.declared.simd.target.Target.{Target}
 use Rattle.escape_simd.specs.Output.{inner, quote_of}
 use Rattle.escape_simd.specs.Parts.{IsAnswer, IsFront, IsPartAt}
-use Rattle.escape_simd.specs.Stretch.{AreLast, HoldsFlags, reach}
+use Rattle.escape_simd.specs.Stretch.{AreTail, HoldsFlags, reach}
 use Rattle.escape_simd.proofs.Costs.{BodySoFar}
 use Rattle.escape_simd.proofs.Lanes.{CleanFrom, clean-list, held-none, none_set-joined}
 use Rattle.escape_simd.proofs.Last.{last-mask, last-short}
@@ -81,7 +81,7 @@ module _ (mode : Mode) (n : ℕ) (text lanes : List ℕ) (truths whole bits : Li
   held-one = let h = last-mask mode n text lanes 0 truths whole bits in grind arith
 
   -- they are what is escaped by its mask
-  pub one-last : (none : List Bool) → AreLast mode n text none bits
+  pub one-last : (none : List Bool) → AreTail mode n text none bits
   one-last none =
       let e : length text ≡ length text - 0 = omega arith in
       last-short mode n text text 0 none bits refl (omega arith) (omega (arith, few)) (subst (λ k. HoldsFlags mode text 0 k 0 bits) e held-one)

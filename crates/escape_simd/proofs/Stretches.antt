@@ -130,9 +130,10 @@ module _ {N : ℕ} (is_html : Bool) {slack : ℕ} {src : List ℕ} {old new : Ta
   pub stretch-end : end ≡ to + length (inner (mode_of is_html) (slice_range src at next))
   stretch-end = grind (arith, rest-is, parts, length-append {A = ℕ}, slice_range)
 
--- a vector whose first lanes are a text was pasted in: it is stored
-pub stored_from_paste : {N : ℕ} {slack : ℕ} {text lanes : List ℕ} {old new : Target N} {to : ℕ} → Writes 1 0 0 old new to lanes → length text ≤ length lanes → length lanes ≤ length text + slack → to + length lanes ≤ length (bytes_of old)
-    → take (length text) lanes ≡ text → IsStored slack text old new 0 (length text) to
-stored_from_paste {text = text} {lanes = lanes} {old = old} {to = to} w some few room loaded =
-    let is = w.bytes ∙ append_assoc (take to (bytes_of old)) (take (length lanes) lanes) (drop (to + length lanes) (bytes_of old)) in
-    grind (arith, is, take_at, drop_at, take-append-le, take-take (length text) (length lanes) lanes some, take_all, length-take-le {A = ℕ}, drop_further, drop-paste)
+-- lanes that begin with a text were pasted in: a vector of it is stored
+pub stored_from_paste : {N : ℕ} {slack : ℕ} {text : List ℕ} {old new : Target N} {to n : ℕ} (lanes : List ℕ) → IsSameSlice old new → bytes_of new ≡ paste (bytes_of old) to lanes n
+    → stored_of new ≡ stored_of old + 1 → escaped_of new ≡ escaped_of old → quotes_of new ≡ quotes_of old → writes_of new ≡ writes_of old + 1
+    → length text ≤ n → n ≤ length lanes → n ≤ length text + slack → to + n ≤ length (bytes_of old) → take (length text) lanes ≡ text → IsStored slack text old new 0 (length text) to
+stored_from_paste {text = text} {old = old} {to = to} {n = n} lanes same bytes stored escaped quotes writes some long few room loaded =
+    let is = bytes ∙ append_assoc (take to (bytes_of old)) (take n lanes) (drop (to + n) (bytes_of old)) in
+    grind (arith, is, take_at, drop_at, take-append-le, take-take (length text) n lanes some, take_all, length-take-le {A = ℕ}, drop_further, drop-paste)

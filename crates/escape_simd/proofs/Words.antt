@@ -21,10 +21,12 @@ pub use Rattle.escape_lanes.specs.Entry.{entry_bytes, entry_count, padded}
 pub use Rattle.escape_lanes.specs.Mode.{Mode, html, json, mode_of, script}
 unfoldable pub use Rattle.escape_lanes.specs.Replacement.{replacement}
 pub use Rattle.escape_lanes.specs.Replacement.{control_escape, needs_escape}
+unfoldable pub use Rattle.escape_lanes.specs.Short.{shortened}
+pub use Rattle.escape_lanes.specs.Short.{is_long}
+unfoldable pub use Rattle.escape_lanes.specs.Spread.{flagged_blocks, put_apart}
+pub use Rattle.escape_lanes.specs.Spread.{IsBlock, flag_count}
 pub use Rattle.escape_lanes.specs.Written.{IsSameSlice, Writes, bytes_of, escaped_of, quotes_of, stored_of, writes_of}
 pub use Rattle.escape_lanes.specs.declared.simd.target.Target.{Target}
-unfoldable pub use Rattle.escape_simd.specs.Blocks.{put_apart, shortened}
-pub use Rattle.escape_simd.specs.Blocks.{IsBlock, flag_count, short_letter}
 pub use Rattle.escape_simd.specs.Escaping.{IsEscaping, IsHarmless, IsOneLine}
 pub use Rattle.escape_simd.specs.Formatted.{IsFormatted, IsInnerAt, IsInnerWritten, IsQuoted, IsWritten}
 unfoldable pub use Rattle.escape_simd.specs.Html.{entity_of}
@@ -42,5 +44,5 @@ pub use Rattle.escape_simd.specs.Runs.{escaped_count, run_count, run_count_after
 pub use Rattle.escape_simd.specs.Script.{HasNoRawMark, IsOnlyScript, IsSafeInScript, IsScriptFree, IsScriptItem, IsShortestScript, is_script_marked}
 pub use Rattle.escape_simd.specs.Spelling.{IsTextOf, Spells}
 unfoldable pub use Rattle.escape_simd.specs.Stretch.{rest_length}
-pub use Rattle.escape_simd.specs.Stretch.{AreLast, AreShort, BeginsRun, CanStore, CleanAhead, Cost, Escaped, Escapes, HasBlocks, HasLanesFrom, HasRest, HasVectors, HoldsFlags, InRun, IsByteWise, IsFinished, IsFlaggedAt, IsLeftAt, IsRun, IsStored, IsVectorAt, IsVectorEnd, Passed, Stretch, reach, run_end, run_reach}
+pub use Rattle.escape_simd.specs.Stretch.{AreTail, AreShort, BeginsRun, CanStore, CleanAhead, Cost, Escaped, Escapes, HasBlocks, HasLanesFrom, HasTail, HasVectors, HoldsFlags, InRun, IsByteWise, IsFinished, IsFlaggedAt, IsLeftAt, IsRun, IsStored, IsVectorAt, IsVectorEnd, Passed, Stretch, reach, run_end, run_reach}
 pub use mir.Syntax.{w8}

@@ -6,7 +6,6 @@ pub mod Modes
 pub mod Output
 pub mod Runs
 pub mod Stretch
-pub mod Blocks
 pub mod Formatted
 pub mod Parts
 pub mod Lengths

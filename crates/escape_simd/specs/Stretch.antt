@@ -180,13 +180,13 @@ pub record HasVectors (N vectors : ℕ) (src : List ℕ) (at from to size : ℕ)
   pub room : to + 6 * (at + vectors * N - from) + N ≤ size
 
 -- The bytes of a text from `at` on are fewer than two vectors have, and there is room for what they become.
-pub record HasRest (N : ℕ) (src : List ℕ) (at to size : ℕ) : Type 0 where
+pub record HasTail (N : ℕ) (src : List ℕ) (at to size : ℕ) : Type 0 where
   pub inside : at ≤ length src
   pub few : length src < at + 2 * N
   pub room : to + 6 * (length src - at) + reach true N ≤ size
 
 -- A short text, with the flags of its last vector, and where it has as many bytes as one, those of its first one.
-pub record AreLast (mode : Mode) (N : ℕ) (text : List ℕ) (first last : List Bool) : Type 0 where
+pub record AreTail (mode : Mode) (N : ℕ) (text : List ℕ) (first last : List Bool) : Type 0 where
   pub few : length text < 2 * N
   pub front : N ≤ length text → HoldsFlags mode text 0 N 0 first
   pub back : HoldsFlags mode text (length text - N) (min (length text) N) (length text - N) last
@@ -201,13 +201,11 @@ abbrev pub AreShort : Mode → ℕ → List ℕ → ℕ → List Bool → Type 0
 AreShort mode n src at bits =
     (k : ℕ) → k < n → slice_index_or bits k false ≡ true → needs_escape mode (slice_index src (at + k)) ≡ true → length (replacement mode (slice_index src (at + k))) ≡ 2
 
--- a vector's first `valid` bytes can be escaped by blocks: some are flagged, and each of these has a short escape
-pub record HasBlocks (mode : Mode) (N : ℕ) (src : List ℕ) (at valid to size : ℕ) (bits : List Bool) : Type 0 where
+-- a text's `valid` bytes can be escaped by blocks: some are flagged, and each of these has a short escape
+pub record HasBlocks (mode : Mode) (src : List ℕ) (at valid to size : ℕ) (bits : List Bool) : Type 0 where
   pub flags : HoldsFlags mode src at valid at bits
   pub some : none_set bits ≡ false
-  pub short : AreShort mode N src at bits
-  pub sixteens : N ≡ 16 * (N / 16)
-  pub most : N ≤ 64
-  pub few : valid ≤ N
-  pub inside : at + N ≤ length src
+  pub short : AreShort mode valid src at bits
+  pub few : valid ≤ 64
+  pub inside : at + valid + 16 ≤ length src
   pub room : to + 2 * valid + 16 ≤ size

@@ -9,9 +9,10 @@ use crate::output::front::append_front;
 use crate::output::in_place::{append_flagged, append_in_place};
 use crate::output::push::{push_quote, push_vector};
 use crate::output::{N, V};
-use crate::simd::Vector;
+use crate::simd::load;
+use escape_lanes::simd::classify::flags;
 use escape_lanes::simd::target::Ticks;
-use escape_lanes::simd::{BitMask, Flags};
+use escape_lanes::simd::{BitMask, Flags, LoadLast};
 use std::alloc::Allocator;
 
 /// Appends what stands for the bytes of a text shorter than a vector: from a register where none needs an
@@ -26,9 +27,11 @@ fn append_one<const MODE: u8, A: Allocator>(text: &[u8], dst: &mut Vec<u8, A>)
     let count = text.len();
     let v = V::load_last(text, count);
     let mut ticks = Ticks::new();
-    let flags = v.flags(MODE, &mut ticks).bits().clear_high_bits(64 - count);
+    let flags = flags::<V, MODE, N>(&v, &mut ticks)
+        .bits()
+        .clear_high_bits(64 - count);
     if !flags.all_zero() {
-        return append_flagged::<MODE, A>(text, 0, flags, dst);
+        return append_flagged::<MODE, A>(text, dst);
     }
     let len = dst.len();
     push_vector(dst, len, &v);
@@ -46,13 +49,13 @@ fn append_two<const MODE: u8, A: Allocator>(text: &[u8], dst: &mut Vec<u8, A>)
         ++ (inner (mode_numbered MODE) text.now ++ quote_of (mode_numbered MODE)) }
 {
     let last = text.len() - N;
-    let v1 = V::load(text, 0);
-    let v2 = V::load(text, last);
+    let v1 = load::<V, N>(text, 0);
+    let v2 = load::<V, N>(text, last);
     let mut ticks = Ticks::new();
-    let flags1 = v1.flags(MODE, &mut ticks);
-    let flags2 = v2.flags(MODE, &mut ticks);
+    let flags1 = flags::<V, MODE, N>(&v1, &mut ticks);
+    let flags2 = flags::<V, MODE, N>(&v2, &mut ticks);
     if !flags1.join(&flags2).none() {
-        return append_flagged::<MODE, A>(text, flags1.bits(), flags2.bits(), dst);
+        return append_flagged::<MODE, A>(text, dst);
     }
     let len = dst.len();
     push_vector(dst, len, &v1);

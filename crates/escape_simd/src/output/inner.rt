@@ -7,7 +7,7 @@ ghost use Rattle.escape_simd.specs.Modes.{mode_numbered};
 ghost use Rattle.escape_simd.specs.Output.{inner};
 
 use crate::output::{N, V};
-use crate::simd::{Vector, escape_at, flags_at};
+use crate::simd::{escape_at, flags_at};
 use escape_lanes::simd::target::Ticks;
 use escape_lanes::simd::{BitMask, Flags};
 

@@ -11,10 +11,11 @@ ghost use Rattle.escape_simd.specs.Stretch.{HoldsFlags, IsFlaggedAt};
 use crate::output::inner::is_clean_chunk;
 use crate::output::{N, V};
 use crate::simd::entry::{entry, is_separator};
-use crate::simd::{HTML_MODE, SCRIPT_MODE, Vector, flags_at};
+use crate::simd::{HTML_MODE, SCRIPT_MODE, flags_at};
+use escape_lanes::simd::classify::flags;
 use escape_lanes::simd::lane_bits::clear_first_lane;
 use escape_lanes::simd::target::Ticks;
-use escape_lanes::simd::{BitMask, Flags};
+use escape_lanes::simd::{BitMask, Flags, LoadLast};
 
 /// Returns how many bytes more than itself stand for the flagged byte at `at`, or for the separator that
 /// begins with it.
@@ -94,7 +95,7 @@ fn rest_len<const MODE: u8>(src: &[u8], at: usize) -> usize
 {
     let count = src.len() - at;
     let mut ticks = Ticks::new();
-    let flags = V::load_last(src, count).flags(MODE, &mut ticks).bits();
+    let flags = flags::<V, MODE, N>(&V::load_last(src, count), &mut ticks).bits();
     flagged_len::<MODE>(src, at, count, flags.clear_high_bits(64 - count))
 }
 

@@ -4,7 +4,7 @@ ghost use Rattle.escape_simd.specs.Modes.{mode_numbered};
 ghost use Rattle.escape_simd.specs.Output.{quote_of};
 
 use crate::output::{N, V};
-use crate::simd::{HTML_MODE, Vector};
+use crate::simd::{HTML_MODE, Simd, load};
 use std::alloc::Allocator;
 
 /// How many bytes of a vector are filled with zeros at a time, if it has room for them.
@@ -65,11 +65,11 @@ pub(super) fn fill<A: Allocator>(dst: &mut Vec<u8, A>, len: usize)
 #[inline(always)]
 pub(super) fn push_vector<A: Allocator>(dst: &mut Vec<u8, A>, len: usize, v: &V)
     requires { (len ≤ vec_len dst.old) × (len + N ≤ vec_capacity dst.old) }
-    ensures items { dst.new.items ≡ take len dst.old.items ++ ⟦<V as Vector<32>>⟧.lanes v.now }
+    ensures items { dst.new.items ≡ take len dst.old.items ++ ⟦<V as Simd>⟧.lanes v.now }
     ensures capacity { vec_capacity dst.old ≤ vec_capacity dst.new }
 {
     let mut lanes = [0u8; N];
-    v.put(&mut lanes);
+    v.storeu(&mut lanes);
     dst.truncate(len);
     push_all(dst, &lanes);
 }
@@ -84,7 +84,7 @@ pub(super) fn lanes_at(src: &[u8], from: usize) -> [u8; N]
     ensures { result ≡ take N (drop from src.now) }
 {
     let mut lanes = [0u8; N];
-    V::load(src, from).put(&mut lanes);
+    load::<V, N>(src, from).storeu(&mut lanes);
     lanes
 }
 

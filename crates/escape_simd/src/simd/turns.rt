@@ -5,9 +5,9 @@ ghost use Rattle.escape_lanes.specs.Written.{bytes_of};
 ghost use Rattle.escape_simd.specs.Modes.{mode_numbered};
 ghost use Rattle.escape_simd.specs.Stretch.{CanStore, Escapes, IsFinished, IsStored, IsVectorAt, IsVectorEnd, reach};
 
+use crate::simd::Vector;
 use crate::simd::store::{store, tick};
 use crate::simd::util::escape_run;
-use crate::simd::vector::Vector;
 use escape_lanes::simd::BitMask;
 use escape_lanes::simd::target::{Target, Ticks};
 

@@ -11,8 +11,8 @@ ghost use Rattle.escape_simd.specs.Stretch.{BeginsRun, Escaped, HoldsFlags, InRu
 mod blocks;
 
 use crate::simd::entry::{entry, is_separator, separator_entry};
-use crate::simd::vector::{HTML_MODE, JSON_MODE, SCRIPT_MODE};
-pub(crate) use blocks::{are_short, escape_blocks};
+use crate::simd::{HTML_MODE, JSON_MODE, SCRIPT_MODE};
+pub(crate) use blocks::{are_paid, are_short, escape_blocks};
 use escape_lanes::simd::BitMask;
 use escape_lanes::simd::lane_bits::clear_first_lane;
 use escape_lanes::simd::target::Target;

@@ -25,5 +25,6 @@ pub mod ScriptLemmas
 pub mod OutputLemmas
 pub mod Pieces
 pub mod EscapingLemmas
+pub mod MarkupLaws
 pub mod PlainLaws
 pub mod JoinedLemmas

@@ -16,6 +16,8 @@ pub mod Json
 pub mod Script
 pub mod Headline
 pub mod Laws
+pub mod Markup
 pub mod Escaping
 pub mod Messages
 pub mod Refusals
+pub mod IoKinds

@@ -19,4 +19,4 @@ pub(crate) use body::{escape_at, escape_chunks};
 pub(crate) use chunk::flags_at;
 pub use escape_lanes::simd::vector::{HTML_MODE, JSON_MODE, SCRIPT_MODE};
 pub use escape_lanes::simd::{BitMask, Flags, LoadLast, Mask, Simd, Vector, bits, target};
-pub(crate) use store::load;
+pub(crate) use store::{load, load_last};

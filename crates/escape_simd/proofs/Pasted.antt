@@ -46,6 +46,10 @@ module _ {mode : Mode} {src : List ℕ} (f : ℕ) {at valid to size : ℕ} (h : 
   first : get_or bits (first_set bits) false ≡ true
   first = first_set-here bits h.some
 
+  -- it is one of a byte's
+  pub first-valid : first_set bits < valid
+  first-valid = (h.flags.set (first_set bits) first).0
+
   -- the mode has short escapes
   clean : KeepsClean mode
   clean = let t = h.flags.set (first_set bits) first in keeps-clean mode (get_or src (at + first_set bits) 0) (h.short (first_set bits) t.0 first t.1)

@@ -49,16 +49,20 @@ pub(crate) fn escape_blocks<const MODE: u8, const N: usize>(
     target: &mut Target<'_, N>,
     to: usize,
 ) -> usize
-    requires { HasBlocks (mode_numbered MODE) src.now at valid to (length (bytes_of target.old)) (bits_of 64 flags) }
+    requires blocks { HasBlocks (mode_numbered MODE) src.now at valid to (length (bytes_of target.old)) (bits_of 64 flags) }
+    requires fits { valid ≤ N }
     ensures stretch { Stretch (mode_numbered MODE) 16 src.now target.old target.new at (at + valid) to result }
     ensures stored { stored_of target.new + flagged_blocks 8 (bits_of 64 flags) ≡ stored_of target.old + (valid + 7) / 8 }
 {
     let mut end = to;
     let mut block = 0;
-    'blocks: while 8 * block < valid {
+    'blocks: while 8 * block < N {
         let bytes = shorten(src, at + 8 * block);
         end = target.escape_block(end, bytes, eight_lanes(flags, block));
         block += 1;
+        if valid <= 8 * block {
+            break;
+        }
     }
     end - (8 * block - valid)
 }

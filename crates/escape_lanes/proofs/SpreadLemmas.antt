@@ -93,7 +93,7 @@ block-looked_up flags v eight whole =
 -- Flagged blocks
 
 -- a block has a flag where its byte isn't 0, by computation for each of the 256
-byte-none : (x : ℕ) → nat_eq (flag_count (bits_of 8 x)) 0 ≡ nat_eq (x % 256) 0
+pub byte-none : (x : ℕ) → nat_eq (flag_count (bits_of 8 x)) 0 ≡ nat_eq (x % 256) 0
 unfolding bits_of
 byte-none x = ap (λ bs. nat_eq (flag_count bs) 0) (sym (bits-low 8 x)) ∙ agree_below_at (λ b. nat_eq (flag_count (bits_of 8 b)) 0) (λ b. nat_eq b 0) 256 (x % 256) refl (omega arith)
 

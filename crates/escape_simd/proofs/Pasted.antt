@@ -1,5 +1,5 @@
 -- A vector escaped in blocks, block after block.
-use Rattle.std.proofs.Common.{◌≡◌, ℕ, ◌+◌, ◌-◌, ◌*◌, ◌/◌, ◌<◌, ◌≤◌, min, Bool, true, false, cond, not, ◌&&◌, ◌||◌, List, [], ◌++◌, length, take, drop, map, replicate, nat_eq, get_or, sym, ap, ◌∙◌, arith, length-append, length-take-le, length-drop}
+use Rattle.std.proofs.Common.{◌≡◌, ℕ, ◌+◌, ◌-◌, ◌*◌, ◌/◌, ◌<◌, ◌≤◌, min, Bool, true, false, cond, not, ◌&&◌, ◌||◌, List, [], ◌++◌, length, take, drop, map, replicate, nat_eq, get_or, refl, sym, ap, ◌∙◌, arith, length-append, length-take-le, length-drop}
 use Rattle.escape_simd.proofs.Words.{IsWithin, Tells, cases_Bool, paste, nat_tests, drop-drop, length-map, take-map, take-take, get_or-take, get_or-drop, get_or_past, bits_of, first_set, length-bits_of, Mode, bytes_of, stored_of, Target, shortened, flag_count, flagged_blocks, put_apart, IsBlock, Stretch, HasBlocks}
 use Rattle.std.proofs.lemmas.Simd.{length-replicate}
 use Rattle.std.proofs.lemmas.List.Sums.{count_by-le-length}
@@ -41,7 +41,6 @@ pub record AreDone {N : ℕ} (mode : Mode) (src : List ℕ) (bits : List Bool) (
 -- classified.
 pub record BlocksSoFar {N : ℕ} (mode : Mode) (src : List ℕ) (bits : List Bool) (old new : Target N) (at valid to end blocks : ℕ) (own : List ℕ) (used : Bool) (ticks_old ticks_new : ℕ) : Type 0 where
   pub done : AreDone mode src bits old new at valid to end blocks
-  pub more : 8 * blocks < valid
   pub own_left : used ≡ false → IsWithin (take valid (drop at src)) own
   pub unused : used ≡ false → stored_of new ≡ stored_of old
   pub some : used ≡ true → stored_of old + 1 ≤ stored_of new
@@ -145,6 +144,21 @@ module _ {mode : Mode} {src : List ℕ} (f : ℕ) {at valid to size : ℕ} (h : 
             few = omega (arith, more);
           }
 
+  -- with its classification
+  pub blocks-next : {N : ℕ} {old mid new : Target N} {p block end ticks_old ticks ticks2 : ℕ} {own own2 : List ℕ} {used flagged used2 : Bool} {fs : List Bool} → ((i : ℕ) → get_or src i 0 < 256) → size ≡ length (bytes_of old)
+      → BlocksSoFar mode src bits old mid at valid to p block own used ticks_old ticks → 8 * block < valid → fs ≡ take 8 (drop (8 * block) bits)
+      → IsBlock fs (take 8 (map shortened (take 16 (drop (at + 8 * block) src)))) mid new p end → flagged ≡ not (nat_eq (flag_count fs) 0) → used2 ≡ (used || not flagged) → ticks2 ≡ ticks + cond (not flagged && used) 1 0
+      → (used2 ≡ false → IsWithin (take valid (drop at src)) own2) → BlocksSoFar mode src bits old new at valid to end (block + 1) own2 used2 ticks_old ticks2
+  blocks-next {old = old} {mid = mid} {new = new} {ticks_old = ticks_old} {ticks = ticks} {ticks2 = ticks2} {used = used} {flagged = flagged} {used2 = used2} {fs = fs} bytes size_is b more told w f u t left =
+      let counts = block-counts ticks_old 0 0 ticks ticks2 (flag_count fs) (stored_of old) (stored_of mid) (stored_of new) used flagged used2 f u t w.written.stored b.unused b.some b.counted in
+      record {
+        done = done-block bytes size_is b.done more refl told w;
+        own_left = left;
+        unused = counts.0.0;
+        some = counts.0.1;
+        counted = counts.1;
+      }
+
   -- the last block
   module _ {N : ℕ} {old new : Target N} {end blocks : ℕ} (d : AreDone mode src bits old new at valid to end blocks) (over : valid ≤ 8 * blocks) where
     -- all of it is a stretch
@@ -158,3 +172,8 @@ module _ {mode : Mode} {src : List ℕ} (f : ℕ) {at valid to size : ℕ} (h : 
         let none = blocks-none (8 - blocks) (drop (8 * blocks) bits) (λ i s. let t = h.flags.set (8 * blocks + i) (sym (get_or-drop (8 * blocks) bits i false) ∙ s) in absurd (omega (arith, t, over))) in
         let parts = rw all at (blocks-onward blocks (8 - blocks) bits) in
         omega (arith, d.stored, d.few, over, none, parts)
+
+    -- each of them but the first was classified
+    pub done-ticks : {own : List ℕ} {used : Bool} {ticks_old ticks_new : ℕ} → BlocksSoFar mode src bits old new at valid to end blocks own used ticks_old ticks_new → ticks_new ≡ ticks_old + ((valid + 7) / 8 - (flagged_blocks 8 bits + 1))
+    done-ticks {used = true} b = omega (arith, b.counted, b.some refl, done-stored)
+    done-ticks {used = false} b = omega (arith, b.counted, b.unused refl, done-stored)

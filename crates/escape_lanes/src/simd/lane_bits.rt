@@ -1,7 +1,7 @@
 //! The flags of a vector as a number, a bit for each lane: how a body goes through them.
 ghost use Rattle.std.specs.Prelude.{◌≡◌, ◌+◌, ◌*◌, ◌<◌, ◌≤◌, ◌++◌, false, not, nat_eq, take, drop, replicate};
 ghost use Rattle.escape_lanes.specs.Bits.{bits_of, first_set, none_set, clear_first, gaps};
-ghost use Rattle.escape_lanes.specs.Spread.{flagged_blocks};
+ghost use Rattle.escape_lanes.specs.Spread.{flag_count, flagged_blocks};
 
 use crate::simd::traits::BitMask;
 

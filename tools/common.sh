@@ -69,7 +69,9 @@ set_crates() {
   done
 }
 
+# Whether the crate is a program; and whether it is a library for other crates.
 is_program() { [ -e "$top/crates/$1/src/main.rt" ]; }
+is_library() { ! is_program "$1" && ! grep -q "^$1 staticlib" "$top/crates.txt"; }
 
 # Sets level: to $ESCAPE_LEVEL if that is set; else to the highest level that a program here is built for,
 # x86-64-v3 where the processor has all of it, else x86-64-v2. It starts no process.

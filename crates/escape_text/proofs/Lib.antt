@@ -1,3 +1,4 @@
-pub mod ToWrite
 pub mod WriterLemmas
+pub mod SinkLemmas
+pub mod QuoteLemmas
 pub mod ScriptLists

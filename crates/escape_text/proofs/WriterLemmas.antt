@@ -2,9 +2,6 @@
 use Rattle.std.proofs.Common.{◌≡◌, ℕ, ◌+◌, List, ◌++◌, Option, Result, Ok, Err, OnErr, take, drop, subst, sym, ap, ◌∙◌, take-add, take-append-drop, append_assoc}
 use Rattle.std.specs.Io.KnownBytes.{Appends}
 use Rattle.std.proofs.KnownBytes.{Appends-trans}
-use Rattle.escape_lanes.specs.Mode.{Mode}
-use Rattle.escape_simd.specs.Output.{plain, inner, quote_of}
-use Rattle.escape_simd.proofs.Whole.{plain-parts}
 use Rattle.escape_text.specs.Writers.{AppendsBeginning}
 
 -- the first of the bytes were written
@@ -48,8 +45,3 @@ after_error (Err _) P p = p
 pub after_error-map : {T E : Type 0} (r : Result T E) (P Q : Type 0) → (P → Q) → OnErr r P → OnErr r Q
 after_error-map (Ok _) P Q f p = tt
 after_error-map (Err _) P Q f p = f p
-
--- the output for a text that stands for itself
-pub plain-itself : (mode : Mode) (text : List ℕ) → inner mode text ≡ text → quote_of mode ++ (text ++ quote_of mode) ≡ plain mode text
-plain-itself mode text same =
-    sym (plain-parts mode text ∙ ap (λ xs. (quote_of mode ++ xs) ++ quote_of mode) same ∙ append_assoc (quote_of mode) text (quote_of mode))

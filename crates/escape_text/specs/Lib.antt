@@ -1,4 +1,5 @@
 pub use Rattle.escape_simd.specs.Output
-pub mod ToWrite
-pub mod Lists
 pub mod Writers
+pub mod Sinks
+pub mod InTurn
+pub mod Lists

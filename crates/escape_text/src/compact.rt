@@ -1,9 +1,9 @@
 //! The output for a text in a `String` of the output's own length.
-ghost use Rattle.std.specs.Prelude.{◌≡◌, ◌<◌, ◌↔◌, length, string_bytes, Err, IfOk};
+ghost use Rattle.std.specs.Prelude.{◌≤◌, ◌≡◌, ◌<◌, ◌↔◌, length, string_bytes, Err, IfOk};
 ghost use Rattle.escape_simd.specs.Modes.{mode_numbered};
 ghost use Rattle.escape_simd.specs.Output.{plain};
 
-use crate::appended_text::append_output;
+use crate::exact::write_exact;
 use escape_simd::Refusal;
 use escape_simd::output::escaped_len;
 use std::alloc::Allocator;
@@ -13,6 +13,7 @@ pub(crate) fn compact_text<const MODE: u8, A: Allocator>(
     alloc: A,
     value: &str,
 ) -> Result<String<A>, Refusal>
+    requires mode { MODE ≤ 2 }
     ensures exact { IfOk result (λ output. string_bytes output ≡ plain (mode_numbered MODE) value.now) }
     ensures too_large { (result ≡ Err Refusal.TooLarge)
         ↔ (usize.MAX < length (plain (mode_numbered MODE) value.now)) }
@@ -20,7 +21,9 @@ pub(crate) fn compact_text<const MODE: u8, A: Allocator>(
     let Some(len) = escaped_len::<MODE>(value) else {
         return Err(Refusal::TooLarge);
     };
-    let mut output = String::with_capacity(alloc, len)?;
-    append_output::<MODE, A>(value, &mut output);
-    Ok(output)
+    let mut bytes = Vec::with_capacity(alloc, len)?;
+    bytes.resize(len, 0)?;
+    write_exact::<MODE>(value, &mut bytes);
+    // The output for a text is a text.
+    Ok(unsafe { String::from_utf8_unchecked(bytes) })
 }

@@ -1,15 +1,17 @@
 //! The output for a text in a slice of the output's own length.
-ghost use Rattle.std.specs.Prelude.{◌≡◌, ◌+◌, ◌≤◌, ◌++◌, length, take, not};
+ghost use Rattle.std.specs.Prelude.{◌≡◌, ◌+◌, ◌≤◌, ◌++◌, length, take};
 ghost use Rattle.escape_simd.specs.Modes.{mode_numbered};
-ghost use Rattle.escape_simd.specs.Output.{plain};
-ghost use Rattle.escape_text.specs.ToWrite.{rest_to_write};
+ghost use Rattle.escape_simd.specs.Output.{plain, inner};
 
-use crate::piecewise::{SHORT_ROOM, escape_piece, quote_at, split_front};
-use escape_simd::output::write_inner;
+use crate::piecewise::{escape_inner, split_front};
+use escape_simd::output::{quote, write_inner};
 use escape_simd::simd::target::Target;
 
 /// How many bytes at the end of an output are made in an array.
 const END: usize = 64;
+
+/// The size of the array: six bytes for each of them, and a vector.
+const END_ROOM: usize = 6 * END + 32;
 
 /// Writes the output for the text in the mode numbered `MODE` to `dst`, and to all of it.
 ///
@@ -20,32 +22,46 @@ const END: usize = 64;
 /// write_exact::<{ JSON_MODE }>("a\n", &mut dst[..5]) // dst begins with "a\n", with its quotes
 /// ```
 pub fn write_exact<const MODE: u8>(value: &str, dst: &mut [u8])
-    requires { length dst.old ≡ length (plain (mode_numbered MODE) value.now) }
+    requires mode { MODE ≤ 2 }
+    requires room { length dst.old ≡ length (plain (mode_numbered MODE) value.now) }
     ensures { dst.new ≡ plain (mode_numbered MODE) value.now }
 {
-    if dst.len() <= END {
-        return write_end::<MODE>(value, true, dst, 0);
+    let quote = quote::<MODE>().as_bytes();
+    let last = dst.len() - quote.len();
+    dst[..quote.len()].copy_from_slice(quote);
+    write_exact_inner::<MODE>(value, &mut dst[quote.len()..last]);
+    dst[last..].copy_from_slice(quote);
+}
+
+/// Writes what stands for the bytes of a text to `dst`, and to all of it.
+fn write_exact_inner<const MODE: u8>(value: &str, dst: &mut [u8])
+    requires mode { MODE ≤ 2 }
+    requires room { length dst.old ≡ length (inner (mode_numbered MODE) value.now) }
+    ensures { dst.new ≡ inner (mode_numbered MODE) value.now }
+{
+    if dst.len() == value.len() {
+        return dst.copy_from_slice(value.as_bytes());
     }
-    // A piece has room for its bound before the end of the output. What the kernel changes past the piece
-    // is written again.
-    let mut at = quote_at::<MODE>(true, dst, 0);
+    // A piece has room for its bound before the end. What the kernel changes past the piece is written again.
+    let mut at = 0;
     let mut rest = value;
     'pieces: while END < dst.len() - at {
         let (piece, behind) = split_front(rest, (dst.len() - at - 32) / 6);
         at = write_inner::<MODE>(piece, dst, at);
         rest = behind;
     }
-    write_end::<MODE>(rest, false, dst, at);
+    write_end::<MODE>(rest, dst, at);
 }
 
-/// Writes what is left of an output to `dst` from `at` on, and so to all that is left of `dst`.
-fn write_end<const MODE: u8>(rest: &str, first: bool, dst: &mut [u8], at: usize)
+/// Writes what stands for the last bytes of a text to all that is left of `dst` from `at` on.
+fn write_end<const MODE: u8>(rest: &str, dst: &mut [u8], at: usize)
+    requires mode { MODE ≤ 2 }
     requires few { length dst.old ≤ at + END }
-    requires ends { at + length (rest_to_write (mode_numbered MODE) (not first) rest.now) ≡ length dst.old }
-    ensures { dst.new ≡ take at dst.old ++ rest_to_write (mode_numbered MODE) (not first) rest.now }
+    requires ends { at + length (inner (mode_numbered MODE) rest.now) ≡ length dst.old }
+    ensures { dst.new ≡ take at dst.old ++ inner (mode_numbered MODE) rest.now }
 {
-    let mut room = [0; SHORT_ROOM];
-    let end = escape_piece::<MODE>(rest, first, true, &mut room);
+    let mut room = [0; END_ROOM];
+    let end = escape_inner::<MODE>(rest, &mut room);
     let mut target = Target::<{ END }>::new(dst);
     target.put_front(at, end.as_bytes());
 }

@@ -23,9 +23,9 @@ pub mod html;
 pub mod json;
 mod list;
 mod piecewise;
+mod sink;
 mod writer;
 
 pub use exact::write_exact;
 pub use list::ListError;
-pub use piecewise::{FRONT, PIECE};
 pub use writer::write_whole;

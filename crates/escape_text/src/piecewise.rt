@@ -1,96 +1,80 @@
-//! The output for a text piece by piece, through an array: for outputs that take no memory.
-ghost use Rattle.std.specs.Prelude.{◌≡◌, ◌+◌, ◌*◌, ◌<◌, ◌≤◌, ◌++◌, [], true, length, take, IsUtf8, IfSome, IsNone, IsSome};
-ghost use Rattle.escape_lanes.specs.Mode.{Mode};
+//! The output for a text, written to a sink: at once, or piece by piece.
+ghost use Rattle.std.specs.Prelude.{◌≡◌, ◌+◌, ◌*◌, ◌<◌, ◌≤◌, ◌++◌, length, take, IsUtf8, is_ok};
 ghost use Rattle.escape_simd.specs.Modes.{mode_numbered};
-ghost use Rattle.escape_simd.specs.Output.{plain, inner, quote_of};
-ghost use Rattle.escape_text.specs.ToWrite.{quote_if, to_write, pieces_left};
+ghost use Rattle.escape_simd.specs.Output.{plain, inner};
 
-use escape_simd::output::{stands_for_itself, write_inner};
-use escape_simd::simd::HTML_MODE;
+use crate::sink::Sink;
+use escape_simd::output::{is_clean, quote, write_inner};
 
-/// How many bytes of a long text the adapters, the writers and the calls for a `String` escape at a time,
-/// at most.
-pub const PIECE: usize = 512;
+/// How many bytes a text has at most that is escaped at once.
+const SHORT: usize = 79;
 
-/// How many bytes of a long text these ask at a time whether they stand for themselves: so few that they
-/// are still in the first cache when they are handed on.
-pub const FRONT: usize = 8192;
+/// The size of the array for it: six bytes for each of its bytes, two quotation marks, and a vector.
+const SHORT_ROOM: usize = 6 * SHORT + 34;
 
-/// How many bytes a short text has at most.
-pub(crate) const SHORT: usize = 79;
+/// How many bytes of a longer text are tested at a time. So few are still in the first cache when they are written.
+const FRONT: usize = 8192;
 
-/// How many bytes the array has that a piece is escaped in: six for each byte of it, two quotation marks, and
-/// a vector.
-pub(crate) const ROOM: usize = 3106;
+/// How many bytes are escaped at a time, if a test finds a byte that needs an escape.
+const PIECE: usize = 512;
 
-/// How many bytes the array has that a short text is escaped in.
-pub(crate) const SHORT_ROOM: usize = 508;
+/// The size of the array for them: six bytes for each, and a vector.
+const ROOM: usize = 6 * PIECE + 32;
 
-/// Returns whether the output for the text in the mode numbered `MODE` is known to be the text, between its quotation
-/// marks. A text longer than a front is not asked.
-#[inline(always)]
-pub(crate) fn is_itself<const MODE: u8>(text: &str) -> bool
-    ensures { result ≡ true → inner (mode_numbered MODE) text.now ≡ text.now }
+/// Writes the output for the text. An array is filled with zeros before it is written: so a short text has a small
+/// one, and bytes that need no escape have none.
+pub(crate) fn send<const MODE: u8, D, S: Sink<D>>(value: &str, dst: &mut D) -> Result<(), S::Error>
+    requires mode { MODE ≤ 2 }
+    ensures { S.sends dst.old (is_ok result) (plain (mode_numbered MODE) value.now) dst.new }
 {
-    text.len() <= FRONT && stands_for_itself::<MODE>(text)
+    if value.len() <= SHORT {
+        let mut room = [0; SHORT_ROOM];
+        return S::put(escape_short::<MODE>(value, &mut room), dst);
+    }
+    S::put(quote::<MODE>(), dst)?;
+    send_inner::<MODE, D, S>(value, dst)?;
+    S::put(quote::<MODE>(), dst)
 }
 
-/// A text, and how far the output for it was made.
-#[derive(Drop)]
-pub(crate) struct Pieces<'a> {
-    rest: &'a str,
-    /// How many bytes of the rest are escaped before it is asked whether it stands for itself.
-    flagged: usize,
-    begun: bool,
-    ended: bool,
+/// Writes what stands for the bytes of a text, front by front.
+fn send_inner<const MODE: u8, D, S: Sink<D>>(value: &str, dst: &mut D) -> Result<(), S::Error>
+    requires mode { MODE ≤ 2 }
+    ensures { S.sends dst.old (is_ok result) (inner (mode_numbered MODE) value.now) dst.new }
+{
+    let mut rest = value;
+    'fronts: while !rest.is_empty() {
+        let (front, behind) = split_front(rest, FRONT);
+        send_front::<MODE, D, S>(front, dst)?;
+        rest = behind;
+    }
+    Ok(())
 }
 
-impl<'a> Pieces<'a> {
-    /// `is_itself` has asked a text that is no longer than a front.
-    pub(crate) fn of(text: &'a str) -> Pieces<'a>
-        ensures { (mode : Mode) → to_write mode result ≡ plain mode text.now }
-    {
-        Pieces {
-            rest: text,
-            flagged: text.len().min(FRONT),
-            begun: false,
-            ended: false,
-        }
+/// Writes what stands for the bytes of a text, which is the text itself if it needs no escape.
+fn send_front<const MODE: u8, D, S: Sink<D>>(front: &str, dst: &mut D) -> Result<(), S::Error>
+    requires mode { MODE ≤ 2 }
+    ensures { S.sends dst.old (is_ok result) (inner (mode_numbered MODE) front.now) dst.new }
+{
+    if is_clean::<MODE>(front) {
+        return S::put(front, dst);
     }
+    send_pieces::<MODE, D, S>(front, dst)
+}
 
-    /// Returns the next piece of the output in the mode numbered `MODE`, and `None` at its end. The first has the
-    /// quotation mark. Of the others, what stands for itself is handed on as it is, and anything else is
-    /// written in `room`.
-    #[inline(always)]
-    pub(crate) fn next<'r, const MODE: u8>(&mut self, room: &'r mut [u8]) -> Option<&'r str>
-    where
-        'a: 'r,
-        requires { ROOM ≤ length room.old }
-        ensures piece { IfSome result (λ piece. to_write (mode_numbered MODE) self.old
-            ≡ piece.now ++ to_write (mode_numbered MODE) self.new) }
-        ensures end { IsNone result → to_write (mode_numbered MODE) self.old ≡ [] }
-        ensures fewer { IsSome result → pieces_left self.new < pieces_left self.old }
-    {
-        if self.ended {
-            return None;
-        }
-        if self.begun && self.flagged == 0 && !self.rest.is_empty() {
-            let (front, behind) = split_front(self.rest, FRONT);
-            if stands_for_itself::<MODE>(front) {
-                self.rest = behind;
-                return Some(front);
-            }
-            self.flagged = front.len();
-        }
-        let (piece, rest) = split_front(self.rest, PIECE);
-        let first = !self.begun;
-        let last = rest.is_empty();
-        self.rest = rest;
-        self.flagged = self.flagged.saturating_sub(piece.len());
-        self.begun = true;
-        self.ended = last;
-        Some(escape_piece::<MODE>(piece, first, last, room))
+/// Writes what stands for the bytes of a text, escaped piece by piece.
+#[inline(never)]
+fn send_pieces<const MODE: u8, D, S: Sink<D>>(front: &str, dst: &mut D) -> Result<(), S::Error>
+    requires mode { MODE ≤ 2 }
+    ensures { S.sends dst.old (is_ok result) (inner (mode_numbered MODE) front.now) dst.new }
+{
+    let mut room = [0; ROOM];
+    let mut rest = front;
+    'pieces: while !rest.is_empty() {
+        let (piece, behind) = split_front(rest, PIECE);
+        S::put(escape_inner::<MODE>(piece, &mut room), dst)?;
+        rest = behind;
     }
+    Ok(())
 }
 
 /// Returns the front of a text, of at most `most` bytes, and what is left of it.
@@ -104,53 +88,29 @@ pub(crate) fn split_front(text: &str, most: usize) -> (&str, &str)
     text.split_at(text.floor_char_boundary(most.min(text.len())))
 }
 
-/// Returns the output for a text in the mode numbered `MODE`, written in `room` at once.
+/// Returns the output for a text, written in `room`.
 #[inline(always)]
-pub(crate) fn escape_short<'r, const MODE: u8>(text: &str, room: &'r mut [u8]) -> &'r str
-    requires { 6 * length text.now + 34 ≤ length room.old }
+fn escape_short<'r, const MODE: u8>(text: &str, room: &'r mut [u8]) -> &'r str
+    requires mode { MODE ≤ 2 }
+    requires room { 6 * length text.now + 34 ≤ length room.old }
     ensures { result.now ≡ plain (mode_numbered MODE) text.now }
 {
-    escape_piece::<MODE>(text, true, true, room)
-}
-
-/// Returns what stands for a piece, with the quotation marks that are wanted before and after it.
-#[inline(always)]
-pub(crate) fn escape_piece<'r, const MODE: u8>(
-    piece: &str,
-    first: bool,
-    last: bool,
-    room: &'r mut [u8],
-) -> &'r str
-    requires { 6 * length piece.now + 34 ≤ length room.old }
-    ensures { result.now ≡ quote_if (mode_numbered MODE) first
-        ++ (inner (mode_numbered MODE) piece.now ++ quote_if (mode_numbered MODE) last) }
-{
-    let open = quote_at::<MODE>(first, room, 0);
-    let end = write_inner::<MODE>(piece, room, open);
-    let close = quote_at::<MODE>(last, room, end);
+    let quote = quote::<MODE>().as_bytes();
+    room[..quote.len()].copy_from_slice(quote);
+    let end = write_inner::<MODE>(text, room, quote.len());
+    room[end..end + quote.len()].copy_from_slice(quote);
     // The output for a text is a text.
-    unsafe { str::from_utf8_unchecked(&room[..close]) }
+    unsafe { str::from_utf8_unchecked(&room[..end + quote.len()]) }
 }
 
-/// Returns what stands before and after an output: a quotation mark in JSON, also in script mode, and nothing in
-/// HTML.
-pub(crate) fn quote<const MODE: u8>() -> &'static str
-    ensures { result.now ≡ quote_of (mode_numbered MODE) }
+/// Returns what stands for the bytes of a text, written in `room`.
+#[inline(always)]
+pub(crate) fn escape_inner<'r, const MODE: u8>(text: &str, room: &'r mut [u8]) -> &'r str
+    requires mode { MODE ≤ 2 }
+    requires room { 6 * length text.now + 32 ≤ length room.old }
+    ensures { result.now ≡ inner (mode_numbered MODE) text.now }
 {
-    if MODE == HTML_MODE { "" } else { "\"" }
-}
-
-/// Writes a quotation mark to `room` where one is wanted, and the mode has any. Returns the place after
-/// it.
-pub(crate) fn quote_at<const MODE: u8>(wanted: bool, room: &mut [u8], at: usize) -> usize
-    requires { at < length room.old }
-    ensures end { result ≡ at + length (quote_if (mode_numbered MODE) wanted) }
-    ensures written { take result room.new
-        ≡ take at room.old ++ quote_if (mode_numbered MODE) wanted }
-{
-    if MODE == HTML_MODE || !wanted {
-        return at;
-    }
-    room[at] = b'"';
-    at + 1
+    let end = write_inner::<MODE>(text, room, 0);
+    // What stands for a text is a text.
+    unsafe { str::from_utf8_unchecked(&room[..end]) }
 }

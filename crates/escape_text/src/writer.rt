@@ -1,57 +1,38 @@
 //! The output for a text to a writer.
-ghost use Rattle.std.specs.Prelude.{◌≡◌, ◌+◌, ◌≤◌, length, OnOk, OnErr};
+ghost use Rattle.std.specs.Prelude.{◌≤◌, length, OnOk, OnErr};
 ghost use Rattle.std.specs.Io.KnownBytes.{Appends};
 ghost use Rattle.escape_simd.specs.Modes.{mode_numbered};
-ghost use Rattle.escape_simd.specs.Output.{plain, inner};
-ghost use Rattle.escape_text.specs.Writers.{AppendsBeginning};
+ghost use Rattle.escape_simd.specs.Output.{plain};
+ghost use Rattle.escape_text.specs.Writers.{AppendsBeginning, AppendsAsFar};
+ghost use Rattle.escape_text.specs.InTurn.{writer-in_turn};
 
-use crate::piecewise::{Pieces, ROOM, SHORT, SHORT_ROOM, escape_short, is_itself, quote};
-use std::io::{ErrorKind, Result, Write};
+use crate::piecewise::send;
+use crate::sink::Sink;
+use std::io::{Error, ErrorKind, Result, Write};
 
-/// Writes the output for the text, and does not flush. Arrays are those of the adapters.
+struct ToWriter;
+
+impl<W: Write> Sink<W> for ToWriter {
+    type Error = Error;
+
+    ghost sends = { λ old ok bytes new. AppendsAsFar (W.contents old) ok (W.contents new) bytes };
+
+    ghost in_turn = { writer-in_turn W.contents };
+
+    fn put(text: &str, writer: &mut W) -> Result<()> {
+        write_whole(text.as_bytes(), writer)
+    }
+}
+
+/// Writes the output for the text, and does not flush.
 pub(crate) fn write_output<const MODE: u8, W: Write>(value: &str, writer: &mut W) -> Result<()>
+    requires mode { MODE ≤ 2 }
     ensures whole { OnOk result (Appends (W.contents writer.old) (W.contents writer.new)
         (plain (mode_numbered MODE) value.now)) }
     ensures beginning { OnErr result (AppendsBeginning (W.contents writer.old)
         (W.contents writer.new) (plain (mode_numbered MODE) value.now)) }
 {
-    if value.len() <= SHORT {
-        let mut room = [0; SHORT_ROOM];
-        return write_whole(escape_short::<MODE>(value, &mut room).as_bytes(), writer);
-    }
-    if is_itself::<MODE>(value) {
-        return write_itself::<MODE, W>(value, writer);
-    }
-    write_pieces::<MODE, W>(value, writer)
-}
-
-/// Writes the output for a text that needs no escape.
-fn write_itself<const MODE: u8, W: Write>(value: &str, writer: &mut W) -> Result<()>
-    requires { inner (mode_numbered MODE) value.now ≡ value.now }
-    ensures whole { OnOk result (Appends (W.contents writer.old) (W.contents writer.new)
-        (plain (mode_numbered MODE) value.now)) }
-    ensures beginning { OnErr result (AppendsBeginning (W.contents writer.old)
-        (W.contents writer.new) (plain (mode_numbered MODE) value.now)) }
-{
-    write_whole(quote::<MODE>().as_bytes(), writer)?;
-    write_whole(value.as_bytes(), writer)?;
-    write_whole(quote::<MODE>().as_bytes(), writer)
-}
-
-/// Writes the output for the text piece by piece.
-#[inline(never)]
-fn write_pieces<const MODE: u8, W: Write>(value: &str, writer: &mut W) -> Result<()>
-    ensures whole { OnOk result (Appends (W.contents writer.old) (W.contents writer.new)
-        (plain (mode_numbered MODE) value.now)) }
-    ensures beginning { OnErr result (AppendsBeginning (W.contents writer.old)
-        (W.contents writer.new) (plain (mode_numbered MODE) value.now)) }
-{
-    let mut room = [0; ROOM];
-    let mut pieces = Pieces::of(value);
-    'pieces: while let Some(piece) = pieces.next::<MODE>(&mut room) {
-        write_whole(piece.as_bytes(), writer)?;
-    }
-    Ok(())
+    send::<MODE, W, ToWriter>(value, writer)
 }
 
 /// Writes all the bytes to `writer`, and does not flush: `Write::write_all` with a promise of what an error

@@ -46,15 +46,21 @@ fn calls_on_texts_as_long_as_pieces(rt: HostRuntime) {
     }
 }
 
-/// Where a short text, a piece, or a front that is asked whether it stands for itself, can end: a front comes
-/// after a piece that was escaped.
-const ENDS: [usize; 6] = [
+/// How many bytes of a long text are tested at a time, and how many escaped: `piecewise.rt` of `escape_text` has these
+/// sizes.
+const FRONT: usize = 8192;
+
+const PIECE: usize = 512;
+
+/// Where a short text, a piece or a front can end.
+const ENDS: [usize; 7] = [
     80,
-    escape_text::PIECE,
-    2 * escape_text::PIECE,
-    escape_text::FRONT,
-    escape_text::PIECE + escape_text::FRONT,
-    escape_text::PIECE + 2 * escape_text::FRONT,
+    PIECE,
+    2 * PIECE,
+    FRONT,
+    FRONT + PIECE,
+    2 * FRONT,
+    2 * FRONT + PIECE,
 ];
 
 #[test]

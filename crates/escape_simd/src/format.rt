@@ -242,7 +242,7 @@ pub fn format_script_inner(kernel: Kernel, value: &str, dst: &mut [u8]) -> usize
 
 /// Writes the output for the text in the mode numbered `MODE` by the kernel.
 ///
-/// The default kernel is asked for alone: so that takes one comparison, and no jump by a table.
+/// The default kernel is compared first: so it takes one comparison, and no jump by a table.
 fn format_by<const MODE: u8>(kernel: Kernel, value: &str, dst: &mut [u8]) -> usize
     requires { bound (mode_numbered MODE) (length value.now) ≤ length dst.old }
     ensures { IsWritten (lanes_of kernel) (mode_numbered MODE) value.now dst.old dst.new result }

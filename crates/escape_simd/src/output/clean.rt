@@ -1,4 +1,4 @@
-//! Which bytes of a text are flagged, and whether a text stands for itself.
+//! Which bytes of a text are flagged, and whether nothing in a text needs an escape.
 ghost use Rattle.std.specs.Prelude.{◌≡◌, ◌+◌, ◌-◌, ◌*◌, ◌<◌, ◌≤◌, ◌↔◌, true, false, length};
 ghost use Rattle.std.specs.List.{count_by};
 ghost use Rattle.escape_lanes.specs.Bits.{bits_of};

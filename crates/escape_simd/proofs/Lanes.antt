@@ -1,6 +1,6 @@
 -- What a mask tells of the text that its vector holds.
-use Rattle.std.proofs.Common.{◌≡◌, ℕ, zero, suc, ◌+◌, ◌-◌, ◌<◌, ◌≤◌, Bool, true, false, true≢false, ◌||◌, List, [], ◌∷◌, ◌++◌, length, take, drop, get_or, map, replicate, refl, sym, ◌∙◌, arith, length-append, length-take-le, length-drop}
-use Rattle.escape_simd.proofs.Words.{false_from_ne_true, length-take, length-map, get_or-take, get_or-drop, get_or-map, get_or_past, get_or_append_left, get_or-append_right, get_or-replicate, length-replicate, zip2, first_set, none_set, clear_first, clear_last, Mode, needs_escape, HoldsFlags}
+use Rattle.std.proofs.Common.{◌≡◌, ℕ, zero, suc, ◌+◌, ◌-◌, ◌<◌, ◌≤◌, Bool, true, false, true≢false, ◌||◌, List, [], ◌∷◌, ◌++◌, length, take, drop, get_or, map, replicate, refl, sym, ap, ◌∙◌, arith, length-append, length-take-le, length-drop}
+use Rattle.escape_simd.proofs.Words.{cases_Bool, drop-drop, drop-take, take-take, take_all, IsWithin, Tells, false_from_ne_true, length-take, length-map, get_or-take, get_or-drop, get_or-map, get_or_past, get_or_append_left, get_or-append_right, get_or-replicate, length-replicate, zip2, first_set, none_set, clear_first, clear_last, Mode, needs_escape, HoldsFlags}
 use Rattle.escape_simd.proofs.Texts.{IsClean}
 
 -- no lane before the first set one is set
@@ -155,3 +155,31 @@ module _ (mode : Mode) (src lanes : List ℕ) (at n valid : ℕ) (long : length 
 -- where a vector's mask sets no lane, its bytes are clean
 pub none_clean : (mode : Mode) (lanes : List ℕ) → none_set (map (needs_escape mode) lanes) ≡ true → IsClean mode lanes
 none_clean mode lanes none k h = sym (get_or-map (needs_escape mode) lanes k 0 false h) ∙ none_set-at (map (needs_escape mode) lanes) k none
+
+-- What a classifier answered for
+
+-- a mask tells of the bytes whose flags it has
+pub held-tells : (mode : Mode) (src : List ℕ) (valid from : ℕ) (bits : List Bool) → HoldsFlags mode src 0 valid from bits → Tells mode src bits from valid
+held-tells mode src valid from bits h k later few = let t = h.set k in let u = h.unset k in grind (arith, cases_Bool)
+
+-- all of the bytes are among them
+pub within-all : (part whole : List ℕ) → whole ≡ part → IsWithin part whole
+within-all part whole e = record { at = 0; same = rw e (take_all (length part) part (omega arith)) }
+
+-- bytes of a text's part, from a place on
+pub part-later : (src : List ℕ) (at n from count : ℕ) → from + count ≤ n → take count (drop from (take n (drop at src))) ≡ take count (drop (at + from) src)
+part-later src at n from count few =
+    let sum : n ≡ from + (n - from) = omega (arith, few) in
+    ap (λ k. take count (drop from (take k (drop at src)))) sum ∙ ap (take count) (drop-take from (n - from) (drop at src)) ∙ take-take count (n - from) (drop from (drop at src)) (omega (arith, few)) ∙ ap (take count) (drop-drop from at src)
+
+-- and so are those from a place on
+pub within-later : (src whole : List ℕ) (at passed from n count : ℕ) → whole ≡ take n (drop at src) → from ≡ at + passed → passed + count ≤ n → at + n ≤ length src → IsWithin (take count (drop from src)) whole
+within-later src whole at passed from n count e there few inside =
+    let long : length (take count (drop from src)) ≡ count = length-take-le count (drop from src) (omega (arith, length-drop from src)) in
+    record { at = passed; same = ap (λ k. take k (drop passed whole)) long ∙ ap (λ xs. take count (drop passed xs)) e ∙ part-later src at n passed count few ∙ ap (λ i. take count (drop i src)) (sym there) }
+
+-- a part of what is among them
+pub within-part : (text whole : List ℕ) (from count : ℕ) → from + count ≤ length text → IsWithin text whole → IsWithin (take count (drop from text)) whole
+within-part text whole from count inside w =
+    let long : length (take count (drop from text)) ≡ count = length-take-le count (drop from text) (omega (arith, length-drop from text)) in
+    record { at = w.at + from; same = ap (λ k. take k (drop (w.at + from) whole)) long ∙ sym (part-later whole w.at (length text) from count inside) ∙ ap (λ xs. take count (drop from xs)) w.same }

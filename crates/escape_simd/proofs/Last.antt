@@ -1,7 +1,7 @@
 -- The last bytes of a text, held with zeros behind them.
 use Rattle.std.proofs.Common.{min, ◌≡◌, ℕ, ◌+◌, ◌-◌, ◌*◌, ◌/◌, ◌<◌, ◌≤◌, Bool, false, List, [], ◌++◌, length, take, drop, replicate, map, refl, sym, ap, subst, ◌∙◌, arith, append_assoc, append-nil, length-append, length-drop}
 use Rattle.std.proofs.Math.Nat.{div-eq_of_lt, div-eq_of_lt-le}
-use Rattle.escape_simd.proofs.Words.{append_cancel_right, drop_all, drop_at, get_or_past, length-replicate, replicate-append-replicate, drop-append-le, drop-drop, take_all, take-append-le, clear_last, Mode, script, needs_escape, bytes_of, Target, inner, escaped_count, run_count, AreTail, Escapes, HoldsFlags, IsStored, IsVectorAt, Passed}
+use Rattle.escape_simd.proofs.Words.{append_cancel_right, drop_all, drop_at, get_or_past, length-replicate, replicate-append-replicate, drop-append-le, drop-drop, take_all, take-append-le, clear_last, Mode, script, needs_escape, bytes_of, Target, inner, escaped_count, run_count, AreTail, IsWithin, Escapes, HoldsFlags, IsStored, IsVectorAt, Passed}
 use Rattle.escape_simd.proofs.Behind.{inner-behind, escaped-behind, get_or-behind, runs-behind}
 use Rattle.escape_simd.proofs.Lanes.{CleanFrom, get_or-clear_last, get_or-cleared_last, held-cut}
 use Rattle.escape_simd.proofs.ReplacementLemmas.{inner-nil}
@@ -142,15 +142,43 @@ last-mask mode n src lanes at truths whole bits narrow inside few long loaded fl
     held-cut mode (drop at src) lanes 0 n (length src - at) long narrow few (grind (arith, take-append-le, length-drop {A = ℕ})) bits (cc)
 
 -- they are a short text
-pub last-short : (mode : Mode) (n : ℕ) (src text : List ℕ) (at : ℕ) (none bits : List Bool) → text ≡ drop at src → at ≤ length src → length src - at < n → HoldsFlags mode (drop at src) 0 (length src - at) 0 bits → AreTail mode n text none bits
-last-short mode n src text at none bits is inside few held =
-    let count = length-drop at src in record { few = grind arith; front = λ long. grind arith; back = grind arith }
+pub last-short : (mode : Mode) (n : ℕ) (src text : List ℕ) (at : ℕ) (none bits : List Bool) (first_asked last_asked : List ℕ) → text ≡ drop at src → at ≤ length src → length src - at < n → HoldsFlags mode (drop at src) 0 (length src - at) 0 bits
+    → last_asked ≡ drop (length src - (length src - at)) src → AreTail mode n text none bits first_asked last_asked
+last-short mode n src text at none bits first_asked last_asked is inside few held asked =
+    let count = length-drop at src in let long = ap length is in
+    let start : length text - n ≡ 0 = omega (arith, count, long, few) in let there : length src - (length src - at) ≡ at = omega (arith, inside) in
+    record {
+      few = grind arith;
+      front = λ more. grind arith;
+      back = grind arith;
+      front_asked = λ more. absurd (omega (arith, more, count, long, few));
+      back_asked = asked ∙ ap (λ k. drop k src) there ∙ sym is ∙ sym (ap (λ k. drop k text) start);
+    }
 
 -- and so are those of a vector and more
-pub last-long_text : (mode : Mode) (n : ℕ) (src text : List ℕ) (at : ℕ) (first last : List Bool) → text ≡ drop at src → at + n ≤ length src → length src < at + 2 * n
-    → HoldsFlags mode src at n at first → HoldsFlags mode src (length src - n) n (length src - n) last → AreTail mode n text first last
-last-long_text mode n src text at first last is inside few held1 held2 =
-    let count = length-drop at src in record { few = grind arith; front = λ long. grind (arith, holds-from); back = grind (arith, holds-from) }
+pub last-long_text : (mode : Mode) (n : ℕ) (src text : List ℕ) (at : ℕ) (first last : List Bool) (first_asked last_asked : List ℕ) → text ≡ drop at src → at + n ≤ length src → length src < at + 2 * n
+    → HoldsFlags mode src at n at first → HoldsFlags mode src (length src - n) n (length src - n) last → first_asked ≡ take n (drop at src) → last_asked ≡ take n (drop (length src - n) src)
+    → AreTail mode n text first last first_asked last_asked
+last-long_text mode n src text at first last first_asked last_asked is inside few held1 held2 asked1 asked2 =
+    let count = length-drop at src in let long = ap length is in
+    let there : length src - n ≡ at + (length text - n) = omega (arith, count, long, inside) in
+    let all : take n (drop (length src - n) src) ≡ drop (length src - n) src = take_all n (drop (length src - n) src) (omega (arith, length-drop (length src - n) src)) in
+    record {
+      few = grind arith;
+      front = λ more. grind (arith, holds-from);
+      back = grind (arith, holds-from);
+      front_asked = λ more. asked1 ∙ sym (ap (take n) is);
+      back_asked = asked2 ∙ all ∙ ap (λ k. drop k src) there ∙ sym (drop-drop (length text - n) at src) ∙ sym (ap (drop (length text - n)) is);
+    }
+
+-- what is left of a text's last vector is among the bytes for which a classifier answered
+pub within-tail : (text rows whole : List ℕ) (border next k : ℕ) → rows ≡ drop next text ++ zeros k → whole ≡ drop border text → border ≤ next → next ≤ length text → IsWithin (take (length text - next) rows) whole
+within-tail text rows whole border next k is asked after inside =
+    let count = length-drop next text in
+    let part : take (length text - next) rows ≡ drop next text = ap (take (length text - next)) is ∙ take-append-le (length text - next) (drop next text) (zeros k) (omega (arith, count)) ∙ take_all (length text - next) (drop next text) (omega (arith, count)) in
+    let there : border + (next - border) ≡ next = omega (arith, after) in
+    let cut : drop (next - border) whole ≡ drop next text = ap (drop (next - border)) asked ∙ drop-drop (next - border) border text ∙ ap (λ i. drop i text) there in
+    record { at = next - border; same = rw (part, cut) (take_all (length (drop next text)) (drop next text) (omega arith)) }
 
 -- as they were escaped, so was the rest of the text
 pub rest-escaped : {N : ℕ} {mode : Mode} {slack vectors : ℕ} {old new : Target N} {to end t1 t2 : ℕ} (src text : List ℕ) (at n t0 : ℕ) → text ≡ drop at src → at ≤ length src → vectors ≡ (length src - at) / n + 1 → t1 ≡ t0 + vectors

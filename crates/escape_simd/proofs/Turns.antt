@@ -106,7 +106,7 @@ module _ {N : ℕ} {mode : Mode} {slack : ℕ} {src : List ℕ} {old mid : Targe
     turn-runs = omega (arith, done.one, ahead-runs mode src next flagged turn-place.1 turn-place.3)
 
     -- the mask that is left has the flags from there on
-    turn-flags : HoldsFlags mode src 0 valid after rest
+    pub turn-flags : HoldsFlags mode src 0 valid after rest
     turn-flags = record {
       set = λ k s. so_far.left.flags.set k (done.set k s).1;
       unset = λ k none later few. so_far.left.flags.unset k (done.unset k none (omega (arith, later))) (omega (arith, later, turn-place.1, turn-after.0)) few;

@@ -162,11 +162,14 @@ pub record HasTail (N : ℕ) (src : List ℕ) (at to size : ℕ) : Type 0 where
   pub few : length src < at + 2 * N
   pub room : to + 6 * (length src - at) + reach true N ≤ size
 
--- A short text, with the flags of its last vector, and where it has as many bytes as one, those of its first one.
-pub record AreTail (mode : Mode) (N : ℕ) (text : List ℕ) (first last : List Bool) : Type 0 where
+-- A short text, with the flags of its last vector and the bytes for which a classifier answered them, and where it has as many
+-- bytes as one vector, those of its first one.
+pub record AreTail (mode : Mode) (N : ℕ) (text : List ℕ) (first last : List Bool) (first_asked last_asked : List ℕ) : Type 0 where
   pub few : length text < 2 * N
   pub front : N ≤ length text → HoldsFlags mode text 0 N 0 first
   pub back : HoldsFlags mode text (length text - N) (min (length text) N) (length text - N) last
+  pub front_asked : N ≤ length text → first_asked ≡ take N text
+  pub back_asked : last_asked ≡ drop (length text - N) text
 
 -- so many bytes of a text were classified, by vectors of N, and nothing was written
 pub record IsAsked {n : ℕ} (N count : ℕ) (old new : Target n) (ticks_old ticks_new : ℕ) : Type 0 where

@@ -1,5 +1,5 @@
 //! The classifiers of a text's bytes: each ticks once, and says for which bytes it answered.
-ghost use Rattle.std.specs.Prelude.{◌≡◌, ◌+◌, ◌-◌, ◌<◌, ◌≤◌, ◌++◌, length, take, drop, map, replicate};
+ghost use Rattle.std.specs.Prelude.{◌≡◌, ◌+◌, ◌-◌, ◌<◌, ◌≤◌, ◌++◌, [], length, take, drop, map, replicate};
 ghost use Rattle.escape_lanes.specs.Bits.{bits_of};
 ghost use Rattle.escape_lanes.specs.Classified.{asked_of, Tells};
 ghost use Rattle.escape_lanes.specs.Mode.{mode_numbered};
@@ -15,6 +15,16 @@ use crate::simd::vector::{HTML_MODE, JSON_MODE, Vector};
 #[derive(Drop)]
 pub struct Classified<'a> {
     bytes: &'a [u8],
+}
+
+impl Classified<'static> {
+    /// Returns what stands for a classification of no bytes.
+    #[inline(always)]
+    pub fn none() -> Self
+        ensures { asked_of result ≡ [] }
+    {
+        Classified { bytes: &[] }
+    }
 }
 
 /// Returns which lanes of a vector are flagged in the mode numbered `MODE`. Ticks once.

@@ -1,39 +1,21 @@
 //! A vector of a text, by its mask: stored where it is clean, else escaped in blocks or by turns.
-ghost use Rattle.std.specs.Prelude.{◌≡◌, ◌+◌, ◌-◌, ◌/◌, ◌≤◌, length};
+ghost use Rattle.std.specs.Prelude.{◌≡◌, ◌+◌, ◌-◌, ◌/◌, ◌≤◌, length, take, drop};
 ghost use Rattle.escape_lanes.specs.Bits.{bits_of};
 ghost use Rattle.escape_lanes.specs.Spread.{flagged_blocks};
+ghost use Rattle.escape_lanes.specs.Classified.{asked_of, IsWithin};
 ghost use Rattle.escape_lanes.specs.Written.{bytes_of};
 ghost use Rattle.escape_simd.specs.Modes.{mode_numbered};
 ghost use Rattle.escape_simd.specs.Stretch.{Escapes, IsByteWise, IsVectorAt, reach};
 
-use crate::simd::store::{store, tick};
+use crate::simd::store::store;
 use crate::simd::turns::escape_by_turns;
 use crate::simd::util::{are_paid, are_short, escape_blocks};
 use crate::simd::{SCRIPT_MODE, Vector};
 use escape_lanes::simd::BitMask;
-use escape_lanes::simd::lane_bits::count_flagged_blocks;
+use escape_lanes::simd::classify::Classified;
 use escape_lanes::simd::target::{Target, Ticks};
 
-/// Classifies the text's vector at `at` once more for each block of its first `valid` bytes that has no escape, but the first
-/// such one: for the ticks alone, since each stored vector has to be classified.
-#[inline(always)]
-fn tick_for_blocks<V: Vector<N>, const MODE: u8, const N: usize>(
-    src: &[u8],
-    at: usize,
-    valid: usize,
-    flags: u64,
-    ticks: &mut Ticks,
-)
-    requires inside { at + N ≤ length src.now }
-    requires few { valid ≤ 64 }
-    ensures { ticks.new ≡ ticks.old + ((valid + 7) / 8 - (flagged_blocks 8 (bits_of 64 flags) + 1)) }
-{
-    'blocks: for _ in 0..((valid + 7) / 8).saturating_sub(count_flagged_blocks(flags) + 1) {
-        tick::<V, MODE, N>(src, at, ticks);
-    }
-}
-
-/// Escapes the first `valid` bytes of the text's vector at `at`, whose flags are known. Returns the places after
+/// Escapes the first `valid` bytes of the text's vector at `at`, whose flags a classifier answered. Returns the places after
 /// them, and in script mode after what of a separator goes past them.
 ///
 /// Where `LAST`, these may be the text's last bytes.
@@ -43,26 +25,28 @@ pub(crate) fn escape_by_mask<V: Vector<N>, const MODE: u8, const N: usize, const
     at: usize,
     valid: usize,
     mask: u64,
+    classified: Classified<'_>,
     target: &mut Target<'_, N>,
     to: usize,
     ticks: &mut Ticks,
 ) -> (usize, usize)
-    requires { IsVectorAt (mode_numbered MODE) N (reach LAST N) src.now at valid to (length (bytes_of target.old)) (bits_of 64 mask) }
+    requires classified { IsWithin (take valid (drop at src.now)) (asked_of classified) }
+    requires vector { IsVectorAt (mode_numbered MODE) N (reach LAST N) src.now at valid to (length (bytes_of target.old)) (bits_of 64 mask) }
     ensures { Escapes (mode_numbered MODE) (reach LAST N) (at + valid) 1 1 src.now target.old target.new at result.0 to result.1 ticks.old ticks.new }
 {
     if mask.all_zero() {
-        store::<V, N, LAST>(src, at, valid, target, to);
+        store::<V, N, LAST>(src, at, valid, classified, target, to);
         return (at + valid, to + valid);
     }
     if V::LOOKS_UP && are_paid(mask, valid) && are_short::<MODE, N>(src, at, mask) {
-        tick_for_blocks::<V, MODE, N>(src, at, valid, mask, ticks);
-        let end = escape_blocks::<MODE, N>(src, at, valid, mask, target, to);
+        let end = escape_blocks::<MODE, N>(src, at, valid, mask, classified, target, to, ticks);
         return (at + valid, end);
     }
     let (passed, end) = escape_by_turns::<V, MODE, N, LAST>(
         &src[at..],
         valid,
         mask,
+        classified,
         target,
         to,
         ticks,

@@ -2,6 +2,7 @@
 ghost use Rattle.std.specs.Prelude.{◌≡◌, ◌+◌, ◌*◌, ◌≤◌, length, take, drop, map};
 ghost use Rattle.escape_lanes.specs.Bits.{bits_of};
 ghost use Rattle.escape_lanes.specs.Replacement.{needs_escape};
+ghost use Rattle.escape_lanes.specs.Classified.{asked_of};
 ghost use Rattle.escape_lanes.specs.Written.{bytes_of};
 ghost use Rattle.escape_simd.specs.Modes.{mode_numbered};
 ghost use Rattle.escape_simd.specs.Stretch.{Escapes, HasVectors, HoldsFlags, Passed};
@@ -10,7 +11,7 @@ use crate::simd::Vector;
 use crate::simd::by_mask::escape_by_mask;
 use crate::simd::store::{load, store_loaded};
 use escape_lanes::simd::Flags;
-use escape_lanes::simd::classify::classify;
+use escape_lanes::simd::classify::{Classified, classify};
 use escape_lanes::simd::lane_bits::shift_lanes;
 use escape_lanes::simd::target::{Target, Ticks};
 
@@ -40,30 +41,32 @@ pub(crate) fn whole_vector<V: Vector<N>, const MODE: u8, const N: usize>(
     requires { HasVectors N 1 src.now at at to (length (bytes_of target.old)) }
     ensures { Escapes (mode_numbered MODE) N (at + N) 1 0 src.now target.old target.new at result.0 to result.1 ticks.old ticks.new }
 {
-    let flags = flags_at::<V, MODE, N>(src, at, ticks).bits();
-    escape_by_mask::<V, MODE, N, false>(src, at, N, flags, target, to, ticks)
+    let (flags, classified) = classify::<V, MODE, N>(src, at, ticks);
+    escape_by_mask::<V, MODE, N, false>(src, at, N, flags.bits(), classified, target, to, ticks)
 }
 
 /// Escapes the text's vector at `at` from `from` on: what came before it may have passed the rest of a separator.
-/// Its flags are known. Returns the places after it.
+/// A classifier answered its flags. Returns the places after it.
 #[inline(always)]
 fn vector_from<V: Vector<N>, const MODE: u8, const N: usize>(
     src: &[u8],
     at: usize,
     from: usize,
-    flags: u64,
+    mask: u64,
+    classified: Classified<'_>,
     target: &mut Target<'_, N>,
     to: usize,
     ticks: &mut Ticks,
 ) -> (usize, usize)
-    requires flagged { HoldsFlags (mode_numbered MODE) src.now at N at (bits_of 64 flags) }
+    requires classified { asked_of classified ≡ take N (drop at src.now) }
+    requires flagged { HoldsFlags (mode_numbered MODE) src.now at N at (bits_of 64 mask) }
     requires passed { Passed (mode_numbered MODE) src.now at from }
     requires room { HasVectors N 1 src.now at from to (length (bytes_of target.old)) }
     ensures { Escapes (mode_numbered MODE) N (at + N) 1 1 src.now target.old target.new from result.0 to result.1 ticks.old ticks.new }
 {
     let passed = from - at;
-    let flags = shift_lanes(flags, passed);
-    escape_by_mask::<V, MODE, N, false>(src, from, N - passed, flags, target, to, ticks)
+    let left = shift_lanes(mask, passed);
+    escape_by_mask::<V, MODE, N, false>(src, from, N - passed, left, classified, target, to, ticks)
 }
 
 /// Escapes four vectors of the text. They are classified at once, since most are clean. Returns the places after
@@ -82,15 +85,15 @@ pub(crate) fn chunk<V: Vector<N>, const MODE: u8, const N: usize>(
     let (second, third, fourth) = (at + N, at + 2 * N, at + 3 * N);
     let (v1, v2) = (load::<V, N>(src, at), load::<V, N>(src, second));
     let (v3, v4) = (load::<V, N>(src, third), load::<V, N>(src, fourth));
-    let flags1 = flags_at::<V, MODE, N>(src, at, ticks);
-    let flags2 = flags_at::<V, MODE, N>(src, second, ticks);
-    let flags3 = flags_at::<V, MODE, N>(src, third, ticks);
-    let flags4 = flags_at::<V, MODE, N>(src, fourth, ticks);
+    let (flags1, classified1) = classify::<V, MODE, N>(src, at, ticks);
+    let (flags2, classified2) = classify::<V, MODE, N>(src, second, ticks);
+    let (flags3, classified3) = classify::<V, MODE, N>(src, third, ticks);
+    let (flags4, classified4) = classify::<V, MODE, N>(src, fourth, ticks);
     if flags1.join(&flags2).join(&flags3.join(&flags4)).none() {
-        store_loaded::<V, N, false>(&v1, src, at, N, target, to);
-        store_loaded::<V, N, false>(&v2, src, second, N, target, to + N);
-        store_loaded::<V, N, false>(&v3, src, third, N, target, to + 2 * N);
-        store_loaded::<V, N, false>(&v4, src, fourth, N, target, to + 3 * N);
+        store_loaded::<V, N, false>(&v1, src, at, N, classified1, target, to);
+        store_loaded::<V, N, false>(&v2, src, second, N, classified2, target, to + N);
+        store_loaded::<V, N, false>(&v3, src, third, N, classified3, target, to + 2 * N);
+        store_loaded::<V, N, false>(&v4, src, fourth, N, classified4, target, to + 3 * N);
         return (at + 4 * N, to + 4 * N);
     }
     let (next, end) = escape_by_mask::<V, MODE, N, false>(
@@ -98,6 +101,7 @@ pub(crate) fn chunk<V: Vector<N>, const MODE: u8, const N: usize>(
         at,
         N,
         flags1.bits(),
+        classified1,
         target,
         to,
         ticks,
@@ -107,6 +111,7 @@ pub(crate) fn chunk<V: Vector<N>, const MODE: u8, const N: usize>(
         second,
         next,
         flags2.bits(),
+        classified2,
         target,
         end,
         ticks,
@@ -116,9 +121,19 @@ pub(crate) fn chunk<V: Vector<N>, const MODE: u8, const N: usize>(
         third,
         next,
         flags3.bits(),
+        classified3,
         target,
         end,
         ticks,
     );
-    vector_from::<V, MODE, N>(src, fourth, next, flags4.bits(), target, end, ticks)
+    vector_from::<V, MODE, N>(
+        src,
+        fourth,
+        next,
+        flags4.bits(),
+        classified4,
+        target,
+        end,
+        ticks,
+    )
 }

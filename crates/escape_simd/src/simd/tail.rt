@@ -1,26 +1,28 @@
 //! The last bytes of a text, fewer than two vectors have, and with them every short text.
-ghost use Rattle.std.specs.Prelude.{min, ◌≡◌, ◌+◌, ◌-◌, ◌*◌, ◌/◌, ◌≤◌, ◌++◌, true, length, drop, replicate, IfOk, IfErr, OnErr};
+ghost use Rattle.std.specs.Prelude.{min, ◌≡◌, ◌+◌, ◌-◌, ◌*◌, ◌/◌, ◌<◌, ◌≤◌, ◌++◌, true, length, take, drop, replicate, IfOk, IfErr, OnErr};
 ghost use Rattle.std.specs.List.{flat_map};
 ghost use Rattle.escape_lanes.specs.Bits.{bits_of};
+ghost use Rattle.escape_lanes.specs.Classified.{asked_of};
 ghost use Rattle.escape_lanes.specs.Written.{bytes_of};
 ghost use Rattle.escape_simd.specs.Modes.{mode_numbered};
-ghost use Rattle.escape_simd.specs.Stretch.{AreTail, Escapes, HasTail, IsAsked, reach};
+ghost use Rattle.escape_simd.specs.Stretch.{AreTail, Escapes, HasTail, HoldsFlags, IsAsked, reach};
 
 use crate::simd::Vector;
 use crate::simd::by_mask::escape_by_mask;
-use crate::simd::chunk::flags_at;
 use crate::simd::store::{load, load_last, store, store_lanes};
-use escape_lanes::simd::classify::flags;
+use escape_lanes::simd::classify::{Classified, classify, classify_last};
 use escape_lanes::simd::lane_bits::shift_lanes;
 use escape_lanes::simd::target::{Target, Ticks};
 use escape_lanes::simd::{BitMask, Flags};
 
-/// The flags of a text's last bytes, fewer than two vectors have: of their last vector, and where they fill one, of
-/// their first one.
+/// What a classifier answered for a text's last bytes, fewer than two vectors have: for their last vector, and where they
+/// fill one, for their first one.
 #[derive(Drop)]
-pub(crate) struct TailFlags {
+pub(crate) struct TailFlags<'a> {
     pub first: u64,
+    pub first_classified: Classified<'a>,
     pub last: u64,
+    pub last_classified: Classified<'a>,
 }
 
 /// Returns the last vector of a text, with zeros after it, so that a vector can be loaded from each of its bytes on.
@@ -37,17 +39,20 @@ fn spill_last<V: Vector<N>, const N: usize>(text: &[u8]) -> [[u8; N]; 2]
     rows
 }
 
-/// Escapes the bytes before the last vector of a text of fewer bytes than two vectors have, whose flags are known.
+/// Escapes the bytes before the last vector of a text of fewer bytes than two vectors have, by the mask of its first one.
 /// Returns the places after them.
 #[inline(always)]
 fn escape_before_last<V: Vector<N>, const MODE: u8, const N: usize>(
     text: &[u8],
-    flags: &TailFlags,
+    first: u64,
+    classified: Classified<'_>,
     target: &mut Target<'_, N>,
     to: usize,
     ticks: &mut Ticks,
 ) -> (usize, usize)
-    requires flagged { AreTail (mode_numbered MODE) N text.now (bits_of 64 flags.now.first) (bits_of 64 flags.now.last) }
+    requires few { length text.now < 2 * N }
+    requires flagged { N ≤ length text.now → HoldsFlags (mode_numbered MODE) text.now 0 N 0 (bits_of 64 first) }
+    requires classified { N ≤ length text.now → asked_of classified ≡ take N text.now }
     requires room { to + 6 * length text.now + reach true N ≤ length (bytes_of target.old) }
     ensures { Escapes (mode_numbered MODE) (reach true N) (length text.now - N) (length text.now / N) (length text.now / N) text.now target.old target.new 0 result.0 to result.1 ticks.old ticks.new }
 {
@@ -55,24 +60,31 @@ fn escape_before_last<V: Vector<N>, const MODE: u8, const N: usize>(
         return (0, to);
     }
     let border = text.len() - N;
-    let front = flags.first.clear_high_bits(64 - border);
-    escape_by_mask::<V, MODE, N, true>(text, 0, border, front, target, to, ticks)
+    let front = first.clear_high_bits(64 - border);
+    escape_by_mask::<V, MODE, N, true>(text, 0, border, front, classified, target, to, ticks)
 }
 
-/// Escapes a text of fewer bytes than two vectors have, whose flags are known. Returns the place after it.
+/// Escapes a text of fewer bytes than two vectors have, for which a classifier answered. Returns the place after it.
 #[inline(always)]
 fn escape_flagged_tail<V: Vector<N>, const MODE: u8, const N: usize>(
     text: &[u8],
-    flags: &TailFlags,
+    flags: TailFlags<'_>,
     target: &mut Target<'_, N>,
     to: usize,
     ticks: &mut Ticks,
 ) -> usize
-    requires flagged { AreTail (mode_numbered MODE) N text.now (bits_of 64 flags.now.first) (bits_of 64 flags.now.last) }
+    requires flagged { AreTail (mode_numbered MODE) N text.now (bits_of 64 flags.first) (bits_of 64 flags.last) (asked_of flags.first_classified) (asked_of flags.last_classified) }
     requires room { to + 6 * length text.now + reach true N ≤ length (bytes_of target.old) }
     ensures { Escapes (mode_numbered MODE) (reach true N) (length text.now) (length text.now / N + 1) (length text.now / N + 1) text.now target.old target.new 0 (length text.now) to result ticks.old ticks.new }
 {
-    let (next, end) = escape_before_last::<V, MODE, N>(text, flags, target, to, ticks);
+    let (next, end) = escape_before_last::<V, MODE, N>(
+        text,
+        flags.first,
+        flags.first_classified,
+        target,
+        to,
+        ticks,
+    );
     let rows = spill_last::<V, N>(text);
     let passed = next - text.len().saturating_sub(N);
     let left = shift_lanes(flags.last, passed);
@@ -81,6 +93,7 @@ fn escape_flagged_tail<V: Vector<N>, const MODE: u8, const N: usize>(
         0,
         text.len() - next,
         left,
+        flags.last_classified,
         target,
         end,
         ticks,
@@ -91,41 +104,47 @@ fn escape_flagged_tail<V: Vector<N>, const MODE: u8, const N: usize>(
 /// Stores the text's bytes from `at` on, fewer than two vectors have, if none of them needs an escape. Returns the
 /// place after them, and else their flags.
 #[inline(always)]
-pub(crate) fn store_clean_tail<V: Vector<N>, const MODE: u8, const N: usize>(
-    src: &[u8],
+pub(crate) fn store_clean_tail<'a, V: Vector<N>, const MODE: u8, const N: usize>(
+    src: &'a [u8],
     at: usize,
     target: &mut Target<'_, N>,
     to: usize,
     ticks: &mut Ticks,
-) -> Result<usize, TailFlags>
+) -> Result<usize, TailFlags<'a>>
     requires { HasTail N src.now at to (length (bytes_of target.old)) }
     ensures clean { IfOk result (λ end. Escapes (mode_numbered MODE) (reach true N) (length src.now) ((length src.now - at) / N + 1) 0 src.now target.old target.new at (length src.now) to end ticks.old ticks.new) }
-    ensures flagged { IfErr result (λ flags. AreTail (mode_numbered MODE) N (drop at src.now) (bits_of 64 flags.first) (bits_of 64 flags.last)) }
+    ensures flagged { IfErr result (λ flags. AreTail (mode_numbered MODE) N (drop at src.now) (bits_of 64 flags.first) (bits_of 64 flags.last) (asked_of flags.first_classified) (asked_of flags.last_classified)) }
     ensures unchanged { OnErr result (IsAsked N (length src.now - at) target.old target.new ticks.old ticks.new) }
 {
     let count = src.len() - at;
     if count < N {
-        let v = load_last::<V, N>(src, count);
-        let last = flags::<V, MODE, N>(&v, ticks)
-            .bits()
-            .clear_high_bits(64 - count);
+        let (flags, classified) = classify_last::<V, MODE, N>(src, count, ticks);
+        let last = flags.bits().clear_high_bits(64 - count);
         if !last.all_zero() {
-            return Err(TailFlags { first: 0, last });
+            return Err(TailFlags {
+                first: 0,
+                first_classified: Classified::none(),
+                last,
+                last_classified: classified,
+            });
         }
-        store_lanes::<V, N, true>(&v, &src[at..], target, to);
+        let v = load_last::<V, N>(src, count);
+        store_lanes::<V, N, true>(&v, &src[at..], classified, target, to);
         return Ok(to + count);
     }
     let last = src.len() - N;
-    let flags1 = flags_at::<V, MODE, N>(src, at, ticks);
-    let flags2 = flags_at::<V, MODE, N>(src, last, ticks);
+    let (flags1, classified1) = classify::<V, MODE, N>(src, at, ticks);
+    let (flags2, classified2) = classify::<V, MODE, N>(src, last, ticks);
     if !flags1.join(&flags2).none() {
         return Err(TailFlags {
             first: flags1.bits(),
+            first_classified: classified1,
             last: flags2.bits(),
+            last_classified: classified2,
         });
     }
-    store::<V, N, true>(src, at, N, target, to);
-    store::<V, N, true>(src, last, N, target, to + (count - N));
+    store::<V, N, true>(src, at, N, classified1, target, to);
+    store::<V, N, true>(src, last, N, classified2, target, to + (count - N));
     Ok(to + count)
 }
 
@@ -143,6 +162,6 @@ pub(crate) fn escape_tail<V: Vector<N>, const MODE: u8, const N: usize>(
 {
     match store_clean_tail::<V, MODE, N>(src, at, target, to, ticks) {
         Ok(end) => end,
-        Err(flags) => { escape_flagged_tail::<V, MODE, N>(&src[at..], &flags, target, to, ticks) }
+        Err(flags) => { escape_flagged_tail::<V, MODE, N>(&src[at..], flags, target, to, ticks) }
     }
 }

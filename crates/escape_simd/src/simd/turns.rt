@@ -1,33 +1,38 @@
 //! The runs of escapes of a vector in turn, by its mask.
-ghost use Rattle.std.specs.Prelude.{◌≡◌, ◌+◌, ◌-◌, ◌≤◌, false, length};
+ghost use Rattle.std.specs.Prelude.{◌≡◌, ◌+◌, ◌-◌, ◌≤◌, false, length, take};
 ghost use Rattle.escape_lanes.specs.Bits.{bits_of, none_set};
+ghost use Rattle.escape_lanes.specs.Classified.{asked_of, IsWithin, Tells};
 ghost use Rattle.escape_lanes.specs.Written.{bytes_of};
 ghost use Rattle.escape_simd.specs.Modes.{mode_numbered};
 ghost use Rattle.escape_simd.specs.Stretch.{CanStore, Escapes, IsFinished, IsStored, IsVectorAt, IsVectorEnd, reach};
 
 use crate::simd::Vector;
-use crate::simd::store::{store, tick};
+use crate::simd::store::store;
 use crate::simd::util::escape_run;
 use escape_lanes::simd::BitMask;
+use escape_lanes::simd::classify::{Classified, classify_by_mask};
 use escape_lanes::simd::target::{Target, Ticks};
 
-/// Stores the text's bytes from `from` on, where a run of escapes has ended, up to the vector's `border`.
+/// Stores the text's bytes from `from` on, where a run of escapes has ended, up to the vector's `border`. The mask has
+/// their flags, and classifies them.
 #[inline]
 fn store_tail<V: Vector<N>, const MODE: u8, const N: usize, const LAST: bool>(
     src: &[u8],
     border: usize,
     from: usize,
+    mask: u64,
     target: &mut Target<'_, N>,
     to: usize,
     ticks: &mut Ticks,
 )
     requires before { from ≤ border }
+    requires told { Tells (mode_numbered MODE) src.now (bits_of 64 mask) from border }
     requires room { CanStore N (reach LAST N) src.now from (border - from) to (length (bytes_of target.old)) }
     ensures stored { IsStored (reach LAST N) src.now target.old target.new from (border - from) to }
     ensures tick { ticks.new ≡ ticks.old + 1 }
 {
-    tick::<V, MODE, N>(src, from, ticks);
-    store::<V, N, LAST>(src, from, border - from, target, to);
+    let classified = classify_by_mask::<MODE>(src, from, border, mask, ticks);
+    store::<V, N, LAST>(src, from, border - from, classified, target, to);
 }
 
 /// Passes the clean bytes from `from` on of a vector that ends at `border`, whose last escape was written.
@@ -37,17 +42,19 @@ fn finish_vector<V: Vector<N>, const MODE: u8, const N: usize, const LAST: bool>
     src: &[u8],
     border: usize,
     from: usize,
+    mask: u64,
     target: &mut Target<'_, N>,
     to: usize,
     ticks: &mut Ticks,
 ) -> (usize, usize)
-    requires { IsVectorEnd (mode_numbered MODE) N (reach LAST N) src.now border from to (length (bytes_of target.old)) }
+    requires told { Tells (mode_numbered MODE) src.now (bits_of 64 mask) from border }
+    requires end { IsVectorEnd (mode_numbered MODE) N (reach LAST N) src.now border from to (length (bytes_of target.old)) }
     ensures { IsFinished (mode_numbered MODE) (reach LAST N) src.now target.old target.new border from result.0 to result.1 ticks.old ticks.new }
 {
     if border <= from {
         return (from, to);
     }
-    store_tail::<V, MODE, N, LAST>(src, border, from, target, to, ticks);
+    store_tail::<V, MODE, N, LAST>(src, border, from, mask, target, to, ticks);
     (border, to + (border - from))
 }
 
@@ -62,15 +69,17 @@ pub(crate) fn escape_by_turns<V: Vector<N>, const MODE: u8, const N: usize, cons
     text: &[u8],
     valid: usize,
     mask: u64,
+    classified: Classified<'_>,
     target: &mut Target<'_, N>,
     to: usize,
     ticks: &mut Ticks,
 ) -> (usize, usize)
+    requires classified { IsWithin (take valid text.now) (asked_of classified) }
     requires vector { IsVectorAt (mode_numbered MODE) N (reach LAST N) text.now 0 valid to (length (bytes_of target.old)) (bits_of 64 mask) }
     requires some { none_set (bits_of 64 mask) ≡ false }
     ensures { Escapes (mode_numbered MODE) (reach LAST N) valid 1 1 text.now target.old target.new 0 result.0 to result.1 ticks.old ticks.new }
 {
-    store::<V, N, LAST>(text, 0, valid, target, to);
+    store::<V, N, LAST>(text, 0, valid, classified, target, to);
     let mut left = mask;
     let mut next = 0;
     let mut end = to;
@@ -78,9 +87,11 @@ pub(crate) fn escape_by_turns<V: Vector<N>, const MODE: u8, const N: usize, cons
         let flagged = left.first_offset();
         let run = escape_run::<MODE, N>(text, flagged, left, target, end + (flagged - next));
         if run.mask.all_zero() {
-            return finish_vector::<V, MODE, N, LAST>(text, valid, run.next, target, run.end, ticks);
+            return finish_vector::<V, MODE, N, LAST>(
+                text, valid, run.next, run.mask, target, run.end, ticks,
+            );
         }
-        store_tail::<V, MODE, N, LAST>(text, valid, run.next, target, run.end, ticks);
+        store_tail::<V, MODE, N, LAST>(text, valid, run.next, run.mask, target, run.end, ticks);
         left = run.mask;
         next = run.next;
         end = run.end;

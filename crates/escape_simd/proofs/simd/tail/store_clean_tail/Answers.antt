@@ -1,6 +1,6 @@
-use Rattle.std.proofs.Common.{◌≡◌, ◌+◌, ◌-◌, ◌∙◌, true, false, ℕ, List, ◌++◌, length, refl, length-drop, take, drop, replicate, ap, sym, subst, arith}
-use Rattle.escape_simd.proofs.Words.{take_all, bits_of, none_set, mode_numbered, Escapes, HoldsFlags, reach}
-use Rattle.escape_simd.proofs.Lanes.{CleanFrom, held-none, none_set-joined}
+use Rattle.std.proofs.Common.{◌≡◌, ◌+◌, ◌-◌, ◌∙◌, true, false, ℕ, List, ◌++◌, length, refl, length-append, length-drop, take, drop, replicate, ap, sym, subst, arith}
+use Rattle.escape_simd.proofs.Words.{length-replicate, take-append-le, take_all, bits_of, none_set, mode_numbered, Escapes, HoldsFlags, reach}
+use Rattle.escape_simd.proofs.Lanes.{CleanFrom, held-none, none_set-joined, within-all}
 use Rattle.escape_simd.proofs.Last.{last-long_text, last-mask, last-short, one-begun, rest-escaped, two-begun, two-clean}
 use Rattle.escape_simd.proofs.Vectors.{escapes-ended, flags-clean, mask-held, vector-clean}
 use Rattle.escape_simd.proofs.simd.tail.store_clean_tail.Goals as goal
@@ -11,9 +11,11 @@ returns-then-not-all_zero-clause-flagged g c =
     let text : List ℕ = take (length src - at) (drop at src) in let count = length-drop at src in
     let is : text ≡ drop at src = take_all (length src - at) (drop at src) (omega (arith, count)) in
     let bits = bits_of 64 c.clear_high_bits-last.result in
-    let held = last-mask mode n src (g.V.LoadStore.lanes c.load_last-v.result) at (t c.flags.result) (bits_of 64 c.bits.result) bits g.met.V.Vector.most r.inside (omega (arith, c.if-count.true)) (g.met.V.LoadStore.width c.load_last-v.result ∙ g.met.V.Vector.lane_count)
-    c.load_last-v.ensures c.flags.ensures.lanes (c.bits.ensures ∙ ap (λ m. t c.flags.result ++ replicate (64 - m) false) g.met.V.Vector.flag_count) c.clear_high_bits-last.ensures in
-    last-short mode n src (drop at src) at (bits_of 64 0) bits refl r.inside c.if-count.true held
+    let lanes : List ℕ = drop (length src - (length src - at)) src ++ replicate (n - (length src - at)) 0 in
+    let long : length lanes ≡ n = omega (arith, length-append (drop (length src - (length src - at)) src) (replicate (n - (length src - at)) 0), length-drop (length src - (length src - at)) src, length-replicate {A = ℕ} (n - (length src - at)) 0, r.inside, c.if-count.true) in
+    let held = last-mask mode n src lanes at (t c.classify_last-flags.result.0) (bits_of 64 c.bits.result) bits g.met.V.Vector.most r.inside (omega (arith, c.if-count.true)) long
+    refl c.classify_last-flags.ensures.flagged (c.bits.ensures ∙ ap (λ m. t c.classify_last-flags.result.0 ++ replicate (64 - m) false) g.met.V.Vector.flag_count) c.clear_high_bits-last.ensures in
+    last-short mode n src (drop at src) at (bits_of 64 0) bits _ _ refl r.inside c.if-count.true held c.classify_last-flags.ensures.asked
 
 pub returns-then-count-clause-clean : goal.returns-then-count-clause-clean
 returns-then-count-clause-clean g c =
@@ -21,12 +23,14 @@ returns-then-count-clause-clean g c =
     let text : List ℕ = take (length src - at) (drop at src) in let count = length-drop at src in
     let is : text ≡ drop at src = take_all (length src - at) (drop at src) (omega (arith, count)) in
     let bits = bits_of 64 c.clear_high_bits-last.result in
-    let held = last-mask mode n src (g.V.LoadStore.lanes c.load_last-v.result) at (t c.flags.result) (bits_of 64 c.bits.result) bits g.met.V.Vector.most r.inside (omega (arith, c.if-count.true)) (g.met.V.LoadStore.width c.load_last-v.result ∙ g.met.V.Vector.lane_count)
-    c.load_last-v.ensures c.flags.ensures.lanes (c.bits.ensures ∙ ap (λ m. t c.flags.result ++ replicate (64 - m) false) g.met.V.Vector.flag_count) c.clear_high_bits-last.ensures in
+    let lanes : List ℕ = drop (length src - (length src - at)) src ++ replicate (n - (length src - at)) 0 in
+    let long : length lanes ≡ n = omega (arith, length-append (drop (length src - (length src - at)) src) (replicate (n - (length src - at)) 0), length-drop (length src - (length src - at)) src, length-replicate {A = ℕ} (n - (length src - at)) 0, r.inside, c.if-count.true) in
+    let held = last-mask mode n src lanes at (t c.classify_last-flags.result.0) (bits_of 64 c.bits.result) bits g.met.V.Vector.most r.inside (omega (arith, c.if-count.true)) long
+    refl c.classify_last-flags.ensures.flagged (c.bits.ensures ∙ ap (λ m. t c.classify_last-flags.result.0 ++ replicate (64 - m) false) g.met.V.Vector.flag_count) c.clear_high_bits-last.ensures in
     let all : length src - at ≡ length text = sym (ap length is ∙ count) in
     let clean = held-none mode text 0 (length text) 0 bits (subst (λ k. HoldsFlags mode text 0 k 0 bits) all (subst (λ xs. HoldsFlags mode xs 0 (length src - at) 0 bits) (sym is) held)) (omega arith) (sym c.all_zero.ensures ∙ c.if-not-all_zero.false) in
-    let e = vector-clean mode (reach true n) text c.args.target.now c.store_lanes.new.target 0 (length text) c.args.to c.flags.new.ticks (omega arith) clean c.store_lanes.ensures in
-    rest-escaped src text at n c.args.ticks.now is r.inside (one-begun n (length src - at) c.if-count.true) c.flags.ensures.tick (escapes-ended (omega arith) (omega arith) (omega (arith, all)) e)
+    let e = vector-clean mode (reach true n) text c.args.target.now c.store_lanes.new.target 0 (length text) c.args.to c.classify_last-flags.new.ticks (omega arith) clean c.store_lanes.ensures in
+    rest-escaped src text at n c.args.ticks.now is r.inside (one-begun n (length src - at) c.if-count.true) c.classify_last-flags.ensures.tick (escapes-ended (omega arith) (omega arith) (omega (arith, all)) e)
 
 pub returns-then-not-none-clause-flagged : goal.returns-then-not-none-clause-flagged
 returns-then-not-none-clause-flagged g c =
@@ -34,9 +38,9 @@ returns-then-not-none-clause-flagged g c =
     let text : List ℕ = take (length src - at) (drop at src) in let count = length-drop at src in
     let is : text ≡ drop at src = take_all (length src - at) (drop at src) (omega (arith, count)) in
     let lanes = g.met.V.Vector.flag_count in
-    let held1 = mask-held mode n src at (t c.flags_at-flags1.result) (bits_of 64 c.bits-then-not-none.result) g.met.V.Vector.most (omega (arith, c.if-count.false)) c.flags_at-flags1.ensures.flagged (c.bits-then-not-none.ensures ∙ ap (λ m. t c.flags_at-flags1.result ++ replicate (64 - m) false) lanes) in
-    let held2 = mask-held mode n src (length src - n) (t c.flags_at-flags2.result) (bits_of 64 c.bits-then-not-none-2.result) g.met.V.Vector.most (omega (arith, c.if-count.false)) c.flags_at-flags2.ensures.flagged (c.bits-then-not-none-2.ensures ∙ ap (λ m. t c.flags_at-flags2.result ++ replicate (64 - m) false) lanes) in
-    last-long_text mode n src (drop at src) at (bits_of 64 c.bits-then-not-none.result) (bits_of 64 c.bits-then-not-none-2.result) refl (omega (arith, c.if-count.false, r.inside)) r.few held1 held2
+    let held1 = mask-held mode n src at (t c.classify-flags1.result.0) (bits_of 64 c.bits-then-not-none.result) g.met.V.Vector.most (omega (arith, c.if-count.false)) c.classify-flags1.ensures.flagged (c.bits-then-not-none.ensures ∙ ap (λ m. t c.classify-flags1.result.0 ++ replicate (64 - m) false) lanes) in
+    let held2 = mask-held mode n src (length src - n) (t c.classify-flags2.result.0) (bits_of 64 c.bits-then-not-none-2.result) g.met.V.Vector.most (omega (arith, c.if-count.false)) c.classify-flags2.ensures.flagged (c.bits-then-not-none-2.ensures ∙ ap (λ m. t c.classify-flags2.result.0 ++ replicate (64 - m) false) lanes) in
+    last-long_text mode n src (drop at src) at (bits_of 64 c.bits-then-not-none.result) (bits_of 64 c.bits-then-not-none-2.result) _ _ refl (omega (arith, c.if-count.false, r.inside)) r.few held1 held2 c.classify-flags1.ensures.asked c.classify-flags2.ensures.asked
 
 pub returns-clause-clean : goal.returns-clause-clean
 returns-clause-clean g c =
@@ -45,10 +49,27 @@ returns-clause-clean g c =
     let is : text ≡ drop at src = take_all (length src - at) (drop at src) (omega (arith, count)) in
     let lanes = g.met.V.Vector.flag_count in
     let w = g.met.V.Flags.Flags.width in
-    let nones = none_set-joined (t c.flags_at-flags1.result) (t c.flags_at-flags2.result) (w c.flags_at-flags1.result ∙ sym (w c.flags_at-flags2.result)) (ap none_set (sym c.join.ensures) ∙ sym c.none.ensures ∙ c.if-not-none.false) in
-    let clean1 = flags-clean mode n src at (t c.flags_at-flags1.result) (omega (arith, c.if-count.false)) c.flags_at-flags1.ensures.flagged nones.0 in
-    let clean2 = flags-clean mode n src (length src - n) (t c.flags_at-flags2.result) (omega (arith, c.if-count.false)) c.flags_at-flags2.ensures.flagged nones.1 in
+    let nones = none_set-joined (t c.classify-flags1.result.0) (t c.classify-flags2.result.0) (w c.classify-flags1.result.0 ∙ sym (w c.classify-flags2.result.0)) (ap none_set (sym c.join.ensures) ∙ sym c.none-2.ensures ∙ c.if-not-none.false) in
+    let clean1 = flags-clean mode n src at (t c.classify-flags1.result.0) (omega (arith, c.if-count.false)) c.classify-flags1.ensures.flagged nones.0 in
+    let clean2 = flags-clean mode n src (length src - n) (t c.classify-flags2.result.0) (omega (arith, c.if-count.false)) c.classify-flags2.ensures.flagged nones.1 in
     let all : length src - n + n ≡ length src = omega (arith, c.if-count.false) in
-    let e = two-clean mode (reach true n) n src c.args.target.now c.store.new.target c.store-2.new.target at c.args.to c.args.ticks.now c.flags_at-flags2.new.ticks (omega (arith, c.if-count.false, r.inside)) r.few clean1 (subst (λ k. CleanFrom mode src (length src - n) k) all clean2)
-    c.store.ensures c.store-2.ensures (omega (arith, c.flags_at-flags1.ensures.tick, c.flags_at-flags2.ensures.tick)) in
-    subst (λ v. Escapes mode (reach true n) (length src) v 0 src c.args.target.now c.store-2.new.target at (length src) c.args.to (c.args.to + (length src - at)) c.args.ticks.now c.flags_at-flags2.new.ticks) (two-begun n (length src - at) c.if-count.false (omega (arith, r.few))) e
+    let e = two-clean mode (reach true n) n src c.args.target.now c.store.new.target c.store-2.new.target at c.args.to c.args.ticks.now c.classify-flags2.new.ticks (omega (arith, c.if-count.false, r.inside)) r.few clean1 (subst (λ k. CleanFrom mode src (length src - n) k) all clean2)
+    c.store.ensures c.store-2.ensures (omega (arith, c.classify-flags1.ensures.tick, c.classify-flags2.ensures.tick)) in
+    subst (λ v. Escapes mode (reach true n) (length src) v 0 src c.args.target.now c.store-2.new.target at (length src) c.args.to (c.args.to + (length src - at)) c.args.ticks.now c.classify-flags2.new.ticks) (two-begun n (length src - at) c.if-count.false (omega (arith, r.few))) e
+
+pub store_lanes-requires : goal.store_lanes-requires
+store_lanes-requires g c =
+    let src : List ℕ = c.args.src.now in let at : ℕ = c.args.at in let n : ℕ = g.row.N in let count = length-drop at src in
+    let is : take (length src - at) (drop at src) ≡ drop at src = take_all (length src - at) (drop at src) (omega (arith, count)) in
+    let there : length src - (length src - at) ≡ at = omega (arith, c.requires.inside) in
+    let within = within-all (take (length src - at) (drop at src)) _ (c.classify_last-flags.ensures.asked ∙ ap (λ k. drop k src) there ∙ sym is) in
+    let all : length (take (length src - at) (drop at src)) ≡ length src - at = ap length is ∙ count in
+    let start : drop (length src - (length src - at)) src ≡ take (length src - at) (drop at src) = ap (λ k. drop k src) there ∙ sym is in
+    let loaded = ap (take (length (take (length src - at) (drop at src)))) (c.load_last-v.ensures ∙ ap (λ xs. xs ++ replicate (n - (length src - at)) 0) start) ∙ take-append-le (length (take (length src - at) (drop at src))) (take (length src - at) (drop at src)) (replicate (n - (length src - at)) 0) (omega arith) ∙ take_all (length (take (length src - at) (drop at src))) (take (length src - at) (drop at src)) (omega arith) in
+    (omega arith, (omega (arith, all, c.if-count.true), (loaded, (within, omega (arith, all, c.requires.room)))))
+
+pub store-requires : goal.store-requires
+store-requires g c = (omega arith, (within-all _ _ c.classify-flags1.ensures.asked, grind (arith, c.requires, c.if-count.false)))
+
+pub store-requires-2 : goal.store-requires-2
+store-requires-2 g c = (omega arith, (within-all _ _ c.classify-flags2.ensures.asked, grind (arith, c.requires, c.if-count.false)))

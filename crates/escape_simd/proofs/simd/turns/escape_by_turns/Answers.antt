@@ -1,7 +1,8 @@
 use Rattle.std.proofs.Common.{◌∙◌, not, nat_eq, sym, arith}
 use denote.Param.{number, value_of}
+use Rattle.escape_simd.proofs.Lanes.{held-tells}
 use Rattle.escape_simd.proofs.Stretches.{reach-bounds}
-use Rattle.escape_simd.proofs.Turns.{turns-begin, turn-place, turn-begins, turn-after, turn-end, turn-stores, turn-finished, turn-next}
+use Rattle.escape_simd.proofs.Turns.{turns-begin, turn-place, turn-begins, turn-after, turn-end, turn-flags, turn-stores, turn-finished, turn-next}
 use Rattle.escape_simd.proofs.simd.turns.escape_by_turns.Goals as goal
 
 pub turns-init : goal.turns-init
@@ -21,14 +22,15 @@ escape_run-run-requires g c = (omega arith, turn-begins c.turns.invariant c.firs
 
 pub finish_vector-requires : goal.finish_vector-requires
 finish_vector-requires g c =
-    (omega arith, turn-end c.turns.invariant c.first_offset-flagged.ensures c.escape_run-run.ensures (sym c.all_zero.ensures ∙ c.if-all_zero.true))
+    (omega arith, (held-tells _ _ _ _ _ (turn-flags c.turns.invariant c.first_offset-flagged.ensures c.escape_run-run.ensures), turn-end c.turns.invariant c.first_offset-flagged.ensures c.escape_run-run.ensures (sym c.all_zero.ensures ∙ c.if-all_zero.true)))
 
 pub returns-then-all_zero : goal.returns-then-all_zero
 returns-then-all_zero g c = turn-finished c.turns.invariant c.first_offset-flagged.ensures c.escape_run-run.ensures c.finish_vector.ensures
 
 pub store_tail-requires : goal.store_tail-requires
 store_tail-requires g c =
-    (omega arith, turn-stores c.turns.invariant c.first_offset-flagged.ensures c.escape_run-run.ensures (sym c.all_zero.ensures ∙ c.if-all_zero.false))
+    let s = turn-stores c.turns.invariant c.first_offset-flagged.ensures c.escape_run-run.ensures (sym c.all_zero.ensures ∙ c.if-all_zero.false) in
+    (omega arith, (s.0, (held-tells _ _ _ _ _ (turn-flags c.turns.invariant c.first_offset-flagged.ensures c.escape_run-run.ensures), s.1)))
 
 pub turns-smaller : goal.turns-smaller
 turns-smaller g c = omega (arith, turn-place c.turns.invariant c.first_offset-flagged.ensures, turn-after c.turns.invariant c.first_offset-flagged.ensures c.escape_run-run.ensures)

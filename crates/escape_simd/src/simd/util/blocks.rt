@@ -67,7 +67,11 @@ fn classify_block<'a, const MODE: u8>(
         return (Classified::none(), own, used);
     }
     if used {
-        return (classify_by_mask::<MODE>(text, from, until, mask, ticks), own, true);
+        return (
+            classify_by_mask::<MODE>(text, from, until, mask, ticks),
+            own,
+            true,
+        );
     }
     (own, Classified::none(), true)
 }
@@ -131,7 +135,15 @@ pub(crate) fn escape_blocks<const MODE: u8, const N: usize>(
         );
         own = asked.1;
         used = asked.2;
-        end = put_block(src, at + 8 * block, until - 8 * block, flags, asked.0, target, end);
+        end = put_block(
+            src,
+            at + 8 * block,
+            until - 8 * block,
+            flags,
+            asked.0,
+            target,
+            end,
+        );
         block += 1;
     }
     end - (8 * block - valid)

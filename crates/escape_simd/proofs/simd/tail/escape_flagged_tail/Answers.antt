@@ -16,12 +16,14 @@ escape_by_mask-requires g c =
     let held = subst (λ v. HoldsFlags mode text next v next bits) count (subst (λ i. HoldsFlags mode text i (min (length text) n - passed) i bits) there
     (held-shifted mode text border (min (length text) n) border (bits_of 64 c.args.flags.last) (subst (λ i. HoldsFlags mode text i (min (length text) n) i (bits_of 64 c.args.flags.last)) (sym is) c.requires.flagged.back) passed (omega (arith, inside, from, is)) (omega arith))) in (
       omega arith,
-      (within-tail text (take (length rows - passed) (drop passed rows)) _ border next k
-          (tail-rows text rows border passed next k (c.as_flattened.ensures.value ∙ c.spill_last-rows.ensures ∙ ap (λ i. drop i text ++ replicate k 0) (sym is)) (sym there) inside)
-          (c.requires.flagged.back_asked ∙ ap (λ i. drop i text) (sym is)) (omega (arith, from, is)) inside,
-       last-vector mode (reach true n) n text (take (length rows - passed) (drop passed rows)) next left k c.escape_before_last-next.result.1 inside (omega arith)
-          (tail-rows text rows border passed next k (c.as_flattened.ensures.value ∙ c.spill_last-rows.ensures ∙ ap (λ i. drop i text ++ replicate k 0) (sym is)) (sym there) inside)
-          (length (bytes_of c.escape_before_last-next.new.target)) (bits_of 64 c.shift_lanes-left.result) (omega (arith, from, is)) (omega arith) (subst (λ bs. HoldsFlags mode text next left next bs) (sym c.shift_lanes-left.ensures) held) (omega (arith, on, inside, e.stretch.same_slice.len, c.requires.room))),
+      (
+        within-tail text (take (length rows - passed) (drop passed rows)) _ border next k
+            (tail-rows text rows border passed next k (c.as_flattened.ensures.value ∙ c.spill_last-rows.ensures ∙ ap (λ i. drop i text ++ replicate k 0) (sym is)) (sym there) inside)
+            (c.requires.flagged.back_asked ∙ ap (λ i. drop i text) (sym is)) (omega (arith, from, is)) inside,
+        last-vector mode (reach true n) n text (take (length rows - passed) (drop passed rows)) next left k c.escape_before_last-next.result.1 inside (omega arith)
+            (tail-rows text rows border passed next k (c.as_flattened.ensures.value ∙ c.spill_last-rows.ensures ∙ ap (λ i. drop i text ++ replicate k 0) (sym is)) (sym there) inside)
+            (length (bytes_of c.escape_before_last-next.new.target)) (bits_of 64 c.shift_lanes-left.result) (omega (arith, from, is)) (omega arith) (subst (λ bs. HoldsFlags mode text next left next bs) (sym c.shift_lanes-left.ensures) held) (omega (arith, on, inside, e.stretch.same_slice.len, c.requires.room)),
+      ),
     )
 
 pub returns : goal.returns

@@ -1,6 +1,6 @@
 -- A vector escaped in blocks, block after block.
-use Rattle.std.proofs.Common.{◌≡◌, ℕ, ◌+◌, ◌-◌, ◌*◌, ◌/◌, ◌<◌, ◌≤◌, min, Bool, true, false, cond, List, [], ◌++◌, length, take, drop, map, replicate, nat_eq, get_or, sym, ap, ◌∙◌, arith, length-append, length-take-le, length-drop}
-use Rattle.escape_simd.proofs.Words.{paste, nat_tests, drop-drop, length-map, take-map, take-take, get_or-take, get_or-drop, get_or_past, bits_of, first_set, length-bits_of, Mode, bytes_of, stored_of, Target, shortened, flag_count, flagged_blocks, put_apart, IsBlock, Stretch, HasBlocks}
+use Rattle.std.proofs.Common.{◌≡◌, ℕ, ◌+◌, ◌-◌, ◌*◌, ◌/◌, ◌<◌, ◌≤◌, min, Bool, true, false, cond, not, ◌&&◌, ◌||◌, List, [], ◌++◌, length, take, drop, map, replicate, nat_eq, get_or, sym, ap, ◌∙◌, arith, length-append, length-take-le, length-drop}
+use Rattle.escape_simd.proofs.Words.{IsWithin, Tells, cases_Bool, paste, nat_tests, drop-drop, length-map, take-map, take-take, get_or-take, get_or-drop, get_or_past, bits_of, first_set, length-bits_of, Mode, bytes_of, stored_of, Target, shortened, flag_count, flagged_blocks, put_apart, IsBlock, Stretch, HasBlocks}
 use Rattle.std.proofs.lemmas.Simd.{length-replicate}
 use Rattle.std.proofs.lemmas.List.Sums.{count_by-le-length}
 use Rattle.escape_simd.proofs.Lanes.{first_set-here}
@@ -37,6 +37,23 @@ pub record AreDone {N : ℕ} (mode : Mode) (src : List ℕ) (bits : List Bool) (
   pub stored : stored_of new + flagged_blocks blocks bits ≡ stored_of old + blocks
   pub few : blocks ≤ (valid + 7) / 8
 
+-- The same, with what is left of the vector's own classification, unless a block used it up. Each further block without a flag was
+-- classified.
+pub record BlocksSoFar {N : ℕ} (mode : Mode) (src : List ℕ) (bits : List Bool) (old new : Target N) (at valid to end blocks : ℕ) (own : List ℕ) (used : Bool) (ticks_old ticks_new : ℕ) : Type 0 where
+  pub done : AreDone mode src bits old new at valid to end blocks
+  pub more : 8 * blocks < valid
+  pub own_left : used ≡ false → IsWithin (take valid (drop at src)) own
+  pub unused : used ≡ false → stored_of new ≡ stored_of old
+  pub some : used ≡ true → stored_of old + 1 ≤ stored_of new
+  pub counted : ticks_new + cond used 1 0 + stored_of old ≡ ticks_old + stored_of new
+
+-- how a block changes the counts
+pub block-counts : (before after z ticks ticks2 count s0 s1 s2 : ℕ) (used flagged used2 : Bool) → flagged ≡ not (nat_eq count 0) → used2 ≡ (used || not flagged) → ticks2 ≡ ticks + cond (not flagged && used) 1 0 → s2 ≡ s1 + cond (nat_eq count 0) 1 0
+    → (used ≡ false → s1 ≡ s0) → (used ≡ true → s0 + 1 ≤ s1) → ticks + cond used 1 0 + s0 ≡ before + s1
+    → ((used2 ≡ false → s2 ≡ s0) × (used2 ≡ true → s0 + 1 ≤ s2)) × (ticks2 + cond used2 1 0 + s0 ≡ before + s2)
+block-counts before after z ticks ticks2 count s0 s1 s2 true flagged used2 f u t s none some c = grind (arith, nat_tests)
+block-counts before after z ticks ticks2 count s0 s1 s2 false flagged used2 f u t s none some c = grind (arith, nat_tests)
+
 module _ {mode : Mode} {src : List ℕ} (f : ℕ) {at valid to size : ℕ} (h : HasBlocks mode src at valid to size (bits_of 64 f)) where
   -- the flags
   abbrev bits : List Bool
@@ -45,6 +62,10 @@ module _ {mode : Mode} {src : List ℕ} (f : ℕ) {at valid to size : ℕ} (h : 
   -- the first one
   first : get_or bits (first_set bits) false ≡ true
   first = first_set-here bits h.some
+
+  -- it is one of a byte's
+  pub first-valid : first_set bits < valid
+  first-valid = (h.flags.set (first_set bits) first).0
 
   -- the mode has short escapes
   clean : KeepsClean mode
@@ -84,6 +105,13 @@ module _ {mode : Mode} {src : List ℕ} (f : ℕ) {at valid to size : ℕ} (h : 
       short = λ i s. let l = flag i s in let t = h.flags.set (8 * block + i) l.1 in rw (byte i) (h.short (8 * block + i) t.0 l.1 t.1);
       unset = λ i l c. rw (byte i) (h.flags.unset (8 * block + i) (sym (get_or-take 8 (drop (8 * block) bits) i false (omega (arith, l)) ∙ get_or-drop (8 * block) bits i false) ∙ c) (omega arith) (omega (arith, l)));
     }
+
+    -- the mask tells of them
+    pub block-told : Tells mode (take valid (drop at src)) bits (8 * block) (min valid (8 * block + 8))
+    block-told k later few =
+        let t = h.flags.set k in let u = h.flags.unset k in
+        let there : get_or (take valid (drop at src)) k 0 ≡ get_or src (at + k) 0 = get_or-take valid (drop at src) k 0 (omega (arith, few)) ∙ get_or-drop at src k 0 in
+        grind (arith, cases_Bool)
 
     -- 16 bytes can be loaded there
     pub next-inside : at + 8 * block + 16 ≤ length src

@@ -46,7 +46,8 @@ fn long_lanes<const MODE: u8>(text: &[u8], at: usize) -> u64
     (control | angle | ampersand | lead).to_bitmask()
 }
 
-/// Returns whether a byte of the text is flagged that needs an escape and has no short one. HTML has none at all.
+/// Returns whether a byte of the text is flagged that needs an escape and has no short one. `MODE` is not that of HTML, which
+/// has no short escapes.
 ///
 /// The text has a multiple of 16 bytes, at most 64. Of a text with `"` and `\u{1}` that is so where the second is flagged.
 #[inline(always)]

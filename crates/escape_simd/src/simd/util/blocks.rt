@@ -3,14 +3,14 @@ ghost use Rattle.std.specs.Prelude.{◌≡◌, ◌+◌, ◌-◌, ◌*◌, ◌/�
 ghost use Rattle.escape_lanes.specs.Bits.{bits_of, gaps, none_set};
 ghost use Rattle.escape_lanes.specs.Classified.{asked_of, IsWithin, Tells};
 ghost use Rattle.escape_lanes.specs.Short.{shortened};
-ghost use Rattle.escape_lanes.specs.Spread.{flagged_blocks, IsBlock};
+ghost use Rattle.escape_lanes.specs.Spread.{flag_count, flagged_blocks, IsBlock};
 ghost use Rattle.escape_lanes.specs.Written.{bytes_of, stored_of};
 ghost use Rattle.escape_simd.specs.Modes.{mode_numbered};
 ghost use Rattle.escape_simd.specs.Stretch.{AreShort, HasBlocks, Stretch};
 
 use crate::simd::HTML_MODE;
 use escape_lanes::simd::classify::{Classified, classify_by_mask};
-use escape_lanes::simd::lane_bits::{count_flagged_blocks, count_gaps, eight_lanes};
+use escape_lanes::simd::lane_bits::{count_flagged_blocks, count_gaps, eight_lanes, is_flagged};
 use escape_lanes::simd::short::{has_long, shorten};
 use escape_lanes::simd::target::{Target, Ticks};
 
@@ -89,7 +89,7 @@ fn put_block<const N: usize>(
     to: usize,
 ) -> usize
     requires inside { at + 16 ≤ length src.now }
-    requires classified { flags ≡ 0 → IsWithin (take _count (drop at src.now)) (asked_of _classified) }
+    requires classified { flag_count (bits_of 8 flags) ≡ 0 → IsWithin (take _count (drop at src.now)) (asked_of _classified) }
     requires room { to + 16 ≤ length (bytes_of target.old) }
     ensures { IsBlock (bits_of 8 flags) (take 8 (map shortened (take 16 (drop at src.now)))) target.old target.new to result }
 {
@@ -111,6 +111,7 @@ pub(crate) fn escape_blocks<const MODE: u8, const N: usize>(
     ticks: &mut Ticks,
 ) -> usize
     requires classified { IsWithin (take valid (drop at src.now)) (asked_of classified) }
+    requires fits { valid ≤ N }
     requires blocks { HasBlocks (mode_numbered MODE) src.now at valid to (length (bytes_of target.old)) (bits_of 64 mask) }
     ensures stretch { Stretch (mode_numbered MODE) 16 src.now target.old target.new at (at + valid) to result }
     ensures stored { stored_of target.new + flagged_blocks 8 (bits_of 64 mask) ≡ stored_of target.old + (valid + 7) / 8 }
@@ -120,7 +121,7 @@ pub(crate) fn escape_blocks<const MODE: u8, const N: usize>(
     let mut used = false;
     let mut end = to;
     let mut block = 0;
-    'blocks: while 8 * block < valid {
+    'blocks: while 8 * block < N {
         let flags = eight_lanes(mask, block);
         let until = valid.min(8 * block + 8);
         let asked = classify_block::<MODE>(
@@ -128,7 +129,7 @@ pub(crate) fn escape_blocks<const MODE: u8, const N: usize>(
             8 * block,
             until,
             mask,
-            flags != 0,
+            is_flagged(flags),
             own,
             used,
             ticks,
@@ -145,6 +146,9 @@ pub(crate) fn escape_blocks<const MODE: u8, const N: usize>(
             end,
         );
         block += 1;
+        if valid <= 8 * block {
+            break;
+        }
     }
     end - (8 * block - valid)
 }

@@ -63,12 +63,3 @@ returns g c =
 
 pub store_loaded-requires : goal.store_loaded-requires
 store_loaded-requires g c = (omega arith, (grind arith, (within-all _ _ c.classify-flags1.ensures.asked, grind (arith, c.requires))))
-
-pub store_loaded-requires-2 : goal.store_loaded-requires-2
-store_loaded-requires-2 g c = (omega arith, (grind arith, (within-all _ _ c.classify-flags2.ensures.asked, grind (arith, c.requires))))
-
-pub store_loaded-requires-3 : goal.store_loaded-requires-3
-store_loaded-requires-3 g c = (omega arith, (grind arith, (within-all _ _ c.classify-flags3.ensures.asked, grind (arith, c.requires))))
-
-pub store_loaded-requires-4 : goal.store_loaded-requires-4
-store_loaded-requires-4 g c = (omega arith, (grind arith, (within-all _ _ c.classify-flags4.ensures.asked, grind (arith, c.requires))))

@@ -9,7 +9,7 @@ use std::alloc::Allocator;
 ///
 /// The output for a text shorter than two vectors has at most as many bytes. The compiler makes stores of so many, and
 /// no call.
-pub const PIECE: usize = 448;
+const ZEROS: usize = 448;
 
 /// Appends the bytes to a vector that has room for them.
 ///
@@ -37,8 +37,8 @@ pub(super) fn fill<A: Allocator>(dst: &mut Vec<u8, A>, len: usize)
     ensures filled { (vec_len dst.old ≤ vec_len dst.new) × (len ≤ vec_len dst.new) }
     ensures capacity { vec_capacity dst.old ≤ vec_capacity dst.new }
 {
-    'zeros: while dst.len() < len && PIECE <= dst.capacity() - dst.len() {
-        push_all(dst, &[0; PIECE]);
+    'zeros: while dst.len() < len && ZEROS <= dst.capacity() - dst.len() {
+        push_all(dst, &[0; ZEROS]);
     }
     if dst.len() < len {
         let Ok(()) = dst.resize(len, 0) else {

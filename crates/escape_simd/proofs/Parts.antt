@@ -56,14 +56,6 @@ front-more mode src at end n front inside clean = record {
   clean = λ k after before. grind (arith, clean, front.clean);
 }
 
--- a shorter one
-pub front-less : (mode : Mode) (src : List ℕ) (at next end : ℕ) → IsFront mode src at end → at ≤ next → next ≤ end → IsFront mode src at next
-front-less mode src at next end front forward within = record {
-  forward = forward;
-  inside = omega (arith, front.inside, within);
-  clean = λ k after before. front.clean k after (omega (arith, before, within));
-}
-
 -- it was appended as it is, and then what stands for the rest
 pub front-rest : (mode : Mode) (src old new more : List ℕ) (at : ℕ) → IsFront mode src 0 at → new ≡ old ++ take at src → more ≡ new ++ (inner mode (slice_range src at (length src)) ++ quote_of mode) → more ≡ old ++ (inner mode src ++ quote_of mode)
 front-rest mode src old new more at front copied appended =

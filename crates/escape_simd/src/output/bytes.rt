@@ -5,7 +5,7 @@ ghost use Rattle.std.specs.Prelude.{◌≡◌, ◌+◌, ◌*◌, ◌<◌, ◌≤
 ghost use Rattle.escape_simd.specs.Modes.{mode_numbered};
 ghost use Rattle.escape_simd.specs.Output.{inner, quote_of};
 
-use crate::output::clean::clean_end;
+use crate::output::clean::mask_at;
 use crate::output::in_place::append_in_place;
 use crate::output::push::{lanes, load, push_all, push_quote};
 use crate::output::{N, V};
@@ -50,23 +50,21 @@ pub(super) fn append_last<const MODE: u8, A: Allocator>(text: &[u8], dst: &mut V
     append_in_place::<MODE, A>(text, dst);
 }
 
-/// Appends what stands for a text of two vectors or more: its clean front as it is, and the rest in place.
+/// Appends what stands for a text of two vectors or more: the vectors of its clean front from registers, and the rest
+/// in place.
 #[inline(never)]
 pub(super) fn append_long<const MODE: u8, A: Allocator>(text: &[u8], dst: &mut Vec<u8, A>)
     requires { vec_len dst.old + 6 * length text.now + N ≤ vec_capacity dst.old }
     ensures { dst.new.items ≡ dst.old.items
         ++ (inner (mode_numbered MODE) text.now ++ quote_of (mode_numbered MODE)) }
 {
-    let end = clean_end::<MODE>(text, 0);
     let mut at = 0;
-    // Vector by vector: a copy of a number of bytes that is known only at run time is a call.
-    'front: while N <= end - at {
+    'front: while 2 * N <= text.len() - at {
+        if !mask_at::<MODE>(text, at, N).all_zero() {
+            return append_in_place::<MODE, A>(&text[at..], dst);
+        }
         push_all(dst, &lanes(&load(text, at)));
         at += N;
     }
-    let rest = &text[at..];
-    if rest.len() < 2 * N {
-        return append_last::<MODE, A>(rest, dst);
-    }
-    append_in_place::<MODE, A>(rest, dst);
+    append_last::<MODE, A>(&text[at..], dst);
 }

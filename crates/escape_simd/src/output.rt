@@ -1,7 +1,7 @@
 //! The calls on which further calls are built. Each has the number of the mode as its constant parameter `MODE`:
-//! [`JSON_MODE`](crate::simd::JSON_MODE), [`HTML_MODE`] or [`SCRIPT_MODE`](crate::simd::SCRIPT_MODE). No other number
-//! is accepted.
-ghost use Rattle.std.specs.Prelude.{◌≡◌, ◌+◌, ◌*◌, ◌<◌, ◌≤◌, ◌↔◌, ◌++◌, length, take, chars, string_bytes, vec_len, vec_capacity, Err, IsOk, IfOk, OnOk, OnErr, IfSome, IsNone};
+//! [`JSON_MODE`](crate::simd::JSON_MODE), [`HTML_MODE`] or [`SCRIPT_MODE`](crate::simd::SCRIPT_MODE). No other number is
+//! accepted.
+ghost use Rattle.std.specs.Prelude.{◌≡◌, ◌+◌, ◌*◌, ◌<◌, ◌≤◌, ◌^◌, ◌↔◌, ◌++◌, length, take, chars, string_bytes, vec_len, vec_capacity, Err, IsOk, IfOk, OnOk, OnErr, IfSome, IsNone};
 ghost use Rattle.escape_simd.specs.Modes.{mode_numbered};
 ghost use Rattle.escape_simd.specs.Output.{plain, inner, quote_of, bound};
 ghost use Rattle.escape_simd.specs.Spelling.{IsTextOf};
@@ -22,8 +22,7 @@ use bytes::{append_last, append_long};
 pub use clean::is_clean;
 pub use error::Refusal;
 pub use length::escaped_len;
-pub use push::PIECE;
-use push::push_all;
+use push::push_quote;
 use std::alloc::Allocator;
 
 /// The vector by which texts are appended, and how many bytes it has.
@@ -88,11 +87,10 @@ pub fn write_inner<const MODE: u8>(value: &str, dst: &mut [u8], at: usize) -> us
 
 /// Appends the output of a text to a vector that has room for it.
 fn append_output<const MODE: u8, A: Allocator>(value: &str, dst: &mut Vec<u8, A>)
-    requires mode { MODE ≤ 2 }
-    requires room { vec_len dst.old + bound (mode_numbered MODE) (length value.now) ≤ vec_capacity dst.old }
+    requires { vec_len dst.old + bound (mode_numbered MODE) (length value.now) ≤ vec_capacity dst.old }
     ensures { dst.new.items ≡ dst.old.items ++ plain (mode_numbered MODE) value.now }
 {
-    push_all(dst, quote::<MODE>().as_bytes());
+    push_quote::<MODE, A>(dst);
     let text = value.as_bytes();
     if text.len() < 2 * N {
         return append_last::<MODE, A>(text, dst);
@@ -108,7 +106,7 @@ fn append_output<const MODE: u8, A: Allocator>(value: &str, dst: &mut Vec<u8, A>
 /// # Errors
 ///
 /// - [`Refusal::TooLarge`]: the bound exceeds `usize::MAX`.
-/// - [`Refusal::OutOfMemory`]: the allocator refused the memory.
+/// - [`Refusal::OutOfMemory`]: the allocator refused the memory, or `dst` would have to hold more than `isize::MAX` bytes.
 ///
 /// `dst` is unchanged after each.
 ///
@@ -125,6 +123,7 @@ pub fn append<const MODE: u8, A: Allocator>(
     ensures too_large { (result ≡ Err Refusal.TooLarge)
         ↔ (usize.MAX < bound (mode_numbered MODE) (length value.now)) }
     ensures fits { OnOk result (bound (mode_numbered MODE) (length value.now) ≤ usize.MAX) }
+    ensures vector_size { OnOk result (vec_len dst.old + bound (mode_numbered MODE) (length value.now) < 2 ^ 63) }
     ensures has_room { vec_len dst.old + bound (mode_numbered MODE) (length value.now)
         ≤ vec_capacity dst.old → IsOk result }
 {
@@ -152,6 +151,7 @@ pub(crate) fn text<const MODE: u8, A: Allocator>(
         value.now (string_bytes output)) }
     ensures len { IfOk result (λ output. HasOutputLength (mode_numbered MODE)
         (length value.now) (string_bytes output)) }
+    ensures vector_size { OnOk result (bound (mode_numbered MODE) (length value.now) < 2 ^ 63) }
     ensures too_large { (result ≡ Err Refusal.TooLarge)
         ↔ (usize.MAX < bound (mode_numbered MODE) (length value.now)) }
 {

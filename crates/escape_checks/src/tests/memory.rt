@@ -1,6 +1,7 @@
 //! Memory that is refused: each request of a call in turn, until it is `Ok`, and what was asked for.
 
 use crate::routes::KERNELS;
+use crate::tests::pieces::ZEROS;
 use crate::tests::rationed::{Rationed, Requests};
 use crate::tests::texts::{all_are, holds, repeated};
 use escape_simd::html::{
@@ -121,7 +122,7 @@ fn appending_asks_once_for_the_bound(rt: HostRuntime) {
 
 #[test]
 fn a_long_text_asks_once_for_the_bound(rt: HostRuntime) {
-    let len = 3 * escape_simd::PIECE;
+    let len = 3 * ZEROS;
     let text = repeated(&rt, &[(len, "\"")]);
     let output = repeated(&rt, &[(1, "\""), (len, "\\\""), (1, "\"")]);
     asks_once(&rt, (Call::Json, &text, 6 * len + 35, &output), 1, 0);

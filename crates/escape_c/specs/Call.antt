@@ -1,22 +1,13 @@
 -- What a call from C answers.
 use Rattle.std.specs.Prelude.{◌≡◌, ℕ, ◌≤◌, ◌<◌, ◌^◌, List, ◌++◌, length, IsUtf8}
 use Rattle.std.proofs.Common.{zero, suc}
-use Rattle.escape_lanes.specs.Mode.{json, html, script}
-use Rattle.escape_lanes.specs.Mode as meaning
+use Rattle.escape_lanes.specs.Mode.{Mode}
 use Rattle.escape_simd.specs.Kernels.{lanes_of}
 use Rattle.escape_simd.specs.Output.{bound, inner, plain}
 use Rattle.escape_simd.specs.declared.Kernel.{Kernel}
 use Rattle.escape_simd.specs.declared.Kernel.TheVariants.{V128, Sse2, Neon, Avx2, Avx512}
-use Rattle.escape_c.specs.declared.call.Mode.{Mode}
-use Rattle.escape_c.specs.declared.call.Mode.TheVariants.{Json, Html, Script}
 use Rattle.escape_c.specs.declared.call.Refusal.{Refusal}
 use Rattle.escape_c.specs.declared.call.Refusal.TheVariants.{NotUtf8, TooShort, TooLarge, NoKernel}
-
--- what the mode writes
-abbrev pub escaping : Mode → meaning.Mode
-escaping Json = json
-escaping Html = html
-escaping Script = script
 
 -- The kernel that a number names: 0 names the default one. Numbers past 5 name none, and are refused.
 abbrev pub kernel_numbered : ℕ → Kernel
@@ -43,13 +34,13 @@ status_of TooLarge = 3
 status_of NoKernel = 4
 
 -- the text is escaped into a buffer of so many bytes
-pub record Accepts (mode : meaning.Mode) (kernel : ℕ) (text : List ℕ) (room : ℕ) : Type 0 where
+pub record Accepts (mode : Mode) (kernel : ℕ) (text : List ℕ) (room : ℕ) : Type 0 where
   pub names_kernel : NamesKernel kernel
   pub has_room : bound mode (length text) ≤ room
   pub is_text : IsUtf8 text
 
 -- Why it is not. Of several reasons the first counts: the kernel, the size, the buffer, the text.
-abbrev pub Refuses : meaning.Mode → ℕ → List ℕ → ℕ → Refusal → Type 0
+abbrev pub Refuses : Mode → ℕ → List ℕ → ℕ → Refusal → Type 0
 Refuses mode kernel text room NoKernel = ¬ (NamesKernel kernel)
 Refuses mode kernel text room TooLarge = NamesKernel kernel × (2 ^ 64 ≤ bound mode (length text))
 Refuses mode kernel text room TooShort =
@@ -59,29 +50,29 @@ Refuses mode kernel text room NotUtf8 =
 
 -- Wherever the text is a piece of a longer one, after a text and before any bytes, the output is a piece of what
 -- stands for that.
-abbrev pub JoinsPieces : meaning.Mode → List ℕ → List ℕ → Type 0
+abbrev pub JoinsPieces : Mode → List ℕ → List ℕ → Type 0
 JoinsPieces mode text output = (before after : List ℕ) → IsUtf8 before
     → inner mode (before ++ (text ++ after)) ≡ inner mode before ++ (output ++ inner mode after)
 
 -- The bytes are a text, and the output for it has a length that can be told. Only a text has an output.
-pub record HasLength (mode : meaning.Mode) (text : List ℕ) : Type 0 where
+pub record HasLength (mode : Mode) (text : List ℕ) : Type 0 where
   pub is_text : IsUtf8 text
   pub fits : length (plain mode text) < 2 ^ 64
 
 -- why they have none
-abbrev pub RefusesLength : meaning.Mode → List ℕ → Refusal → Type 0
+abbrev pub RefusesLength : Mode → List ℕ → Refusal → Type 0
 RefusesLength mode text NoKernel = ⊥
 RefusesLength mode text TooLarge = IsUtf8 text × (2 ^ 64 ≤ length (plain mode text))
 RefusesLength mode text TooShort = ⊥
 RefusesLength mode text NotUtf8 = ¬ (IsUtf8 text)
 
 -- they have, and a buffer of so many bytes has room for the output
-pub record AcceptsExact (mode : meaning.Mode) (text : List ℕ) (room : ℕ) : Type 0 where
+pub record AcceptsExact (mode : Mode) (text : List ℕ) (room : ℕ) : Type 0 where
   pub has_length : HasLength mode text
   pub has_room : length (plain mode text) ≤ room
 
 -- why it is not written to that buffer
-abbrev pub RefusesExact : meaning.Mode → List ℕ → ℕ → Refusal → Type 0
+abbrev pub RefusesExact : Mode → List ℕ → ℕ → Refusal → Type 0
 RefusesExact mode text room NoKernel = ⊥
 RefusesExact mode text room TooLarge = RefusesLength mode text TooLarge
 RefusesExact mode text room TooShort = HasLength mode text × (room < length (plain mode text))

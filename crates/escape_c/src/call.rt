@@ -1,30 +1,18 @@
 //! What the exports of all modes share: a text is escaped into a buffer, or refused by a status.
-ghost use Rattle.std.specs.Prelude.{◌≡◌, ◌≢◌, ◌≤◌, ◌<◌, ◌↔◌, ◌^◌, length, take, chars, IsUtf8, Ok, Err, IfOk, OnErr, IsOk};
+ghost use Rattle.std.specs.Prelude.{◌≡◌, ◌≢◌, ◌≤◌, ◌<◌, ◌↔◌, ◌^◌, ◌++◌, length, take, chars, IsUtf8, Ok, Err, IfOk, OnErr, IsOk};
 ghost use Rattle.escape_simd.specs.Formatted.{IsInnerWritten, IsWritten};
 ghost use Rattle.escape_simd.specs.Headline.{IsOnlyOutput};
 ghost use Rattle.escape_simd.specs.Kernels.{lanes_of};
 ghost use Rattle.escape_simd.specs.Laws.{IsOfOneText, AgreesWithEach};
-ghost use Rattle.escape_simd.specs.Output.{bound, quoted};
+ghost use Rattle.escape_simd.specs.Modes.{escaping};
+ghost use Rattle.escape_simd.specs.Output.{bound, quote_of};
 ghost use Rattle.escape_simd.specs.declared.Kernel.{Kernel};
-ghost use Rattle.escape_c.specs.declared.call.Mode.{Mode};
 ghost use Rattle.escape_c.specs.declared.call.Refusal.{Refusal};
-ghost use Rattle.escape_c.specs.Call.{escaping, kernel_numbered, lanes_numbered, NamesKernel, status_of, Accepts, JoinsPieces, Refuses};
+ghost use Rattle.escape_c.specs.Call.{kernel_numbered, lanes_numbered, NamesKernel, status_of, Accepts, JoinsPieces, Refuses};
 
-use escape_simd::html::html_capacity;
-use escape_simd::json::json_capacity;
-use escape_simd::{
-    Kernel, format_html_string, format_json_inner, format_json_string, format_script_inner,
-    format_script_string,
-};
+pub(crate) use escape_simd::Mode;
+use escape_simd::{Kernel, format_inner, format_text};
 use std::str;
-
-/// What is written.
-#[derive(Clone, Copy)]
-pub(crate) enum Mode {
-    Json,
-    Html,
-    Script,
-}
 
 /// Why nothing is written. Its number is the status, which is 0 where all is.
 #[derive(Clone, Copy)]
@@ -57,11 +45,7 @@ fn capacity(mode: Mode, len: usize) -> Result<usize, Refusal>
     ensures ok { IsOk result ↔ (bound (escaping mode) len < 2 ^ 64) }
     ensures err { OnErr result (result ≡ Err Refusal.TooLarge) }
 {
-    let capacity = match mode {
-        Mode::Json | Mode::Script => json_capacity(len).ok(),
-        Mode::Html => html_capacity(len).ok(),
-    };
-    capacity.ok_or(Refusal::TooLarge)
+    mode.capacity(len).ok().ok_or(Refusal::TooLarge)
 }
 
 /// Returns how many bytes a buffer must have for a text of `len` bytes, or 0 where that passes `usize::MAX`.
@@ -104,38 +88,17 @@ pub(crate) fn as_text(bytes: &[u8]) -> Result<&str, Refusal>
     }
 }
 
-/// Escapes the text to the front of `buffer` by the kernel, and returns how many bytes it became.
+/// Escapes the text to the front of `buffer` by the kernel, with no quotation marks. Returns how many bytes it became.
 #[inline(always)]
-fn format(mode: Mode, kernel: Kernel, text: &str, buffer: &mut [u8]) -> usize
+fn inner(mode: Mode, kernel: Kernel, text: &str, buffer: &mut [u8]) -> usize
     requires { bound (escaping mode) (length text.now) ≤ length buffer.old }
-    ensures written { IsWritten (lanes_of kernel) (escaping mode) text.now buffer.old buffer.new result }
-    ensures headline { IsOnlyOutput (escaping mode) (take result buffer.new) (chars text.now) }
-    ensures equal_texts { IsOfOneText (escaping mode) text.now (take result buffer.new) }
-    ensures agree { AgreesWithEach (escaping mode) text.now result (take result buffer.new) }
-{
-    match mode {
-        Mode::Json => format_json_string(kernel, text, buffer),
-        Mode::Html => format_html_string(kernel, text, buffer),
-        Mode::Script => format_script_string(kernel, text, buffer),
-    }
-}
-
-/// As [`format`], without quotation marks.
-#[inline(always)]
-fn format_inner(mode: Mode, kernel: Kernel, text: &str, buffer: &mut [u8]) -> usize
-    requires literal { mode ≢ Mode.Html }
-    requires room { bound (escaping mode) (length text.now) ≤ length buffer.old }
     ensures written { IsInnerWritten (lanes_of kernel) (escaping mode)
         text.now buffer.old buffer.new result }
     ensures headline { IsOnlyOutput (escaping mode)
-        (quoted (take result buffer.new)) (chars text.now) }
+        (quote_of (escaping mode) ++ (take result buffer.new ++ quote_of (escaping mode))) (chars text.now) }
     ensures joined { JoinsPieces (escaping mode) text.now (take result buffer.new) }
 {
-    match mode {
-        Mode::Json => format_json_inner(kernel, text, buffer),
-        Mode::Script => format_script_inner(kernel, text, buffer),
-        Mode::Html => unreachable!(),
-    }
+    format_inner(kernel, mode, text, buffer)
 }
 
 /// Writes the count to `count`, or 0 after a refusal. Returns the status.
@@ -181,7 +144,7 @@ pub(crate) fn escape(
 {
     let written = match kernel_for(mode, kernel, text.len(), buffer.len()) {
         Ok(kernel) => match as_text(text) {
-            Ok(text) => Ok(format(mode, kernel, text, buffer)),
+            Ok(text) => Ok(format_text(kernel, mode, text, buffer)),
             Err(why) => Err(why),
         },
         Err(why) => Err(why),
@@ -214,7 +177,7 @@ pub(crate) fn escape_unchecked(
 {
     let text = unsafe { str::from_utf8_unchecked(text) };
     let written = match kernel_for(mode, kernel, text.len(), buffer.len()) {
-        Ok(kernel) => Ok(format(mode, kernel, text, buffer)),
+        Ok(kernel) => Ok(format_text(kernel, mode, text, buffer)),
         Err(why) => Err(why),
     };
     status(written, count)
@@ -229,21 +192,20 @@ pub(crate) fn escape_inner(
     buffer: &mut [u8],
     count: &mut usize,
 ) -> u32
-    requires { mode ≢ Mode.Html }
     ensures refused { (why : Refusal) → (result ≡ status_of why)
         ↔ Refuses (escaping mode) kernel text.now (length buffer.old) why }
     ensures ok { (result ≡ 0) ↔ Accepts (escaping mode) kernel text.now (length buffer.old) }
     ensures written { result ≡ 0 → IsInnerWritten (lanes_numbered kernel) (escaping mode)
         text.now buffer.old buffer.new count.new }
     ensures headline { result ≡ 0 → IsOnlyOutput (escaping mode)
-        (quoted (take count.new buffer.new)) (chars text.now) }
+        (quote_of (escaping mode) ++ (take count.new buffer.new ++ quote_of (escaping mode))) (chars text.now) }
     ensures joined { result ≡ 0
         → JoinsPieces (escaping mode) text.now (take count.new buffer.new) }
     ensures unchanged { result ≢ 0 → (buffer.new ≡ buffer.old) × (count.new ≡ 0) }
 {
     let written = match kernel_for(mode, kernel, text.len(), buffer.len()) {
         Ok(kernel) => match as_text(text) {
-            Ok(text) => Ok(format_inner(mode, kernel, text, buffer)),
+            Ok(text) => Ok(inner(mode, kernel, text, buffer)),
             Err(why) => Err(why),
         },
         Err(why) => Err(why),
@@ -260,22 +222,21 @@ pub(crate) fn escape_inner_unchecked(
     buffer: &mut [u8],
     count: &mut usize,
 ) -> u32
-    requires literal { mode ≢ Mode.Html }
-    requires text { IsUtf8 text.now }
+    requires { IsUtf8 text.now }
     ensures refused { (why : Refusal) → (result ≡ status_of why)
         ↔ Refuses (escaping mode) kernel text.now (length buffer.old) why }
     ensures ok { (result ≡ 0) ↔ Accepts (escaping mode) kernel text.now (length buffer.old) }
     ensures written { result ≡ 0 → IsInnerWritten (lanes_numbered kernel) (escaping mode)
         text.now buffer.old buffer.new count.new }
     ensures headline { result ≡ 0 → IsOnlyOutput (escaping mode)
-        (quoted (take count.new buffer.new)) (chars text.now) }
+        (quote_of (escaping mode) ++ (take count.new buffer.new ++ quote_of (escaping mode))) (chars text.now) }
     ensures joined { result ≡ 0
         → JoinsPieces (escaping mode) text.now (take count.new buffer.new) }
     ensures unchanged { result ≢ 0 → (buffer.new ≡ buffer.old) × (count.new ≡ 0) }
 {
     let text = unsafe { str::from_utf8_unchecked(text) };
     let written = match kernel_for(mode, kernel, text.len(), buffer.len()) {
-        Ok(kernel) => Ok(format_inner(mode, kernel, text, buffer)),
+        Ok(kernel) => Ok(inner(mode, kernel, text, buffer)),
         Err(why) => Err(why),
     };
     status(written, count)

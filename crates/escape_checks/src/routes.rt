@@ -1,17 +1,14 @@
 //! The three ways to a kernel: over a target, over a slice, and by the kernel's value.
-ghost use Rattle.std.specs.Prelude.{◌≡◌, ◌≤◌, length, IfOk};
+ghost use Rattle.std.specs.Prelude.{◌≡◌, ◌≤◌, length};
 ghost use Rattle.escape_lanes.specs.Mode.{mode_of, script};
 ghost use Rattle.escape_simd.specs.Formatted.{IsWritten};
 ghost use Rattle.escape_simd.specs.Kernels.{lanes_of};
 ghost use Rattle.escape_simd.specs.Output.{bound};
-ghost use Rattle.escape_stream.specs.Words.{escaping};
+ghost use Rattle.escape_simd.specs.Modes.{escaping};
 
-use escape_simd::html::{InputTooLarge, html_capacity};
-use escape_simd::json::json_capacity;
 use escape_simd::simd::target::{Target, Ticks};
 use escape_simd::simd::{avx2, avx512, neon, sse2, v128};
-use escape_simd::{Kernel, format_html_string, format_json_string, format_script_string};
-use escape_stream::Mode;
+use escape_simd::{Kernel, Mode, format_text};
 
 /// Each mode.
 pub const MODES: [Mode; 3] = [Mode::Json, Mode::Html, Mode::Script];
@@ -32,7 +29,7 @@ pub enum Way {
     Target,
     /// `format_string` of the kernel's module.
     Slice,
-    /// The root's call, with the kernel's value.
+    /// `format_text`, with the values of the kernel and the mode.
     Value,
 }
 
@@ -56,22 +53,18 @@ pub fn format(way: Way, kernel: Kernel, mode: Mode, text: &str, dst: &mut [u8]) 
     requires { bound (escaping mode) (length text.now) ≤ length dst.old }
     ensures { IsWritten (lanes_of kernel) (escaping mode) text.now dst.old dst.new result }
 {
-    match mode {
-        Mode::Json => match way {
-            Way::Target => by_target::<false>(kernel, text, dst),
-            Way::Slice => by_slice::<false>(kernel, text, dst),
-            Way::Value => format_json_string(kernel, text, dst),
+    match way {
+        Way::Target => match mode {
+            Mode::Json => by_target::<false>(kernel, text, dst),
+            Mode::Html => by_target::<true>(kernel, text, dst),
+            Mode::Script => script_by_target(kernel, text, dst),
         },
-        Mode::Html => match way {
-            Way::Target => by_target::<true>(kernel, text, dst),
-            Way::Slice => by_slice::<true>(kernel, text, dst),
-            Way::Value => format_html_string(kernel, text, dst),
+        Way::Slice => match mode {
+            Mode::Json => by_slice::<false>(kernel, text, dst),
+            Mode::Html => by_slice::<true>(kernel, text, dst),
+            Mode::Script => script_by_slice(kernel, text, dst),
         },
-        Mode::Script => match way {
-            Way::Target => script_by_target(kernel, text, dst),
-            Way::Slice => script_by_slice(kernel, text, dst),
-            Way::Value => format_script_string(kernel, text, dst),
-        },
+        Way::Value => format_text(kernel, mode, text, dst),
     }
 }
 
@@ -126,18 +119,5 @@ fn script_by_slice(kernel: Kernel, text: &str, dst: &mut [u8]) -> usize
         Kernel::Neon => neon::format_script_string(text, dst),
         Kernel::Avx2 => avx2::format_script_string(text, dst),
         Kernel::Avx512 => avx512::format_script_string(text, dst),
-    }
-}
-
-/// How many bytes a target must have for the text. The error says that this passes `usize::MAX`.
-pub fn room(mode: Mode, text: &str) -> Result<usize, InputTooLarge>
-    ensures { IfOk result (λ room. room ≡ bound (escaping mode) (length text.now)) }
-{
-    match mode {
-        Mode::Html => html_capacity(text.len()),
-        Mode::Json | Mode::Script => match json_capacity(text.len()) {
-            Ok(room) => Ok(room),
-            Err(_) => Err(InputTooLarge),
-        },
     }
 }

@@ -1,13 +1,9 @@
 //! All that writes what stands for a text: the kernels in each way, the calls that allocate, and `run`.
-ghost use Rattle.std.specs.Prelude.{◌≤◌, length};
-ghost use Rattle.escape_simd.specs.Output.{bound};
-ghost use Rattle.escape_stream.specs.Words.{escaping};
-
-use crate::routes::{KERNELS, WAYS, Way, format, room};
+use crate::routes::{KERNELS, WAYS, Way, format};
 use escape_simd::html::{EscapeHtmlError, escape_html, escape_html_each, escape_html_into};
 use escape_simd::json::{escape, escape_into, escape_script, escape_script_into};
-use escape_simd::{Kernel, Refusal, format_html_string, format_json_inner, format_script_inner};
-use escape_stream::{Mode, run};
+use escape_simd::{Kernel, Mode, Refusal, format_inner};
+use escape_stream::run;
 use std::alloc::Global;
 
 /// What failed, or wrote something else than it was to write.
@@ -56,7 +52,7 @@ fn differing_kernel(
     text: &str,
     output: &[u8],
 ) -> Result<Option<Writer>, EscapeHtmlError> {
-    let mut target = vec![in alloc; 0xeeu8; room(mode, text)?]?;
+    let mut target = vec![in alloc; 0xeeu8; mode.capacity(text.len())?]?;
     for way in WAYS {
         target.fill(0xee);
         let count = format(way, kernel, mode, text, &mut target);
@@ -72,22 +68,10 @@ fn differing_kernel(
     Ok(None)
 }
 
-fn format_inner(kernel: Kernel, mode: Mode, text: &str, target: &mut [u8]) -> usize
-    requires { bound (escaping mode) (length text.now) ≤ length target.old }
-{
-    match mode {
-        Mode::Json => format_json_inner(kernel, text, target),
-        Mode::Html => format_html_string(kernel, text, target),
-        Mode::Script => format_script_inner(kernel, text, target),
-    }
-}
-
 /// A literal's bytes between its quotation marks, and all of HTML.
 pub(crate) fn between_quotes(mode: Mode, output: &[u8]) -> Option<&[u8]> {
-    match mode {
-        Mode::Html => Some(output),
-        Mode::Json | Mode::Script => output.get(1..output.len().saturating_sub(1)),
-    }
+    let quote = mode.quote().len();
+    output.get(quote..output.len().saturating_sub(quote))
 }
 
 /// The first call that fails or writes something else, of those that allocate.

@@ -37,14 +37,14 @@ bits-wide (suc n) j x h =
     rw (count, bits-suc (n + j) x, bits-suc n x, bits-wide n j (x / 2) half) refl
 
 -- the first m bits
-bits-take : (m j x : ℕ) → take m (bits_of (m + j) x) ≡ bits_of m x
+pub bits-take : (m j x : ℕ) → take m (bits_of (m + j) x) ≡ bits_of m x
 bits-take zero j x = sym (bits-nil x)
 bits-take (suc m) j x =
     let count : suc m + j ≡ suc (m + j) = omega arith in
     rw (count, bits-suc (m + j) x, bits-suc m x) (ap (λ bs. nat_eq (x % 2) 1 ∷ bs) (bits-take m j (x / 2)))
 
 -- the bits past the first m
-bits-drop : (m j x : ℕ) → drop m (bits_of (m + j) x) ≡ bits_of j (x / 2 ^ m)
+pub bits-drop : (m j x : ℕ) → drop m (bits_of (m + j) x) ≡ bits_of j (x / 2 ^ m)
 bits-drop zero j x =
     let count : 0 + j ≡ j = omega arith in
     let whole : x / 2 ^ 0 ≡ x = omega arith in
@@ -64,7 +64,7 @@ bits-shifted k m x le h =
     rw back at (bits-wide (k - m) m (x / 2 ^ m) small) ∙ ap (λ bs. bs ++ replicate m false) (rw more at (sym (bits-drop m (k - m) x)))
 
 -- the first w bits are those of a rest
-bits-low : (w x : ℕ) → bits_of w (x % 2 ^ w) ≡ bits_of w x
+pub bits-low : (w x : ℕ) → bits_of w (x % 2 ^ w) ≡ bits_of w x
 bits-low zero x = bits-nil (x % 2 ^ 0) ∙ sym (bits-nil x)
 bits-low (suc w) x =
     let parts : x % 2 ^ suc w ≡ x / 2 % 2 ^ w * 2 + x % 2 = rw add-one at (mod-pow-add x w 1) in
@@ -120,7 +120,7 @@ counted-cons : (b : Bool) (bs : List Bool) → count_by (λ b. b) (b ∷ bs) ≡
 counted-cons b bs = sum_by-cons (λ c. cond c 1 0) b bs
 
 -- no bit of 0 is set
-ones-zero : count_ones 0 ≡ 0
+pub ones-zero : count_ones 0 ≡ 0
 unfolding ones ones_in
 ones-zero = refl
 

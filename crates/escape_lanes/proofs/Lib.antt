@@ -9,3 +9,5 @@ pub mod NarrowLemmas
 pub mod NibbleLemmas
 pub mod TableLemmas
 pub mod WordLemmas
+pub mod SpreadLemmas
+pub mod ShortLemmas

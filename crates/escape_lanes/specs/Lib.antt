@@ -7,3 +7,5 @@ pub mod Nibble
 pub mod Words
 pub mod Written
 pub mod Spread
+pub mod Short
+pub mod Classified

@@ -3,6 +3,7 @@
 pub mod avx2;
 pub mod avx512;
 pub mod bits;
+pub mod classify;
 mod down;
 pub mod flags;
 mod front;
@@ -11,12 +12,15 @@ pub mod lane_bits;
 mod lanes;
 pub mod last;
 pub mod neon;
+pub mod short;
 pub mod sse2;
 pub mod target;
 mod ticks;
 pub mod traits;
 pub mod v128;
+pub mod vector;
 
 pub use flags::Flags;
 pub use last::LoadLast;
-pub use traits::{BitMask, Mask, Simd};
+pub use traits::{BitMask, LoadStore, Mask, Simd};
+pub use vector::Vector;

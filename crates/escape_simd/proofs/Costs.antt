@@ -5,7 +5,7 @@ use Rattle.std.proofs.lemmas.Nat.{le-div}
 use Rattle.escape_lanes.specs.Mode.{Mode}
 use Rattle.escape_lanes.specs.Written.{bytes_of}
 use Rattle.escape_lanes.specs.declared.simd.target.Target.{Target}
-use Rattle.escape_simd.specs.Stretch.{Cost, Escapes, HasRest, HasVectors, Stretch, reach, rest_length}
+use Rattle.escape_simd.specs.Stretch.{Cost, Escapes, HasTail, HasVectors, Stretch, reach, rest_length}
 use Rattle.escape_simd.proofs.RestSteps.{rest-bounds}
 use Rattle.escape_simd.proofs.Stretches.{onward_to, reach-bounds, standing, stretch-on}
 use Rattle.escape_simd.proofs.Vectors.{passed-to}
@@ -44,7 +44,7 @@ module _ {N : ℕ} (mode : Mode) (src : List ℕ) (old mid new : Target N) (at t
       record { inside = inside; room = omega (arith, room, sized, inside, on, e, more) }
 
   -- and for the last bytes
-  pub body-rest : (size : ℕ) → to + 6 * length src + 32 ≤ size → size ≡ length (bytes_of mid) → length src < at + 2 * N → HasRest N src at end (length (bytes_of mid))
+  pub body-rest : (size : ℕ) → to + 6 * length src + 32 ≤ size → size ≡ length (bytes_of mid) → length src < at + 2 * N → HasTail N src at end (length (bytes_of mid))
   body-rest size room sized few =
       let on = stretch-on so_far.stretch in let i = so_far.stretch.inside in
       record { inside = i; few = few; room = omega (arith, room, sized, on, i) }

@@ -2,6 +2,8 @@
 use Rattle.std.proofs.Common.{◌≡◌, ℕ, ◌≤◌, List, [], ◌∷◌, ◌++◌, IsUtf8, sym, subst, arith}
 use Rattle.escape_simd.proofs.Words.{drop_at, drop, length, ap, refl, ◌∙◌, IsMarkupFree, AllByRecursion, nat_tests, All-from_recursion, replacement, Mode, json, html, script, IsOneLine, IsHarmless, IsEscaping, AmpersandsBeginEntities, appended, inner, plain}
 use Rattle.escape_simd.proofs.HtmlLemmas.{plain_ampersands, plain_markup_free}
+use Rattle.escape_simd.specs.Markup.{markup_of}
+use Rattle.escape_simd.proofs.MarkupLaws.{html_has_no_markup}
 use Rattle.escape_simd.proofs.OutputLemmas.{IsTextOf-chars, IsUtf8-output, IsOnlyOutput-output, IsOfOneText-output, HasOutputLength-output, JoinsTexts-output}
 use Rattle.escape_simd.proofs.JsonLemmas.{needed_cases}
 use Rattle.escape_simd.proofs.ReplacementLemmas.{replacement-clean}
@@ -27,6 +29,7 @@ IsHarmless-output json bytes output same = json_one_line bytes output same
 IsHarmless-output html bytes output same = record {
   markup_free = subst IsMarkupFree (sym same) (plain_markup_free bytes);
   ampersands = subst AmpersandsBeginEntities (sym same) (plain_ampersands bytes);
+  no_markup = ap markup_of same ∙ html_has_no_markup bytes;
 }
 IsHarmless-output script bytes output same = record {
   one_line = script_one_line bytes output same;

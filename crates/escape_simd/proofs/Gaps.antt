@@ -3,6 +3,13 @@ use Rattle.std.proofs.Common.{◌≡◌, ℕ, zero, suc, ◌+◌, ◌<◌, ◌�
 use Rattle.escape_simd.proofs.Words.{gaps, Mode, needs_escape, passed, run_count_after, run_count}
 use Rattle.escape_simd.proofs.Texts.{runs_after-≤, first-here, next-here, runs_stop-here, runs_clean-here}
 
+-- no more than there are lanes
+pub gaps-most : (before : Bool) (bits : List Bool) → gaps before bits ≤ length bits
+unfolding gaps
+gaps-most before [] = omega arith
+gaps-most true (b ∷ bits) = let rest = gaps-most b bits in grind (arith, rest)
+gaps-most false (b ∷ bits) = let rest = gaps-most b bits in grind (arith, rest)
+
 module _ (mode : Mode) (src : List ℕ) where
   -- a gap at a byte that is passed alone is paid by the run before it
   gap-step : (at : ℕ) (before b : Bool) → at < length src → passed mode (drop at src) ≡ 1 → needs_escape mode (get_or src at 0) ≡ b

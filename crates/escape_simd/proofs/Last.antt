@@ -1,7 +1,7 @@
 -- The last bytes of a text, held with zeros behind them.
-use Rattle.std.proofs.Common.{◌≡◌, ℕ, ◌+◌, ◌-◌, ◌*◌, ◌/◌, ◌<◌, ◌≤◌, Bool, false, List, [], ◌++◌, length, take, drop, replicate, map, refl, sym, ap, subst, ◌∙◌, arith, append_assoc, append-nil, length-append, length-drop}
+use Rattle.std.proofs.Common.{min, ◌≡◌, ℕ, ◌+◌, ◌-◌, ◌*◌, ◌/◌, ◌<◌, ◌≤◌, Bool, false, List, [], ◌++◌, length, take, drop, replicate, map, refl, sym, ap, subst, ◌∙◌, arith, append_assoc, append-nil, length-append, length-drop}
 use Rattle.std.proofs.Math.Nat.{div-eq_of_lt, div-eq_of_lt-le}
-use Rattle.escape_simd.proofs.Words.{append_cancel_right, drop_all, drop_at, get_or_past, length-replicate, replicate-append-replicate, drop-append-le, drop-drop, take_all, take-append-le, clear_last, Mode, script, needs_escape, bytes_of, Target, inner, escaped_count, run_count, AreLast, Escapes, HoldsFlags, IsStored, IsVectorAt, Passed}
+use Rattle.escape_simd.proofs.Words.{append_cancel_right, drop_all, drop_at, get_or_past, length-replicate, replicate-append-replicate, drop-append-le, drop-drop, take_all, take-append-le, clear_last, Mode, script, needs_escape, bytes_of, Target, inner, escaped_count, run_count, AreTail, Escapes, HoldsFlags, IsStored, IsVectorAt, Passed}
 use Rattle.escape_simd.proofs.Behind.{inner-behind, escaped-behind, get_or-behind, runs-behind}
 use Rattle.escape_simd.proofs.Lanes.{CleanFrom, get_or-clear_last, get_or-cleared_last, held-cut}
 use Rattle.escape_simd.proofs.ReplacementLemmas.{inner-nil}
@@ -102,14 +102,20 @@ held-fewer mode src at n from valid bits h long few narrow = record {
   unset = λ k s later below. let t = h.unset k in grind (arith, get_or-clear_last);
 }
 
--- a text shorter than a vector, and the zeros of both rows
-pub held-one : (text lanes : List ℕ) (n : ℕ) → length text ≤ n → lanes ≡ drop (length text - length text) text ++ zeros (n - length text) → lanes ++ zeros n ≡ text ++ zeros (2 * n - length text)
-held-one text lanes n few is = grind (arith, append_assoc, replicate-append-replicate)
+-- a short text as its last vector, in two rows
+pub spilled-short : (text lanes dst : List ℕ) (n m : ℕ) → length text < n → m ≡ n → lanes ≡ drop (length text - length text) text ++ zeros (n - length text) → dst ≡ lanes ++ drop m (zeros n)
+    → dst ++ (zeros n ++ []) ≡ drop (length text - n) text ++ zeros (2 * n - min (length text) n)
+spilled-short text lanes dst n m few same loaded stored =
+    let none : drop m (zeros n) ≡ [] = drop_all m (zeros n) (omega (arith, same, length-replicate {A = ℕ} n 0)) in
+    let start : length text - n ≡ length text - length text = omega (arith, few) in
+    let count : 2 * n - min (length text) n ≡ n - length text + n = omega (arith, few) in
+    let whole : dst ≡ drop (length text - length text) text ++ zeros (n - length text) = stored ∙ ap (λ xs. lanes ++ xs) none ∙ append-nil lanes ∙ loaded in
+    rw (start, count, whole, append-nil (zeros n)) (append_assoc (drop (length text - length text) text) (zeros (n - length text)) (zeros n) ∙ ap (λ xs. drop (length text - length text) text ++ xs) (replicate-append-replicate (n - length text) n 0))
 
--- what is left of a text's last vector
-pub held-left : (text lanes rows : List ℕ) (n border passed next : ℕ) → lanes ≡ take n (drop border text) → length text ≡ border + n → rows ≡ lanes ++ zeros n → next ≡ border + passed → passed ≤ n
-    → take (length rows - passed) (drop passed rows) ≡ drop next text ++ zeros n
-held-left text lanes rows n border passed next loaded whole is at few = grind (arith, take_all, length-drop {A = ℕ}, drop-append-le, drop-drop)
+-- a text's last vector and the zeros of both rows, from a place on
+pub tail-rows : (text rows : List ℕ) (border passed next k : ℕ) → rows ≡ drop border text ++ zeros k → next ≡ border + passed → next ≤ length text
+    → take (length rows - passed) (drop passed rows) ≡ drop next text ++ zeros k
+tail-rows text rows border passed next k is at inside = grind (arith, take_all, length-drop {A = ℕ}, drop-append-le, drop-drop)
 
 -- The last bytes of a text from a place on, with zeros behind them
 module _ (mode : Mode) (slack n : ℕ) (text held : List ℕ) (next left k end : ℕ) (inside : next ≤ length text) (all : left ≡ length text - next) (is : held ≡ drop next text ++ zeros k) where
@@ -136,13 +142,13 @@ last-mask mode n src lanes at truths whole bits narrow inside few long loaded fl
     held-cut mode (drop at src) lanes 0 n (length src - at) long narrow few (grind (arith, take-append-le, length-drop {A = ℕ})) bits (cc)
 
 -- they are a short text
-pub last-short : (mode : Mode) (n : ℕ) (src text : List ℕ) (at : ℕ) (none bits : List Bool) → text ≡ drop at src → at ≤ length src → length src - at < n → HoldsFlags mode (drop at src) 0 (length src - at) 0 bits → AreLast mode n text none bits
+pub last-short : (mode : Mode) (n : ℕ) (src text : List ℕ) (at : ℕ) (none bits : List Bool) → text ≡ drop at src → at ≤ length src → length src - at < n → HoldsFlags mode (drop at src) 0 (length src - at) 0 bits → AreTail mode n text none bits
 last-short mode n src text at none bits is inside few held =
     let count = length-drop at src in record { few = grind arith; front = λ long. grind arith; back = grind arith }
 
 -- and so are those of a vector and more
 pub last-long_text : (mode : Mode) (n : ℕ) (src text : List ℕ) (at : ℕ) (first last : List Bool) → text ≡ drop at src → at + n ≤ length src → length src < at + 2 * n
-    → HoldsFlags mode src at n at first → HoldsFlags mode src (length src - n) n (length src - n) last → AreLast mode n text first last
+    → HoldsFlags mode src at n at first → HoldsFlags mode src (length src - n) n (length src - n) last → AreTail mode n text first last
 last-long_text mode n src text at first last is inside few held1 held2 =
     let count = length-drop at src in record { few = grind arith; front = λ long. grind (arith, holds-from); back = grind (arith, holds-from) }
 

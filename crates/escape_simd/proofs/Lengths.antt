@@ -1,6 +1,6 @@
 -- How long what stands for parts of a text is, and for the whole.
 use Rattle.std.proofs.Common.{◌≡◌, ℕ, zero, suc, ◌+◌, ◌-◌, ◌*◌, ◌<◌, ◌≤◌, Bool, true, false, List, [], ◌∷◌, ◌++◌, length, drop, get_or, replicate, ap, ◌∙◌, arith, length-append, length-drop, inl, inr}
-use Rattle.escape_simd.proofs.Words.{cases_lt, count_by, nat_tests, first_set, none_set, clear_first, clear_last, entry_count, map, take-append-le, Mode, script, needs_escape, replacement, inner, begins_separator, passed, first_replacement, plain, quote_count, rest_length, HoldsFlags, IsFlaggedAt, IsPartLength}
+use Rattle.escape_simd.proofs.Words.{cases_lt, count_by, nat_tests, first_set, none_set, clear_first, clear_last, entry_count, map, take-append-le, Mode, script, needs_escape, replacement, inner, begins_separator, passed, first_replacement, plain, quote_count, rest_length, HoldsFlags, IsFlaggedAt, IsFront, IsPartLength}
 use Rattle.escape_simd.proofs.Escapes.{entry-counts, first-alone, passed-alone}
 use Rattle.escape_simd.proofs.Lanes.{CleanFrom, held-cut, cleared-later, first-set, first_set-here, held-cleared, held-first, held-further, held-none}
 use Rattle.escape_simd.proofs.OutputLemmas.{length-plain}
@@ -38,11 +38,12 @@ part-few mode src at next len forward inside part = omega (arith, rest-between m
 -- The last bytes
 
 -- their mask, told of the whole text
-pub last-held : (mode : Mode) (n : ℕ) (src lanes : List ℕ) (at : ℕ) (truths whole bits : List Bool) → n ≤ 64 → at ≤ length src → length src - at ≤ n → length lanes ≡ n
-    → lanes ≡ drop (length src - (length src - at)) src ++ replicate (n - (length src - at)) 0 → truths ≡ map (needs_escape mode) lanes → whole ≡ truths ++ replicate (64 - n) false → bits ≡ clear_last (64 - (length src - at)) whole
-    → HoldsFlags mode src at (length src - at) at bits
-last-held mode n src lanes at truths whole bits narrow inside few long loaded flagged all cut =
-    held-cut mode src lanes at n (length src - at) long narrow few (grind (arith, take-append-le, length-drop {A = ℕ})) bits (cc)
+pub last-held : (mode : Mode) (n : ℕ) (src lanes : List ℕ) (at count : ℕ) (truths whole bits : List Bool) → n ≤ 64 → at + count ≡ length src → count ≤ n → length lanes ≡ n
+    → lanes ≡ drop (length src - count) src ++ replicate (n - count) 0 → truths ≡ map (needs_escape mode) lanes → whole ≡ truths ++ replicate (64 - n) false → bits ≡ clear_last (64 - count) whole
+    → HoldsFlags mode src at count at bits
+last-held mode n src lanes at count truths whole bits narrow ends few long loaded flagged all cut =
+    let from : length src - count ≡ at = omega (arith, ends) in
+    held-cut mode src lanes at n count long narrow few (grind (arith, take-append-le, length-drop {A = ℕ})) bits (cc)
 
 -- The flagged bytes of a part
 
@@ -109,6 +110,12 @@ module _ (mode : Mode) (src : List ℕ) (at valid : ℕ) (inside : at + valid �
             counted = omega (arith, passed, one, so_far.counted, late, few, so_far.before);
           }
 
+      -- one more that takes more than itself: so the text becomes longer
+      pub counted-grown : (more : ℕ) → 0 < more → IsPartLength mode src (at + f) (at + f + 1) (more + 1) → valid ≤ len → length src - at < rest_length mode src at
+      counted-grown more some_more one enough =
+          let next = counted-next more one in let bounds = rest-bounds mode src next.next in
+          omega (arith, next.counted, bounds, next.before, next.after, inside, some_more, enough)
+
       -- the lanes that are left are fewer
       pub counted-fewer : (rest : List Bool) → rest ≡ clear_first (first_set bits + 1) bits → (first_set bits < first_set rest) × (first_set bits < valid)
       counted-fewer rest cleared =
@@ -152,12 +159,11 @@ same-length mode (b ∷ bs) long =
     let left : length (inner mode bs) ≡ length bs = omega (arith, long, sum, same, alone.0, ap (λ xs. length (inner mode xs)) behind) in
     step ∙ ap (λ xs. xs ++ inner mode (drop (passed mode (b ∷ bs) - 1) bs)) alone.1 ∙ ap (λ xs. b ∷ inner mode xs) behind ∙ ap (λ xs. b ∷ xs) (same-length mode bs left)
 
--- where a part of a text grows, and nothing before it, the text grows
-pub part-grown : (mode : Mode) (value src : List ℕ) (at next len : ℕ) → src ≡ value → (at < next) × (next ≤ length src) → IsPartLength mode src at next len → at + rest_length mode src at ≡ rest_length mode src 0
-    → (len ≡ next - at → ⊥) → length value < length (inner mode value)
-part-grown mode value src at next len is within part so_far grown =
-    let bounds = rest-between mode src at next (omega (arith, within)) within.1 in let rest = rest-bounds mode src next in
-    omega (arith, bounds, rest, part, so_far, grown, within, rest-all mode src, ap (λ xs. length (inner mode xs)) is, ap length is)
+-- where a text's bytes from a place on become longer, and those before it are clean, it becomes longer
+pub part-grown : (mode : Mode) (value src : List ℕ) (at end : ℕ) → src ≡ value → IsFront mode src at end → at + rest_length mode src at ≡ rest_length mode src 0 → length src - end < rest_length mode src end → length value < length (inner mode value)
+part-grown mode value src at end is front so_far grown =
+    let clean = clean_rest mode src at end front.forward front.clean front.inside in
+    omega (arith, clean, so_far, grown, front.forward, front.inside, rest-all mode src, ap (λ xs. length (inner mode xs)) is, ap length is)
 
 -- where it is longer, some byte needs an escape
 pub grown-flagged : (mode : Mode) (text : List ℕ) → length text < length (inner mode text) → 0 < count_by (needs_escape mode) text

@@ -10,6 +10,7 @@ pub mod Shortened
 pub mod PutApart
 pub mod Stretches
 pub mod Lanes
+pub mod Run
 pub mod Pasted
 pub mod Turns
 pub mod Vectors
@@ -24,5 +25,6 @@ pub mod ScriptLemmas
 pub mod OutputLemmas
 pub mod Pieces
 pub mod EscapingLemmas
+pub mod MarkupLaws
 pub mod PlainLaws
 pub mod JoinedLemmas

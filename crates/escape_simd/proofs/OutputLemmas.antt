@@ -2,6 +2,7 @@
 use Rattle.std.proofs.Common.{◌≡◌, ℕ, ◌+◌, ◌<◌, true, List, [], ◌∷◌, ◌++◌, length, IsUtf8, chars, encode_utf8, encode_utf8_all, append_assoc, refl, sym, ap, subst, ◌∙◌, arith}
 use Rattle.escape_simd.proofs.Words.{All-from_recursion, quote_count, all_scalars, IsScalar, AllByRecursion, and_parts, nat_tests, IsUtf8-append, IsUtf8-nil, IsUtf8-encode, encodes-chars, scalars-chars, Mode, json, html, script, replacement, inner, plain, quoted, quote_of, IsTextOf, JoinsTexts, IsOfOneText, HasOutputLength, flat_map-append}
 use Rattle.std.proofs.Math.Utf8.{scalar}
+use Rattle.std.proofs.lemmas.List.{append-nil}
 use Rattle.std.proofs.lemmas.Str.{IsUtf8-from_ascii}
 use Rattle.std.proofs.lemmas.Str.Ascii.{IsAscii-from_all}
 use Rattle.escape_simd.proofs.SpellingLemmas.{piece_cases}
@@ -22,6 +23,11 @@ IsOnlyOutput-plain script text scalars = IsOnlyScript-plain text scalars
 pub IsOnlyOutput-output : (mode : Mode) (bytes output : List ℕ) → output ≡ plain mode bytes → IsUtf8 bytes → IsOnlyOutput mode output (chars bytes)
 IsOnlyOutput-output mode bytes output same utf8 =
     subst (λ o. IsOnlyOutput mode o (chars bytes)) (ap (plain mode) (encodes-chars bytes utf8) ∙ sym same) (IsOnlyOutput-plain mode (chars bytes) (scalars-chars bytes utf8))
+
+-- the same of what stands between the quotation marks
+pub IsOnlyOutput-between : (mode : Mode) (bytes inside : List ℕ) → inside ≡ inner mode bytes → IsUtf8 bytes → IsOnlyOutput mode (quote_of mode ++ (inside ++ quote_of mode)) (chars bytes)
+IsOnlyOutput-between html bytes inside same utf8 = IsOnlyOutput-output html bytes (inside ++ []) (append-nil inside ∙ same) utf8
+IsOnlyOutput-between mode bytes inside same utf8 = IsOnlyOutput-output mode bytes (quoted inside) (ap quoted same) utf8
 
 -- the text of a `&str`, as its clauses name it
 pub IsTextOf-chars : (bytes : List ℕ) → IsUtf8 bytes → IsTextOf bytes (chars bytes)

@@ -1,11 +1,11 @@
 -- A text that is appended: from registers, or part by part in place.
-use Rattle.std.proofs.Common.{◌≡◌, ℕ, suc, ◌+◌, ◌-◌, ◌*◌, ◌<◌, ◌≤◌, Bool, true, false, cond, ◌||◌, List, [], ◌∷◌, ◌++◌, length, length-drop, length-take-le, take, drop, slice_range, replicate, map, get_or, refl, sym, ap, subst, ◌∙◌, append_assoc, arith}
+use Rattle.std.proofs.Common.{◌≡◌, ℕ, suc, ◌+◌, ◌-◌, ◌*◌, ◌<◌, ◌≤◌, Bool, true, false, cond, ◌||◌, List, [], ◌∷◌, ◌++◌, length, length-drop, length-take-le, take, drop, slice_range, replicate, map, get_or, refl, sym, ap, ◌∙◌, append_assoc, arith}
 use Rattle.std.specs.List.{count_by}
 use Rattle.std.specs.Simd.Lanes.{zip2}
 use Rattle.std.proofs.Math.Seq.{take-add, take-append-add, take-append_seam}
 use Rattle.std.proofs.lemmas.Bool.{cases_Bool}
 use Rattle.std.proofs.lemmas.Bool.Decides.{nat_tests}
-use Rattle.std.proofs.lemmas.List.{append-nil, drop-drop, length-map, take-append-drop, take-take, take_all}
+use Rattle.std.proofs.lemmas.List.{append-nil, length-map, take-append-drop, take-take, take_all}
 use Rattle.std.proofs.lemmas.List.Sums.{get_or-le-sum_by}
 use Rattle.std.proofs.lemmas.Simd.{length-zip2}
 use Rattle.escape_lanes.specs.Bits.{clear_last, none_set}
@@ -15,10 +15,10 @@ use Rattle.escape_lanes.specs.Written.{bytes_of}
 use Rattle.escape_lanes.specs.declared.simd.target.Target.{Target}
 use Rattle.escape_simd.specs.Output.{inner, quote_of}
 use Rattle.escape_simd.specs.Parts.{IsAnswer, IsFront, IsPartAt}
-use Rattle.escape_simd.specs.Stretch.{AreLast, HoldsFlags, reach}
+use Rattle.escape_simd.specs.Stretch.{HoldsFlags, reach}
 use Rattle.escape_simd.proofs.Costs.{BodySoFar}
 use Rattle.escape_simd.proofs.Lanes.{CleanFrom, clean-list, held-none, none_set-joined}
-use Rattle.escape_simd.proofs.Last.{last-mask, last-short}
+use Rattle.escape_simd.proofs.Last.{last-mask}
 use Rattle.escape_simd.proofs.ReplacementLemmas.{inner-nil}
 use Rattle.escape_simd.proofs.RestSteps.{rest-is}
 use Rattle.escape_simd.proofs.Stretches.{stretch-on}
@@ -48,25 +48,21 @@ part-escaped {N} {mode} {src} {bytes} {old} {new} {at} {to} {end} so_far is fits
       kept = grind (arith, rest-is, s.limit, s.kept);
     }
 
--- two stretches of a text, the second after the first
-pub two-stretches : (src first second : List ℕ) (at n next k : ℕ) → at + n ≡ next → first ≡ take n (drop at src) → second ≡ take k (drop next src) → first ++ second ≡ take (n + k) (drop at src)
-two-stretches src first second at n next k e a b = grind (arith, drop-drop, take-add)
-
 -- a clean front of a text, and a stretch more
-pub front-more : (mode : Mode) (src old new more : List ℕ) (at n : ℕ) → IsFront mode src old new at → at + n ≤ length src → CleanFrom mode src at (at + n) → more ≡ new ++ take n (drop at src) → IsFront mode src old more (at + n)
-front-more mode src old new more at n front inside clean appended = record {
+pub front-more : (mode : Mode) (src : List ℕ) (at end n : ℕ) → IsFront mode src at end → end + n ≤ length src → CleanFrom mode src end (end + n) → IsFront mode src at (end + n)
+front-more mode src at end n front inside clean = record {
+  forward = omega (arith, front.forward);
   inside = inside;
-  clean = λ k before. grind (arith, clean, front.clean);
-  appended = grind (arith, append_assoc, take-add);
+  clean = λ k after before. grind (arith, clean, front.clean);
 }
 
--- and what stands for the rest
-pub front-rest : (mode : Mode) (src old new more : List ℕ) (at : ℕ) → IsFront mode src old new at → more ≡ new ++ (inner mode (slice_range src at (length src)) ++ quote_of mode) → more ≡ old ++ (inner mode src ++ quote_of mode)
-front-rest mode src old new more at front appended =
-    let clean : IsClean mode (take at src) = clean-list mode src 0 at (λ k after before. front.clean k (omega (arith, before))) in
+-- it was appended as it is, and then what stands for the rest
+pub front-rest : (mode : Mode) (src old new more : List ℕ) (at : ℕ) → IsFront mode src 0 at → new ≡ old ++ take at src → more ≡ new ++ (inner mode (slice_range src at (length src)) ++ quote_of mode) → more ≡ old ++ (inner mode src ++ quote_of mode)
+front-rest mode src old new more at front copied appended =
+    let clean : IsClean mode (take at src) = clean-list mode src 0 at (λ k after before. front.clean k after (omega (arith, before))) in
     let whole = inner-clean mode (drop at src) (take at src) clean in
     let rest : slice_range src at (length src) ≡ drop at src = take_all (length src - at) (drop at src) (omega (arith, length-drop at src)) in
-    grind (arith, front.appended, append_assoc, take-append-drop, whole, rest)
+    grind (arith, append_assoc, take-append-drop, whole, rest)
 
 -- what stands for a text, and a quotation mark after it
 pub marked : (mode : Mode) (text old new last : List ℕ) → new ≡ old ++ inner mode text → last ≡ new ++ quote_of mode → last ≡ old ++ (inner mode text ++ quote_of mode)
@@ -80,13 +76,7 @@ module _ (mode : Mode) (n : ℕ) (text lanes : List ℕ) (truths whole bits : Li
   held-one : HoldsFlags mode text 0 (length text) 0 bits
   held-one = let h = last-mask mode n text lanes 0 truths whole bits in grind arith
 
-  -- they are what is escaped by its mask
-  pub one-last : (none : List Bool) → AreLast mode n text none bits
-  one-last none =
-      let e : length text ≡ length text - 0 = omega arith in
-      last-short mode n text text 0 none bits refl (omega arith) (omega (arith, few)) (subst (λ k. HoldsFlags mode text 0 k 0 bits) e held-one)
-
-  -- or the text stands for itself, and the first lanes are the text
+  -- where it is empty, the text stands for itself, and the first lanes are the text
   pub one-itself : none_set bits ≡ true → inner mode text ≡ text
   one-itself none = itself mode text (λ k after before. held-none mode text 0 (length text) 0 bits held-one (omega arith) none k after (omega (arith, before)))
 

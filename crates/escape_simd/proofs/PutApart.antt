@@ -1,10 +1,7 @@
--- Eight bytes put apart: how one look-up does it, and that they are then what stands for a text's bytes.
-use Rattle.std.proofs.Common.{◌≡◌, ◌≢◌, ℕ, zero, suc, ◌+◌, ◌-◌, ◌*◌, ◌/◌, ◌<◌, ◌≤◌, Bool, true, false, cond, List, [], ◌∷◌, ◌++◌, length, take, drop, replicate, map, nat_eq, nat_le, ltb, get_or, refl, sym, ap, ap₂, ◌∙◌, arith}
-use Rattle.escape_simd.proofs.Words.{agree_below_at, nat_tests, drop-cons, get_or-drop, sum_by-cons, swz_l, SwzOk, w8, bits_of, Mode, needs_escape, replacement, shortened, flag_count, put_apart, inner, escaped_count}
-use Rattle.std.proofs.lemmas.Bool.{eqb-true}
-use Rattle.std.proofs.lemmas.List.Sums.{count_by-le-length}
-use Rattle.std.specs.Int.RustNames.{count_ones}
-use Rattle.escape_lanes.specs.Spread.{spread_from, spread}
+-- Eight bytes put apart are what stands for a text's bytes, and how many blocks have a flag.
+use Rattle.std.proofs.Common.{◌≡◌, ◌≢◌, ℕ, zero, suc, ◌+◌, ◌-◌, ◌*◌, ◌<◌, ◌≤◌, Bool, true, false, cond, List, [], ◌∷◌, ◌++◌, length, take, drop, map, nat_eq, get_or, refl, sym, ap, ◌∙◌, inl, inr, arith}
+use Rattle.escape_simd.proofs.Words.{cases_lt, drop-drop, get_or-drop, get_or-take, get_or_past, nat_tests, sum_by-cons, true≢false, Mode, needs_escape, replacement, shortened, flag_count, flagged_blocks, put_apart, inner, escaped_count}
+use Rattle.std.proofs.lemmas.List.Sums.{get_or-le-sum_by}
 use Rattle.escape_simd.proofs.ReplacementLemmas.{inner-one, inner-clean_byte}
 use Rattle.escape_simd.proofs.Shortened.{KeepsClean, passed-short, short-escape}
 use Rattle.escape_simd.proofs.Texts.{escaped-here, escaped_clean-here}
@@ -15,61 +12,63 @@ use Rattle.escape_simd.proofs.Texts.{escaped-here, escaped_clean-here}
 count-cons : (b : Bool) (bs : List Bool) → flag_count (b ∷ bs) ≡ cond b 1 0 + flag_count bs
 count-cons b bs = sum_by-cons (λ c. cond c 1 0) b bs
 
--- as many flags as bits are set, by computation for each of the 256
-pub ones-flags : (x : ℕ) → x < 256 → count_ones x ≡ flag_count (bits_of 8 x)
-unfolding bits_of count_ones
-ones-flags x h = eqb-true _ _ (agree_below_at (λ n. nat_eq (count_ones n) (flag_count (bits_of 8 n))) (λ n. true) 256 x refl h)
-
 -- none where none is set
 count-none : (flags : List Bool) → ((i : ℕ) → get_or flags i false ≢ true) → flag_count flags ≡ 0
 count-none [] none = omega arith
 count-none (true ∷ flags) none = absurd (none 0 refl)
 count-none (false ∷ flags) none = grind (arith, count-cons false flags, count-none flags (λ i. none (suc i)))
 
--- The look-up
+-- the blocks that have one, in two parts
+pub blocks-onward : (n m : ℕ) (flags : List Bool) → flagged_blocks (n + m) flags ≡ flagged_blocks n flags + flagged_blocks m (drop (8 * n) flags)
+unfolding flagged_blocks
+blocks-onward zero m flags = let e : 0 + m ≡ m = omega arith in rw e (omega arith)
+blocks-onward (suc n) m flags =
+    let e : suc n + m ≡ suc (n + m) = omega arith in
+    let wide : 8 + 8 * n ≡ 8 * suc n = omega arith in
+    let rest = rw (drop-drop (8 * n) 8 flags, wide) at (blocks-onward n m (drop 8 flags)) in
+    rw e (omega (arith, rest))
 
--- how many places a row has before the fill
-length-spread : (i : ℕ) (flags : List Bool) → length (spread_from i flags) ≡ length flags + flag_count flags
-unfolding spread_from
-length-spread i [] = omega arith
-length-spread i (b ∷ flags) = grind (arith, nat_tests, count-cons b flags, length-spread (suc i) flags)
+-- one block
+pub blocks-one : (flags : List Bool) → flagged_blocks 1 flags + (1 - flag_count (take 8 flags)) ≡ 1
+unfolding flagged_blocks
+blocks-one flags = grind (arith, nat_tests)
 
--- the places can be looked up in a block from the p-th lane on, and these bytes are found there
-pub record Looks (block : List ℕ) (p : ℕ) (places found : List ℕ) : Type 0 where
-  pub safe : SwzOk w8 16 16 p places
-  pub is : swz_l w8 16 block p places ≡ found
+-- no more than there are
+pub blocks-most : (n : ℕ) (flags : List Bool) → flagged_blocks n flags ≤ n
+unfolding flagged_blocks
+blocks-most zero flags = omega arith
+blocks-most (suc n) flags = let rest = blocks-most n (drop 8 flags) in grind (arith, nat_tests, rest)
 
--- one place more
-look : {block : List ℕ} {p b : ℕ} {places found : List ℕ} (j : ℕ) → p < 16 → j < 16 → get_or block j 0 ≡ b → Looks block (suc p) places found → Looks block p (j ∷ places) (b ∷ found)
-look {block} {p} j few small is rest =
-    let here : 16 * (p / 16) + j ≡ j = omega arith in
-    let low : ltb j 16 ≡ true = grind (arith, nat_tests) in
-    let stays : nat_le 128 j ≡ false = grind (arith, nat_tests) in
-    record { safe = rw (here, low, stays) (tt, rest.safe); is = rw (here, stays) (ap₂ (λ x xs. x ∷ xs) is rest.is) }
+-- the front of lanes of which none is set
+none-front : (n i : ℕ) (flags : List Bool) → ((j : ℕ) → get_or flags j false ≢ true) → get_or (take n flags) i false ≢ true
+none-front zero i flags none h = true≢false (sym h)
+none-front (suc n) i [] none h = true≢false (sym h)
+none-front (suc n) zero (b ∷ flags) none h = none 0 h
+none-front (suc n) (suc i) (b ∷ flags) none h = none-front n i flags (λ j. none (suc j)) h
 
--- a block of eight bytes and eight reverse solidi, looked up at the places of its bytes from the i-th on, and then n times at place 8
-looked_up : (block : List ℕ) → length block ≡ 16 → get_or block 8 0 ≡ 0x5c → (p i n : ℕ) (flags : List Bool) → p + length flags + flag_count flags + n ≤ 16 → i + length flags ≤ 8
-    → Looks block p (spread_from i flags ++ replicate n 8) (put_apart flags (take (length flags) (drop i block)) ++ replicate n 0x5c)
-unfolding spread_from put_apart
-looked_up block whole solidus p i zero [] few room = record { safe = tt; is = refl }
-looked_up block whole solidus p i (suc n) [] few room = look 8 (omega arith) (omega arith) solidus (looked_up block whole solidus (suc p) i n [] (omega arith) room)
-looked_up block whole solidus p i n (true ∷ flags) few room =
-    let c = count-cons true flags in
-    let rest = looked_up block whole solidus (suc (suc p)) (suc i) n flags (omega arith) (omega arith) in
-    rw (drop-cons block i 0 (omega arith)) (look 8 (omega arith) (omega arith) solidus (look i (omega arith) (omega arith) refl rest))
-looked_up block whole solidus p i n (false ∷ flags) few room =
-    let c = count-cons false flags in
-    let rest = looked_up block whole solidus (suc p) (suc i) n flags (omega arith) (omega arith) in
-    rw (drop-cons block i 0 (omega arith)) (look i (omega arith) (omega arith) refl rest)
+-- none where no lane is set
+pub blocks-none : (n : ℕ) (flags : List Bool) → ((i : ℕ) → get_or flags i false ≢ true) → flagged_blocks n flags ≡ 0
+unfolding flagged_blocks
+blocks-none zero flags none = refl
+blocks-none (suc n) flags none =
+    let here : flag_count (take 8 flags) ≡ 0 = count-none (take 8 flags) (λ i. none-front 8 i flags none) in
+    let rest = blocks-none n (drop 8 flags) (λ i h. none (8 + i) (sym (get_or-drop 8 flags i false) ∙ h)) in
+    rw (here, rest) refl
 
--- eight flags, and the whole of such a block
-pub spread-looked_up : (flags : List Bool) (block : List ℕ) → length flags ≡ 8 → length block ≡ 16 → drop 8 block ≡ replicate 8 0x5c
-    → Looks block 0 (spread flags) (put_apart flags (take 8 block) ++ replicate (8 - flag_count flags) 0x5c)
-spread-looked_up flags block eight whole solidi =
-    let most = count_by-le-length (λ b. b) flags in
-    let fill : 16 - length (spread_from 0 flags) ≡ 8 - flag_count flags = omega (arith, length-spread 0 flags) in
-    let solidus : get_or block 8 0 ≡ 0x5c = sym (get_or-drop 8 block 0 0) ∙ ap (λ xs. get_or xs 0 0) solidi in
-    rw fill (rw eight at (looked_up block whole solidus 0 0 (8 - flag_count flags) flags (omega arith) (omega arith)))
+-- one at least where a lane is
+pub blocks-some : (n k : ℕ) (flags : List Bool) → k < 8 * n → get_or flags k false ≡ true → 1 ≤ flagged_blocks n flags
+unfolding flagged_blocks
+blocks-some zero k flags few set = absurd (omega arith)
+blocks-some (suc n) k flags few set = elim (cases_lt k 8) [
+  | inl here ↦
+      let one = get_or-le-sum_by (λ b. cond b 1 0) (take 8 flags) k false in
+      let there : get_or (take 8 flags) k false ≡ true = get_or-take 8 flags k false here ∙ set in
+      grind (arith, nat_tests, get_or_past, there, one)
+  | inr past ↦
+      let i : 8 + (k - 8) ≡ k = omega (arith, past) in
+      let rest = blocks-some n (k - 8) (drop 8 flags) (omega (arith, few, past)) (get_or-drop 8 flags (k - 8) false ∙ rw i set) in
+      omega (arith, rest)
+]
 
 -- how many bytes they become
 pub length-put_apart : (flags : List Bool) (bytes : List ℕ) → length bytes ≡ length flags → length (put_apart flags bytes) ≡ length flags + flag_count flags

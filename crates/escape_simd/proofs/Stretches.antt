@@ -1,6 +1,6 @@
 -- Stretches of a text: one after another, of clean bytes, and of what one escape stands for.
 use Rattle.std.proofs.Common.{◌≡◌, ℕ, ◌+◌, ◌-◌, ◌*◌, ◌<◌, ◌≤◌, Bool, true, false, List, ◌++◌, length, take, drop, get_or, sym, ap, ◌∙◌, arith, append_assoc, length-append, length-take-le, length-drop, slice_range}
-use Rattle.escape_simd.proofs.Words.{paste, take-append-add, drop-drop, take-append-le, take-take, take_all, take_at, drop_at, append_cancel_right, flat_map-append, Mode, json, html, script, mode_of, needs_escape, replacement, bytes_of, stored_of, escaped_of, quotes_of, writes_of, IsSameSlice, Writes, Target, inner, passed, first_replacement, escaped_count, Stretch, IsStored, reach, run_reach}
+use Rattle.escape_simd.proofs.Words.{paste, take-append-add, drop-drop, take-append-le, take-take, take_all, take_at, drop_at, append_cancel_right, flat_map-append, Mode, json, html, script, mode_of, needs_escape, replacement, bytes_of, stored_of, escaped_of, quotes_of, writes_of, IsSameSlice, Target, inner, passed, first_replacement, escaped_count, Stretch, IsStored, reach, run_reach}
 use Rattle.std.proofs.lemmas.List.Folds.{drop_split}
 use Rattle.std.proofs.lemmas.List.Edits.{take-paste, drop-paste}
 use Rattle.escape_simd.proofs.RestSteps.{rest-is, rest-between}
@@ -93,6 +93,24 @@ pub onward_at : {N : ℕ} {mode : Mode} {slack : ℕ} {src : List ℕ} {old mid 
     → Stretch mode slack src old mid at i to p → Stretch mode slack src mid new j next q end → i ≡ j → p ≡ q → Stretch mode slack src old new at next to end
 onward_at a b e f = onward (rw (e, f) at a) b
 
+-- a stretch of a text from a place on, as a text of its own
+pub stretch-later : {N : ℕ} {mode : Mode} {slack : ℕ} {old new : Target N} {next to end : ℕ} (src : List ℕ) (at : ℕ) → at ≤ length src → Stretch mode slack (drop at src) old new 0 next to end → Stretch mode slack src old new at (at + next) to end
+stretch-later {N} {mode} {slack} {old} {new} {next} {to} {end} src at inside s =
+    let there : drop next (drop at src) ≡ drop (at + next) src = drop-drop next at src in let count = length-drop at src in
+    let r0 = rest-is mode (drop at src) 0 in let r1 = rest-is mode (drop at src) next ∙ ap (λ xs. length (inner mode xs)) there in
+    let q0 = rest-is mode src at in let q1 = rest-is mode src (at + next) in let c = ap (escaped_count mode) there in
+    record {
+      same_slice = s.same_slice;
+      forward = omega arith;
+      inside = omega (arith, s.inside, count, inside);
+      limit = omega (arith, s.limit, r0, r1, q0, q1);
+      bytes = ap (λ xs. take end (bytes_of new) ++ inner mode xs) (sym there) ∙ s.bytes;
+      kept = s.kept;
+      escaped = omega (arith, s.escaped, c);
+      quotes = s.quotes;
+      writes = s.writes;
+    }
+
 -- in the modes that go byte by byte, what stands for bytes is cut where they are
 inner-cut : (is_html : Bool) (xs ys : List ℕ) → inner (mode_of is_html) (xs ++ ys) ≡ inner (mode_of is_html) xs ++ inner (mode_of is_html) ys
 inner-cut true xs ys = flat_map-append (replacement html) xs ys
@@ -112,9 +130,10 @@ module _ {N : ℕ} (is_html : Bool) {slack : ℕ} {src : List ℕ} {old new : Ta
   pub stretch-end : end ≡ to + length (inner (mode_of is_html) (slice_range src at next))
   stretch-end = grind (arith, rest-is, parts, length-append {A = ℕ}, slice_range)
 
--- a vector whose first lanes are a text was pasted in: it is stored
-pub stored_from_paste : {N : ℕ} {slack : ℕ} {text lanes : List ℕ} {old new : Target N} {to : ℕ} → Writes 1 0 0 old new to lanes → length text ≤ length lanes → length lanes ≤ length text + slack → to + length lanes ≤ length (bytes_of old)
-    → take (length text) lanes ≡ text → IsStored slack text old new 0 (length text) to
-stored_from_paste {text = text} {lanes = lanes} {old = old} {to = to} w some few room loaded =
-    let is = w.bytes ∙ append_assoc (take to (bytes_of old)) (take (length lanes) lanes) (drop (to + length lanes) (bytes_of old)) in
-    grind (arith, is, take_at, drop_at, take-append-le, take-take (length text) (length lanes) lanes some, take_all, length-take-le {A = ℕ}, drop_further, drop-paste)
+-- lanes that begin with a text were pasted in: a vector of it is stored
+pub stored_from_paste : {N : ℕ} {slack : ℕ} {text : List ℕ} {old new : Target N} {to n : ℕ} (lanes : List ℕ) → IsSameSlice old new → bytes_of new ≡ paste (bytes_of old) to lanes n
+    → stored_of new ≡ stored_of old + 1 → escaped_of new ≡ escaped_of old → quotes_of new ≡ quotes_of old → writes_of new ≡ writes_of old + 1
+    → length text ≤ n → n ≤ length lanes → n ≤ length text + slack → to + n ≤ length (bytes_of old) → take (length text) lanes ≡ text → IsStored slack text old new 0 (length text) to
+stored_from_paste {text = text} {old = old} {to = to} {n = n} lanes same bytes stored escaped quotes writes some long few room loaded =
+    let is = bytes ∙ append_assoc (take to (bytes_of old)) (take n lanes) (drop (to + n) (bytes_of old)) in
+    grind (arith, is, take_at, drop_at, take-append-le, take-take (length text) n lanes some, take_all, length-take-le {A = ℕ}, drop_further, drop-paste)

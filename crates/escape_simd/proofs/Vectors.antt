@@ -1,11 +1,10 @@
 -- A vector of a text as a whole: stored where it is clean, and what blocks cost.
-use Rattle.std.proofs.Common.{◌≡◌, ℕ, ◌+◌, ◌-◌, ◌/◌, ◌<◌, ◌≤◌, Bool, true, false, List, ◌++◌, length, length-drop, length-take-le, map, replicate, take, drop, get_or, refl, sym, ap, subst, ◌∙◌, arith}
-use Rattle.escape_simd.proofs.Words.{cases_Bool, drop-drop, get_or-drop, get_or-take, take-take, bits_of, gaps, length-bits_of, none_set, Mode, script, needs_escape, replacement, bytes_of, stored_of, Target, inner, passed, escaped_count, run_count, AreShort, Escapes, HasVectors, HoldsFlags, IsStored, IsVectorAt, Passed, Stretch}
+use Rattle.std.proofs.Common.{◌≡◌, ℕ, ◌+◌, ◌-◌, ◌/◌, ◌<◌, ◌≤◌, Bool, true, false, ◌&&◌, List, ◌++◌, length, length-drop, length-take-le, map, replicate, take, drop, get_or, refl, sym, ap, subst, ◌∙◌, arith}
+use Rattle.escape_simd.proofs.Words.{cases_Bool, drop-drop, get_or-drop, get_or-map, get_or-take, get_or-zip2, length-map, nat_tests, zip2, take-take, bits_of, flagged_blocks, gaps, length-bits_of, none_set, Mode, is_long, script, needs_escape, replacement, stored_of, Target, passed, run_count, AreShort, Escapes, HasVectors, HoldsFlags, IsStored, IsVectorAt, Passed, Stretch}
 use Rattle.escape_simd.proofs.Escapes.{other-byte, passed-alone}
 use Rattle.escape_simd.proofs.Gaps.{gaps-paid_mask}
-use Rattle.escape_simd.proofs.Lanes.{CleanFrom, held-shifted, held-whole, none_clean}
-use Rattle.escape_simd.proofs.RestSteps.{rest-is}
-use Rattle.escape_simd.proofs.Stretches.{ended, onward, onward_to, stored_ahead, widened}
+use Rattle.escape_simd.proofs.Lanes.{CleanFrom, held-shifted, held-whole, none_clean, none_set-at}
+use Rattle.escape_simd.proofs.Stretches.{ended, onward, onward_to, standing, stored_ahead, stretch-later, widened}
 use Rattle.escape_simd.proofs.Texts.{passed_clean-here}
 use Rattle.escape_simd.proofs.Turns.{ahead-front, ahead-passed, ahead-runs}
 
@@ -16,6 +15,14 @@ passed-to mode src border = record {
   near = omega arith;
   exact = λ bytewise. refl;
   clean = λ p late early. absurd (omega (arith, late, early));
+}
+
+-- no byte of the text
+pub escapes-none : {N : ℕ} (mode : Mode) (slack : ℕ) (src : List ℕ) (t : Target N) (to ticks : ℕ) → Escapes mode slack 0 0 0 src t t 0 0 to to ticks ticks
+escapes-none mode slack src t to ticks = record {
+  stretch = standing mode slack src t 0 to (omega arith);
+  passed = passed-to mode src 0;
+  cost = record { stored = omega arith; covered = omega arith; classified = omega arith };
 }
 
 -- clean bytes that were stored are passed
@@ -86,23 +93,9 @@ pub escapes-later : {N : ℕ} {mode : Mode} {slack border vectors asked : ℕ} {
     → Escapes mode slack border vectors asked text old new 0 next to end t0 t1 → Escapes mode slack (at + border) vectors asked src old new at (at + next) to end t0 t1
 escapes-later {N} {mode} {slack} {border} {vectors} {asked} {old} {new} {next} {to} {end} {t0} {t1} src text at is inside given =
     let e = subst (λ xs. Escapes mode slack border vectors asked xs old new 0 next to end t0 t1) is given in
-    let s = e.stretch in let p = e.passed in let count = length-drop at src in
-    let there : drop next (drop at src) ≡ drop (at + next) src = drop-drop next at src in
-    let r0 = rest-is mode (drop at src) 0 in let r1 = rest-is mode (drop at src) next ∙ ap (λ xs. length (inner mode xs)) there in
-    let q0 = rest-is mode src at in let q1 = rest-is mode src (at + next) in
-    let c = ap (escaped_count mode) there in let u = ap (run_count mode) there in
+    let p = e.passed in let u = ap (run_count mode) (drop-drop next at src) in
     record {
-      stretch = record {
-        same_slice = s.same_slice;
-        forward = omega arith;
-        inside = omega (arith, s.inside, count, inside);
-        limit = omega (arith, s.limit, r0, r1, q0, q1);
-        bytes = ap (λ xs. take end (bytes_of new) ++ inner mode xs) (sym there) ∙ s.bytes;
-        kept = s.kept;
-        escaped = omega (arith, s.escaped, c);
-        quotes = s.quotes;
-        writes = s.writes;
-      };
+      stretch = stretch-later src at inside e.stretch;
       passed = record {
         whole = omega (arith, p.whole);
         near = omega (arith, p.near);
@@ -162,6 +155,17 @@ not_lead mode src p two = refl
 told-held : (mode : Mode) (src : List ℕ) (at valid : ℕ) (bits : List Bool) → HoldsFlags mode src at valid at bits → (k : ℕ) → k < valid → get_or bits k false ≡ needs_escape mode (get_or src (at + k) 0)
 told-held mode src at valid bits h k few = let t = h.set k in let u = h.unset k in grind (arith, cases_Bool)
 
+-- where no flagged byte of a text is long, each has a short escape
+pub short-lanes : (mode : Mode) (n : ℕ) (src : List ℕ) (at : ℕ) (bits : List Bool) → at + n ≤ length src → n ≤ length bits → none_set (zip2 ◌&&◌ (map (is_long mode) (take n (drop at src))) bits) ≡ true → AreShort mode n src at bits
+short-lanes mode n src at bits inside wide none k h set needed =
+    let full : length (take n (drop at src)) ≡ n = length-take-le n (drop at src) (omega (arith, inside, length-drop at src)) in
+    let ms = map (is_long mode) (take n (drop at src)) in
+    let lane : get_or ms k false ≡ is_long mode (get_or src (at + k) 0) =
+    get_or-map (is_long mode) (take n (drop at src)) k 0 false (omega (arith, full, h)) ∙ ap (is_long mode) (get_or-take n (drop at src) k 0 h ∙ get_or-drop at src k 0) in
+    let both = get_or-zip2 ◌&&◌ ms bits k false false false (omega (arith, full, length-map (take n (drop at src)) (is_long mode), h)) (omega (arith, h, wide)) in
+    let clear : (is_long mode (get_or src (at + k) 0) && true) ≡ false = rw (lane, set) at (sym both ∙ none_set-at (zip2 ◌&&◌ ms bits) k none) in
+    grind (arith, nat_tests, clear, needed)
+
 -- where each flagged byte has a short escape, each byte is passed alone
 alone-short : (mode : Mode) (n : ℕ) (src : List ℕ) (at valid : ℕ) (bits : List Bool) → HoldsFlags mode src at valid at bits → AreShort mode n src at bits → at + valid ≤ length src → valid ≤ n → (p : ℕ) → at ≤ p → p < at + valid → passed mode (drop p src) ≡ 1
 alone-short mode n src at valid bits h short inside few p after before =
@@ -169,21 +173,20 @@ alone-short mode n src at valid bits h short inside few p after before =
 
 -- a vector was escaped by blocks, whose stores its runs pay for
 pub vector-blocks : {N : ℕ} (mode : Mode) (slack : ℕ) (src : List ℕ) (old new : Target N) (at valid to end size : ℕ) (flags ticks_old ticks_new : ℕ) → IsVectorAt mode N slack src at valid to size (bits_of 64 flags) → AreShort mode N src at (bits_of 64 flags)
-    → N ≤ 64 → 16 ≤ N → 16 ≤ slack → (valid + 7) / 8 - 2 ≤ gaps false (take valid (bits_of 64 flags))
-    → Stretch mode 16 src old new at (at + valid) to end → stored_of new + 1 ≤ stored_of old + (valid + 7) / 8 → ticks_new ≡ ticks_old + ((valid + 7) / 8 - 2)
+    → N ≤ 64 → 16 ≤ slack → (valid + 7) / 8 ≤ flagged_blocks 8 (bits_of 64 flags) + gaps false (take valid (bits_of 64 flags)) + 1
+    → Stretch mode 16 src old new at (at + valid) to end → stored_of new + flagged_blocks 8 (bits_of 64 flags) ≡ stored_of old + (valid + 7) / 8 → ticks_new ≡ ticks_old + ((valid + 7) / 8 - (flagged_blocks 8 (bits_of 64 flags) + 1))
     → Escapes mode slack (at + valid) 1 1 src old new at (at + valid) to end ticks_old ticks_new
-vector-blocks {N} mode slack src old new at valid to end size flags ticks_old ticks_new v short narrow several far paid s stored ticks =
+vector-blocks {N} mode slack src old new at valid to end size flags ticks_old ticks_new v short narrow far paid s stored ticks =
     let bits = bits_of 64 flags in
     let told : (k : ℕ) → k < valid → get_or bits k false ≡ needs_escape mode (get_or src (at + k) 0) = told-held mode src at valid bits v.flags in
     let alone : (p : ℕ) → at ≤ p → p < at + valid → passed mode (drop p src) ≡ 1 = alone-short mode N src at valid bits v.flags short (omega (arith, v.inside)) v.few in
     let runs = gaps-paid_mask mode src bits at valid (omega (arith, v.inside)) (omega (arith, length-bits_of 64 flags, v.few, narrow)) told alone in
-    let eight : 2 ≤ N / 8 = omega (arith, several) in
     record {
       stretch = widened slack far s;
       passed = passed-to mode src (at + valid);
       cost = record {
-        stored = omega (arith, stored, paid, runs, eight);
-        covered = omega (arith, stored, ticks, eight);
-        classified = omega (arith, ticks, paid, runs, eight);
+        stored = omega (arith, stored, paid, runs);
+        covered = omega (arith, stored, ticks);
+        classified = omega (arith, ticks, paid, runs);
       };
     }

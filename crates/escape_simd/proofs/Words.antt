@@ -1,7 +1,7 @@
 -- The words of these proofs, from where each is defined.
 pub use Rattle.std.proofs.Common.{Bor, Err, List, [], ap, arith, cond, drop, false, get_or, inl, inr, length, length-append, map, nat_eq, not, refl, replicate, slice_index, slice_index_or, subst, sym, take, true, vec_capacity, vec_len, ℕ, ◌*◌, ◌++◌, ◌+◌, ◌-◌, ◌/◌, ◌<◌, ◌∙◌, ◌≡◌, ◌≤◌}
 pub use Rattle.std.proofs.Math.Seq.{drop-cons, paste, take-add, take-append-add, take-append_seam}
-pub use Rattle.std.proofs.lemmas.Bool.{agree_below, agree_below_at, and_parts, cases_Bool, cases_lt, cond_both, false_from_ne_true, ne_eqb, true≢false}
+pub use Rattle.std.proofs.lemmas.Bool.{agree_below, agree_below_at, and_parts, cases_Bool, cases_lt, cond_both, false_from_ne_true, ne_eqb, true_from_ne_false, true≢false}
 pub use Rattle.std.proofs.lemmas.Bool.Decides.{leb_tells, nat_tests}
 pub use Rattle.std.proofs.lemmas.Grind.{flat_map-append}
 pub use Rattle.std.proofs.lemmas.List.{append-nil, append_cancel_left, append_cancel_right, drop-append-le, drop-drop, drop-map, drop-take, drop_all, drop_at, ext_get_or, get_or-append_right, get_or-drop, get_or-map, get_or-replicate, get_or-take, get_or_append_left, get_or_default, get_or_past, length-drop, length-map, length-replicate, length-take, length-take-le, map-append, map-id, replicate-append-replicate, take-append-drop, take-append-le, take-map, take-take, take_all, take_at}
@@ -21,10 +21,12 @@ pub use Rattle.escape_lanes.specs.Entry.{entry_bytes, entry_count, padded}
 pub use Rattle.escape_lanes.specs.Mode.{Mode, html, json, mode_of, script}
 unfoldable pub use Rattle.escape_lanes.specs.Replacement.{replacement}
 pub use Rattle.escape_lanes.specs.Replacement.{control_escape, needs_escape}
+unfoldable pub use Rattle.escape_lanes.specs.Short.{shortened}
+pub use Rattle.escape_lanes.specs.Short.{is_long}
+unfoldable pub use Rattle.escape_lanes.specs.Spread.{flagged_blocks, put_apart}
+pub use Rattle.escape_lanes.specs.Spread.{IsBlock, flag_count}
 pub use Rattle.escape_lanes.specs.Written.{IsSameSlice, Writes, bytes_of, escaped_of, quotes_of, stored_of, writes_of}
 pub use Rattle.escape_lanes.specs.declared.simd.target.Target.{Target}
-unfoldable pub use Rattle.escape_simd.specs.Blocks.{put_apart, shortened}
-pub use Rattle.escape_simd.specs.Blocks.{IsBlock, flag_count, short_letter}
 pub use Rattle.escape_simd.specs.Escaping.{IsEscaping, IsHarmless, IsOneLine}
 pub use Rattle.escape_simd.specs.Formatted.{IsFormatted, IsInnerAt, IsInnerWritten, IsQuoted, IsWritten}
 unfoldable pub use Rattle.escape_simd.specs.Html.{entity_of}
@@ -42,5 +44,5 @@ pub use Rattle.escape_simd.specs.Runs.{escaped_count, run_count, run_count_after
 pub use Rattle.escape_simd.specs.Script.{HasNoRawMark, IsOnlyScript, IsSafeInScript, IsScriptFree, IsScriptItem, IsShortestScript, is_script_marked}
 pub use Rattle.escape_simd.specs.Spelling.{IsTextOf, Spells}
 unfoldable pub use Rattle.escape_simd.specs.Stretch.{rest_length}
-pub use Rattle.escape_simd.specs.Stretch.{AreLast, AreShort, CleanAhead, Cost, Escaped, Escapes, HasBlocks, HasRest, HasVectors, HoldsFlags, IsByteWise, IsFinished, IsFlaggedAt, IsLeftAt, IsResumed, IsStored, IsVectorAt, IsVectorEnd, Passed, Stretch, reach, run_end, run_reach}
+pub use Rattle.escape_simd.specs.Stretch.{AreTail, AreShort, BeginsRun, CanStore, Cost, Escaped, Escapes, HasBlocks, HasTail, HasVectors, HoldsFlags, IsByteWise, IsFinished, IsFlaggedAt, IsRun, IsStored, IsVectorAt, IsVectorEnd, Passed, Stretch, reach, run_end, run_reach}
 pub use mir.Syntax.{w8}

@@ -1,9 +1,10 @@
 -- What an output is: all that is said of the bytes that stand for a text in a mode.
-use Rattle.std.specs.Prelude.{◌≡◌, ℕ, ◌≤◌, List, length, All, IsUtf8, chars}
+use Rattle.std.specs.Prelude.{◌≡◌, ℕ, ◌≤◌, List, [], length, All, IsUtf8, chars}
 use Rattle.escape_lanes.specs.Mode.{Mode, json, html, script}
 use Rattle.escape_simd.specs.Headline.{IsOnlyOutput}
 use Rattle.escape_simd.specs.Html.{IsMarkupFree, AmpersandsBeginEntities}
 use Rattle.escape_simd.specs.Laws.{JoinsTexts, IsOfOneText, HasOutputLength}
+use Rattle.escape_simd.specs.Markup.{markup_of}
 use Rattle.escape_simd.specs.Output.{plain}
 use Rattle.escape_simd.specs.Script.{IsSafeInScript}
 use Rattle.escape_simd.specs.Spelling.{IsTextOf}
@@ -16,6 +17,7 @@ IsOneLine bytes = All (λ b. 0x20 ≤ b) bytes
 pub record IsHarmlessHtml (bytes : List ℕ) : Type 0 where
   pub markup_free : IsMarkupFree bytes
   pub ampersands : AmpersandsBeginEntities bytes
+  pub no_markup : markup_of bytes ≡ []
 
 -- a literal on one line that can stand in a script element
 pub record IsHarmlessScript (bytes : List ℕ) : Type 0 where

@@ -6,7 +6,6 @@ pub mod Modes
 pub mod Output
 pub mod Runs
 pub mod Stretch
-pub mod Blocks
 pub mod Formatted
 pub mod Parts
 pub mod Lengths
@@ -17,6 +16,8 @@ pub mod Json
 pub mod Script
 pub mod Headline
 pub mod Laws
+pub mod Markup
 pub mod Escaping
 pub mod Messages
 pub mod Refusals
+pub mod IoKinds

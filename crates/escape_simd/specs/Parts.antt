@@ -21,8 +21,8 @@ pub record IsAnswer (mode : Mode) (text : List ℕ) (at next : ℕ) (answer : Bo
   pub clean : answer ≡ true → (k : ℕ) → at ≤ k → k < next → needs_escape mode (slice_index text k) ≡ false
   pub flagged : answer ≡ false → 0 < count_by (needs_escape mode) text
 
--- A text's bytes up to a place were appended as they are, and none of them needs an escape.
-pub record IsFront (mode : Mode) (text old new : List ℕ) (end : ℕ) : Type 0 where
+-- None of a text's bytes from one place up to another needs an escape.
+pub record IsFront (mode : Mode) (text : List ℕ) (at end : ℕ) : Type 0 where
+  pub forward : at ≤ end
   pub inside : end ≤ length text
-  pub clean : (k : ℕ) → k < end → needs_escape mode (slice_index text k) ≡ false
-  pub appended : new ≡ old ++ take end text
+  pub clean : (k : ℕ) → at ≤ k → k < end → needs_escape mode (slice_index text k) ≡ false

@@ -85,12 +85,28 @@ pub record Escaped {N : ℕ} (mode : Mode) (src : List ℕ) (old new : Target N)
   pub place : next ≡ at + passed mode (drop at src)
   pub stored : stored_of new ≡ stored_of old
 
--- the run of bytes at `at` that need an escape was escaped
-pub record IsRun {N : ℕ} (mode : Mode) (src : List ℕ) (old new : Target N) (at next to end : ℕ) : Type 0 where
+-- A mask has the lane of the byte at `at`, and none before it. Each of its lanes is a byte of the text that needs an escape, and
+-- there is room for its entry after what those from `at` on become.
+pub record BeginsRun (mode : Mode) (src : List ℕ) (at to size : ℕ) (bits : List Bool) : Type 0 where
+  pub first : slice_index_or bits at false ≡ true
+  pub lanes : (k : ℕ) → slice_index_or bits k false ≡ true → (at ≤ k) × IsFlaggedAt mode src k × (to + 6 * (k - at) + 8 ≤ size)
+
+-- The run of bytes at `at` whose lanes a mask has was escaped: up to `next`, with `last` the last flagged one of them. No vector was
+-- stored. The mask that is left has the lanes after them, and not that of the next byte.
+pub record IsRun {N : ℕ} (mode : Mode) (src : List ℕ) (old new : Target N) (at next to end : ℕ) (bits left : List Bool) : Type 0 where
   pub stretch : Stretch mode (run_reach mode) src old new at next to end
-  pub place : next ≡ run_end mode src at
-  pub escaped : escaped_of new ≡ escaped_of old + (next - at)
+  pub one : run_count mode (drop at src) ≡ run_count_after mode true (drop next src) + 1
   pub stored : stored_of new ≡ stored_of old
+  -- where what stands for a byte is told by that byte alone, each of them is one escape
+  pub place : IsByteWise mode → run_end mode src next ≡ run_end mode src at
+  pub escaped : IsByteWise mode → escaped_of new ≡ escaped_of old + (next - at)
+  pub last : ℕ
+  pub some : at ≤ last
+  pub flagged : slice_index_or bits last false ≡ true
+  pub after : next ≡ last + passed mode (drop last src)
+  pub set : (k : ℕ) → slice_index_or left k false ≡ true → (next ≤ k) × (slice_index_or bits k false ≡ true)
+  pub unset : (k : ℕ) → slice_index_or left k false ≡ false → next ≤ k → slice_index_or bits k false ≡ false
+  pub ended : slice_index_or left next false ≡ false
 
 -- A mask has the flags of `valid` bytes of a text from `at` on, at most a vector of N. A vector can be loaded from each place from
 -- `at` to their end, and there is room for what they become and for what their stores reach past it.
@@ -99,16 +115,6 @@ pub record IsVectorAt (mode : Mode) (N slack : ℕ) (src : List ℕ) (at valid t
   pub few : valid ≤ N
   pub inside : at + valid + N ≤ length src
   pub room : to + 6 * valid + slack ≤ size
-
--- Some of these bytes were passed: those from `next` on are left, with what is written at `to`. The mask has their flags alone.
-pub record IsLeftAt (mode : Mode) (N slack : ℕ) (src : List ℕ) (at valid next to size : ℕ) (bits : List Bool) : Type 0 where
-  pub flags : HoldsFlags mode src at valid next bits
-  pub cleared : (k : ℕ) → slice_index_or bits k false ≡ true → next ≤ at + k
-  pub few : valid ≤ N
-  pub inside : at + valid + N ≤ length src
-  pub after : at ≤ next
-  pub before : next < at + valid
-  pub room : to + 6 * (at + valid - next) + slack ≤ size
 
 -- a vector can be stored at `to`, whose first `left` lanes are the text's bytes from `from` on
 pub record CanStore (N slack : ℕ) (src : List ℕ) (from left to size : ℕ) : Type 0 where
@@ -144,18 +150,6 @@ pub record IsFinished {N : ℕ} (mode : Mode) (slack : ℕ) (src : List ℕ) (ol
   pub stored : stored_of new + run_count mode (drop next src) ≤ stored_of old + run_count_after mode true (drop from src) + 1
   pub classified : ticks_new + stored_of old ≡ ticks_old + stored_of new
 
--- the text's clean bytes from `from` on, as far as the border, stand in a target from `to` on
-abbrev pub CleanAhead : {N : ℕ} → Mode → List ℕ → Target N → ℕ → ℕ → ℕ → Type 0
-CleanAhead mode src target from border to = (count : ℕ) → from + count ≤ border → ((p : ℕ) → from ≤ p → p < from + count → needs_escape mode (slice_index src p) ≡ false)
-    → take count (drop to (bytes_of target)) ≡ take count (drop from src)
-
--- After a run of escapes that ended at `from` the text's clean bytes from there on stand in the target, as far as the border.
-pub record IsResumed {N : ℕ} (mode : Mode) (slack : ℕ) (src : List ℕ) (old new : Target N) (border from to ticks_old ticks_new : ℕ) : Type 0 where
-  pub stretch : Stretch mode (border - from + slack) src old new from from to to
-  pub ahead : CleanAhead mode src new from border to
-  pub stored : stored_of new + run_count mode (drop from src) ≤ stored_of old + run_count_after mode true (drop from src) + 1
-  pub classified : ticks_new + stored_of old ≡ ticks_old + stored_of new
-
 -- Vectors of a text from `at` on are there, and one more behind them. There is room for what their bytes from `from` on become,
 -- and for a vector.
 pub record HasVectors (N vectors : ℕ) (src : List ℕ) (at from to size : ℕ) : Type 0 where
@@ -163,13 +157,13 @@ pub record HasVectors (N vectors : ℕ) (src : List ℕ) (at from to size : ℕ)
   pub room : to + 6 * (at + vectors * N - from) + N ≤ size
 
 -- The bytes of a text from `at` on are fewer than two vectors have, and there is room for what they become.
-pub record HasRest (N : ℕ) (src : List ℕ) (at to size : ℕ) : Type 0 where
+pub record HasTail (N : ℕ) (src : List ℕ) (at to size : ℕ) : Type 0 where
   pub inside : at ≤ length src
   pub few : length src < at + 2 * N
   pub room : to + 6 * (length src - at) + reach true N ≤ size
 
 -- A short text, with the flags of its last vector, and where it has as many bytes as one, those of its first one.
-pub record AreLast (mode : Mode) (N : ℕ) (text : List ℕ) (first last : List Bool) : Type 0 where
+pub record AreTail (mode : Mode) (N : ℕ) (text : List ℕ) (first last : List Bool) : Type 0 where
   pub few : length text < 2 * N
   pub front : N ≤ length text → HoldsFlags mode text 0 N 0 first
   pub back : HoldsFlags mode text (length text - N) (min (length text) N) (length text - N) last
@@ -184,13 +178,11 @@ abbrev pub AreShort : Mode → ℕ → List ℕ → ℕ → List Bool → Type 0
 AreShort mode n src at bits =
     (k : ℕ) → k < n → slice_index_or bits k false ≡ true → needs_escape mode (slice_index src (at + k)) ≡ true → length (replacement mode (slice_index src (at + k))) ≡ 2
 
--- a vector's first `valid` bytes can be escaped by blocks: some are flagged, and each of these has a short escape
-pub record HasBlocks (mode : Mode) (N : ℕ) (src : List ℕ) (at valid to size : ℕ) (bits : List Bool) : Type 0 where
+-- a text's `valid` bytes can be escaped by blocks: some are flagged, and each of these has a short escape
+pub record HasBlocks (mode : Mode) (src : List ℕ) (at valid to size : ℕ) (bits : List Bool) : Type 0 where
   pub flags : HoldsFlags mode src at valid at bits
   pub some : none_set bits ≡ false
-  pub short : AreShort mode N src at bits
-  pub sixteens : N ≡ 16 * (N / 16)
-  pub most : N ≤ 64
-  pub few : valid ≤ N
-  pub inside : at + N ≤ length src
+  pub short : AreShort mode valid src at bits
+  pub few : valid ≤ 64
+  pub inside : at + valid + 16 ≤ length src
   pub room : to + 2 * valid + 16 ≤ size

@@ -1,18 +1,76 @@
 //! Calls that write an output to a slice, with the kernel that the caller names. They allocate nothing and do not
 //! fail.
-ghost use Rattle.std.specs.Prelude.{◌+◌, ◌*◌, ◌≤◌, length, take, chars};
+ghost use Rattle.std.specs.Prelude.{◌+◌, ◌*◌, ◌≤◌, ◌++◌, length, take, chars};
 ghost use Rattle.escape_lanes.specs.Mode.{json, html, script};
 ghost use Rattle.escape_simd.specs.Escaping.{IsEscaping};
 ghost use Rattle.escape_simd.specs.Formatted.{IsInnerWritten, IsWritten};
+ghost use Rattle.escape_simd.specs.Headline.{IsOnlyOutput};
 ghost use Rattle.escape_simd.specs.Json.{IsOnlyJson};
 ghost use Rattle.escape_simd.specs.Kernels.{lanes_of};
 ghost use Rattle.escape_simd.specs.Laws.{AgreesWithEach};
-ghost use Rattle.escape_simd.specs.Modes.{mode_numbered};
-ghost use Rattle.escape_simd.specs.Output.{bound, quoted};
+ghost use Rattle.escape_simd.specs.Modes.{escaping, mode_numbered};
+ghost use Rattle.escape_simd.specs.Output.{bound, quote_of, quoted};
 ghost use Rattle.escape_simd.specs.Script.{IsOnlyScript};
 
 use crate::kernel::Kernel;
+use crate::mode::Mode;
 use crate::simd::{HTML_MODE, JSON_MODE, SCRIPT_MODE, avx2, avx512, neon, sse2, v128, whole};
+
+/// Writes the output of a text in the mode `mode` to the front of `dst`, with the kernel `kernel`. Returns the length of
+/// the output in bytes. The call allocates nothing and does not fail.
+///
+/// For a text of `n` bytes, `dst` must have at least `6 * n + 35` bytes, in HTML `6 * n + 32` ([`Mode::capacity`]). The
+/// bytes of `dst` from that index on are unchanged, and so are those that are a vector (16, 32 or 64 bytes) or more past
+/// the end of the output. The bytes between may have changed. All kernels write the same output.
+///
+/// ```text
+/// let mut dst = [0; 38];
+/// format_text(Kernel::Avx2, Mode::Html, "<", &mut dst) == 4
+/// dst.starts_with(b"&lt;")
+/// ```
+#[inline(always)]
+pub fn format_text(kernel: Kernel, mode: Mode, value: &str, dst: &mut [u8]) -> usize
+    requires has_room { bound (escaping mode) (length value.now) ≤ length dst.old }
+    ensures written { IsWritten (lanes_of kernel) (escaping mode) value.now dst.old dst.new result }
+    ensures output { IsEscaping (escaping mode) value.now (take result dst.new) }
+    ensures agree { AgreesWithEach (escaping mode) value.now result (take result dst.new) }
+{
+    match mode {
+        Mode::Json => format_by::<{ JSON_MODE }>(kernel, value, dst),
+        Mode::Html => format_by::<{ HTML_MODE }>(kernel, value, dst),
+        Mode::Script => format_by::<{ SCRIPT_MODE }>(kernel, value, dst),
+    }
+}
+
+/// Writes the output of a text in the mode `mode` without its quotation marks to the front of `dst`, with the kernel
+/// `kernel`. Returns the number of bytes written. The call allocates nothing and does not fail. HTML has no quotation
+/// marks, and so this is the whole output.
+///
+/// Use it to write an output in pieces: [`Mode::quote`], the outputs of the pieces one after another, and
+/// [`Mode::quote`] are the output of the whole text.
+///
+/// For a text of `n` bytes, `dst` must have at least `6 * n + 32` bytes. The bytes of `dst` from index `6 * n + 32` on
+/// are unchanged, and so are those that are a vector (16, 32 or 64 bytes) or more past the end of the output. The bytes
+/// between may have changed. All kernels write the same output.
+///
+/// ```text
+/// let mut dst = [0; 38];
+/// format_inner(Kernel::Avx2, Mode::Json, "\"", &mut dst) == 2
+/// dst.starts_with(b"\\\"")
+/// ```
+#[inline(always)]
+pub fn format_inner(kernel: Kernel, mode: Mode, value: &str, dst: &mut [u8]) -> usize
+    requires has_room { 6 * length value.now + 32 ≤ length dst.old }
+    ensures written { IsInnerWritten (lanes_of kernel) (escaping mode) value.now dst.old dst.new result }
+    ensures headline { IsOnlyOutput (escaping mode)
+        (quote_of (escaping mode) ++ (take result dst.new ++ quote_of (escaping mode))) (chars value.now) }
+{
+    match mode {
+        Mode::Json => inner_by::<{ JSON_MODE }>(kernel, value, dst),
+        Mode::Html => inner_by::<{ HTML_MODE }>(kernel, value, dst),
+        Mode::Script => inner_by::<{ SCRIPT_MODE }>(kernel, value, dst),
+    }
+}
 
 /// Writes the JSON string literal of a text (RFC 8259, section 7), with its quotation marks, to the front of `dst`,
 /// with the kernel `kernel`. Returns the length of the literal in bytes. The call allocates nothing and does not
@@ -29,12 +87,12 @@ use crate::simd::{HTML_MODE, JSON_MODE, SCRIPT_MODE, avx2, avx512, neon, sse2, v
 /// dst.starts_with(b"\"x\"")
 /// ```
 pub fn format_json_string(kernel: Kernel, value: &str, dst: &mut [u8]) -> usize
-    requires { bound json (length value.now) ≤ length dst.old }
+    requires has_room { bound json (length value.now) ≤ length dst.old }
     ensures written { IsWritten (lanes_of kernel) json value.now dst.old dst.new result }
     ensures output { IsEscaping json value.now (take result dst.new) }
     ensures agree { AgreesWithEach json value.now result (take result dst.new) }
 {
-    format_by::<{ JSON_MODE }>(kernel, value, dst)
+    format_text(kernel, Mode::Json, value, dst)
 }
 
 /// Writes what [`format_json_string`] writes, and returns the literal as a `&str` that borrows `dst`.
@@ -46,7 +104,7 @@ pub fn format_json_string(kernel: Kernel, value: &str, dst: &mut [u8]) -> usize
 /// format_json_str(Kernel::Avx2, "<", &mut dst) == "\"<\""
 /// ```
 pub fn format_json_str<'a>(kernel: Kernel, value: &str, dst: &'a mut [u8]) -> &'a str
-    requires { bound json (length value.now) ≤ length dst.old }
+    requires has_room { bound json (length value.now) ≤ length dst.old }
     ensures output { IsEscaping json value.now result.now }
 {
     let count = format_json_string(kernel, value, dst);
@@ -68,12 +126,12 @@ pub fn format_json_str<'a>(kernel: Kernel, value: &str, dst: &'a mut [u8]) -> &'
 /// dst.starts_with(b"&lt;")
 /// ```
 pub fn format_html_string(kernel: Kernel, value: &str, dst: &mut [u8]) -> usize
-    requires { bound html (length value.now) ≤ length dst.old }
+    requires has_room { bound html (length value.now) ≤ length dst.old }
     ensures written { IsWritten (lanes_of kernel) html value.now dst.old dst.new result }
     ensures output { IsEscaping html value.now (take result dst.new) }
     ensures agree { AgreesWithEach html value.now result (take result dst.new) }
 {
-    format_by::<{ HTML_MODE }>(kernel, value, dst)
+    format_text(kernel, Mode::Html, value, dst)
 }
 
 /// Writes what [`format_html_string`] writes, and returns the output as a `&str` that borrows `dst`.
@@ -85,7 +143,7 @@ pub fn format_html_string(kernel: Kernel, value: &str, dst: &mut [u8]) -> usize
 /// format_html_str(Kernel::Avx2, "<", &mut dst) == "&lt;"
 /// ```
 pub fn format_html_str<'a>(kernel: Kernel, value: &str, dst: &'a mut [u8]) -> &'a str
-    requires { bound html (length value.now) ≤ length dst.old }
+    requires has_room { bound html (length value.now) ≤ length dst.old }
     ensures output { IsEscaping html value.now result.now }
 {
     let count = format_html_string(kernel, value, dst);
@@ -108,12 +166,12 @@ pub fn format_html_str<'a>(kernel: Kernel, value: &str, dst: &'a mut [u8]) -> &'
 /// dst.starts_with(b"\"\\u003c\"")
 /// ```
 pub fn format_script_string(kernel: Kernel, value: &str, dst: &mut [u8]) -> usize
-    requires { bound script (length value.now) ≤ length dst.old }
+    requires has_room { bound script (length value.now) ≤ length dst.old }
     ensures written { IsWritten (lanes_of kernel) script value.now dst.old dst.new result }
     ensures output { IsEscaping script value.now (take result dst.new) }
     ensures agree { AgreesWithEach script value.now result (take result dst.new) }
 {
-    format_by::<{ SCRIPT_MODE }>(kernel, value, dst)
+    format_text(kernel, Mode::Script, value, dst)
 }
 
 /// Writes what [`format_script_string`] writes, and returns the literal as a `&str` that borrows `dst`.
@@ -125,7 +183,7 @@ pub fn format_script_string(kernel: Kernel, value: &str, dst: &mut [u8]) -> usiz
 /// format_script_str(Kernel::Avx2, "<", &mut dst) == "\"\\u003c\""
 /// ```
 pub fn format_script_str<'a>(kernel: Kernel, value: &str, dst: &'a mut [u8]) -> &'a str
-    requires { bound script (length value.now) ≤ length dst.old }
+    requires has_room { bound script (length value.now) ≤ length dst.old }
     ensures output { IsEscaping script value.now result.now }
 {
     let count = format_script_string(kernel, value, dst);
@@ -150,11 +208,11 @@ pub fn format_script_str<'a>(kernel: Kernel, value: &str, dst: &'a mut [u8]) -> 
 /// dst.starts_with(b"\\\"")
 /// ```
 pub fn format_json_inner(kernel: Kernel, value: &str, dst: &mut [u8]) -> usize
-    requires { 6 * length value.now + 32 ≤ length dst.old }
+    requires has_room { 6 * length value.now + 32 ≤ length dst.old }
     ensures written { IsInnerWritten (lanes_of kernel) json value.now dst.old dst.new result }
     ensures headline { IsOnlyJson (quoted (take result dst.new)) (chars value.now) }
 {
-    inner_by::<{ JSON_MODE }>(kernel, value, dst)
+    format_inner(kernel, Mode::Json, value, dst)
 }
 
 /// Writes the literal of a text that is safe inside a script element (see [`format_script_string`]) without its
@@ -175,11 +233,11 @@ pub fn format_json_inner(kernel: Kernel, value: &str, dst: &mut [u8]) -> usize
 /// dst.starts_with(b"\\u003c")
 /// ```
 pub fn format_script_inner(kernel: Kernel, value: &str, dst: &mut [u8]) -> usize
-    requires { 6 * length value.now + 32 ≤ length dst.old }
+    requires has_room { 6 * length value.now + 32 ≤ length dst.old }
     ensures written { IsInnerWritten (lanes_of kernel) script value.now dst.old dst.new result }
     ensures headline { IsOnlyScript (quoted (take result dst.new)) (chars value.now) }
 {
-    inner_by::<{ SCRIPT_MODE }>(kernel, value, dst)
+    format_inner(kernel, Mode::Script, value, dst)
 }
 
 /// Writes the output for the text in the mode numbered `MODE` by the kernel.

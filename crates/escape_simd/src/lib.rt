@@ -8,7 +8,7 @@
 //! - [`format_json_string`], [`format_html_string`] and [`format_script_string`] write to a slice and allocate
 //!   nothing. Their first argument is the [`Kernel`]. [`format_json_str`], [`format_html_str`] and
 //!   [`format_script_str`] return the output as a `&str`. [`format_json_inner`] and [`format_script_inner`] leave out
-//!   the quotation marks.
+//!   the quotation marks. [`format_text`] and [`format_inner`] take the [`Mode`] as a value.
 //! - [`json::escaped_len`], [`html::escaped_len`] and [`json::script_len`] return the length of an output.
 //!   [`json::is_clean`], [`html::is_clean`] and [`json::is_script_clean`] return whether nothing needs an escape.
 //!
@@ -25,15 +25,18 @@
 
 mod format;
 pub mod html;
+mod io_errors;
 pub mod json;
 mod kernel;
+mod mode;
 pub mod output;
 pub mod simd;
 
 pub use escape_lanes::tables;
 pub use format::{
-    format_html_str, format_html_string, format_json_inner, format_json_str, format_json_string,
-    format_script_inner, format_script_str, format_script_string,
+    format_html_str, format_html_string, format_inner, format_json_inner, format_json_str,
+    format_json_string, format_script_inner, format_script_str, format_script_string, format_text,
 };
 pub use kernel::Kernel;
+pub use mode::Mode;
 pub use output::{PIECE, Refusal};

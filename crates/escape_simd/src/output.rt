@@ -1,6 +1,6 @@
-//! The calls on which further calls are built. Each has the mode as its constant parameter `MODE`:
-//! [`JSON_MODE`](crate::simd::JSON_MODE), [`HTML_MODE`] or [`SCRIPT_MODE`](crate::simd::SCRIPT_MODE). A number above
-//! `SCRIPT_MODE` means script too.
+//! The calls on which further calls are built. Each has the number of the mode as its constant parameter `MODE`:
+//! [`JSON_MODE`](crate::simd::JSON_MODE), [`HTML_MODE`] or [`SCRIPT_MODE`](crate::simd::SCRIPT_MODE). No other number is
+//! accepted.
 ghost use Rattle.std.specs.Prelude.{◌≡◌, ◌+◌, ◌*◌, ◌<◌, ◌≤◌, ◌↔◌, ◌++◌, length, take, chars, string_bytes, vec_len, vec_capacity, Err, IsOk, IfOk, OnOk, OnErr, IfSome, IsNone};
 ghost use Rattle.escape_simd.specs.Modes.{mode_numbered};
 ghost use Rattle.escape_simd.specs.Output.{plain, inner, quote_of, bound};
@@ -9,22 +9,21 @@ ghost use Rattle.escape_simd.specs.Headline.{IsOnlyOutput};
 ghost use Rattle.escape_simd.specs.Laws.{JoinsTexts, IsOfOneText, HasOutputLength};
 
 mod bytes;
+mod clean;
 mod error;
-mod front;
 mod in_place;
-mod inner;
 mod length;
 mod push;
 
-use crate::simd::HTML_MODE;
 use crate::simd::avx2::Simd256u;
+use crate::simd::{HTML_MODE, escape_at};
 use crate::{html, json};
-use bytes::append_bytes;
+use bytes::{append_last, append_long};
+pub use clean::is_clean;
 pub use error::Refusal;
-pub use inner::write_inner;
-pub use length::{escaped_len, stands_for_itself};
+pub use length::escaped_len;
 pub use push::PIECE;
-use push::push_quote;
+use push::push_all;
 use std::alloc::Allocator;
 
 /// The vector by which texts are appended, and how many bytes it has.
@@ -39,6 +38,7 @@ const N: usize = 32;
 /// scratch_bound::<{ HTML_MODE }>(10) == Some(92)
 /// ```
 pub fn scratch_bound<const MODE: u8>(len: usize) -> Option<usize>
+    requires mode { MODE ≤ 2 }
     ensures fits { IfSome result (λ n. n ≡ bound (mode_numbered MODE) len) }
     ensures passes { IsNone result ↔ (usize.MAX < bound (mode_numbered MODE) len) }
 {
@@ -53,13 +53,50 @@ pub fn scratch_bound<const MODE: u8>(len: usize) -> Option<usize>
     Some(factor * len + slack)
 }
 
+/// Returns what stands before and after an output: a quotation mark in JSON, also in script mode, and nothing in HTML.
+///
+/// ```text
+/// quote::<{ JSON_MODE }>() == "\""
+/// ```
+#[inline(always)]
+pub fn quote<const MODE: u8>() -> &'static str
+    requires mode { MODE ≤ 2 }
+    ensures { result.now ≡ quote_of (mode_numbered MODE) }
+{
+    if MODE == HTML_MODE { "" } else { "\"" }
+}
+
+/// Writes what stands for the text, with no quotation marks, to `dst` from `at` on, and returns the place after it. The
+/// bytes before `at` stay.
+///
+/// `dst` must have room from `at` on for `6 * n + 32` bytes for a text of `n` bytes.
+///
+/// ```text
+/// write_inner::<{ HTML_MODE }>("<", &mut dst, 0) == 4 // dst begins with &lt;
+/// ```
+#[inline(always)]
+pub fn write_inner<const MODE: u8>(value: &str, dst: &mut [u8], at: usize) -> usize
+    requires mode { MODE ≤ 2 }
+    requires has_room { at + 6 * length value.now + 32 ≤ length dst.old }
+    ensures end { result ≡ at + length (inner (mode_numbered MODE) value.now) }
+    ensures written { take result dst.new
+        ≡ take at dst.old ++ inner (mode_numbered MODE) value.now }
+{
+    escape_at::<V, MODE, N>(value.as_bytes(), dst, at)
+}
+
 /// Appends the output for the text to a vector that has room for it.
 fn append_output<const MODE: u8, A: Allocator>(value: &str, dst: &mut Vec<u8, A>)
-    requires { vec_len dst.old + bound (mode_numbered MODE) (length value.now) ≤ vec_capacity dst.old }
+    requires mode { MODE ≤ 2 }
+    requires room { vec_len dst.old + bound (mode_numbered MODE) (length value.now) ≤ vec_capacity dst.old }
     ensures { dst.new.items ≡ dst.old.items ++ plain (mode_numbered MODE) value.now }
 {
-    push_quote::<MODE, A>(dst);
-    append_bytes::<MODE, A>(value.as_bytes(), dst);
+    push_all(dst, quote::<MODE>().as_bytes());
+    let text = value.as_bytes();
+    if text.len() < 2 * N {
+        return append_last::<MODE, A>(text, dst);
+    }
+    append_long::<MODE, A>(text, dst);
 }
 
 /// Appends the output of a text in the mode `MODE` to `dst`. The bytes that `dst` has are kept, and may be any bytes.
@@ -81,6 +118,7 @@ pub fn append<const MODE: u8, A: Allocator>(
     value: &str,
     dst: &mut Vec<u8, A>,
 ) -> Result<(), Refusal>
+    requires mode { MODE ≤ 2 }
     ensures exact { OnOk result (dst.new.items ≡ dst.old.items ++ plain (mode_numbered MODE) value.now) }
     ensures unchanged { OnErr result (dst.new.items ≡ dst.old.items) }
     ensures too_large { (result ≡ Err Refusal.TooLarge)
@@ -102,6 +140,7 @@ pub(crate) fn text<const MODE: u8, A: Allocator>(
     alloc: A,
     value: &str,
 ) -> Result<String<A>, Refusal>
+    requires mode { MODE ≤ 2 }
     ensures characters { OnOk result (IsTextOf value.now (chars value.now)) }
     ensures exact { IfOk result (λ output. string_bytes output ≡ plain (mode_numbered MODE) value.now) }
     ensures headline { IfOk result (λ output. IsOnlyOutput (mode_numbered MODE)

@@ -1,18 +1,10 @@
 -- The words that name what is written and by which kernel.
 use Rattle.std.specs.Prelude.{◌≡◌, ℕ, List, Option, MatchOption, codes}
 use Rattle.std.specs.Borrow.{Bor}
-use Rattle.escape_lanes.specs.Mode.{json, html, script}
-use Rattle.escape_lanes.specs.Mode as meaning
 use Rattle.escape_simd.specs.declared.Kernel.{Kernel}
 use Rattle.escape_simd.specs.declared.Kernel.TheVariants.{V128, Sse2, Neon, Avx2, Avx512}
-use Rattle.escape_stream.specs.declared.words.Mode.{Mode}
-use Rattle.escape_stream.specs.declared.words.Mode.TheVariants.{Json, Html, Script}
-
--- what the mode writes
-abbrev pub escaping : Mode → meaning.Mode
-escaping Json = json
-escaping Html = html
-escaping Script = script
+use Rattle.escape_simd.specs.declared.Mode.{Mode}
+use Rattle.escape_simd.specs.declared.Mode.TheVariants.{Json, Html, Script}
 
 -- the word for the mode
 abbrev pub mode_word : Mode → List ℕ

@@ -1,16 +1,13 @@
 //! Writing the escaped bytes of a text, piece by piece.
 ghost use Rattle.std.specs.Prelude.{◌⊎◌, ◌≡◌, ◌≢◌, ◌+◌, ◌*◌, ◌<◌, ◌≤◌, ◌↔◌, min, length, take, IfOk, IfErr, OnOk, OnErr, IsErrOf};
 ghost use Rattle.std.specs.Io.KnownBytes.{Appends, Keeps};
+ghost use Rattle.escape_simd.specs.Modes.{escaping};
 ghost use Rattle.escape_simd.specs.Output.{plain, inner, quote_of, bound};
 ghost use Rattle.escape_stream.specs.Run.{AppendsBeginning};
-ghost use Rattle.escape_stream.specs.Words.{escaping};
 
 use crate::fault::ToolFault;
-use crate::words::Mode;
 use crate::write::{flush, write_all};
-use escape_simd::html::html_capacity;
-use escape_simd::json::json_capacity;
-use escape_simd::{Kernel, format_html_string, format_json_inner, format_script_inner};
+use escape_simd::{Kernel, Mode, format_inner};
 use std::alloc::Allocator;
 use std::io::Write;
 
@@ -45,28 +42,11 @@ pub(crate) fn write_escaped<A: Allocator, W: Write>(
         ⊎ ((fault ≡ ToolFault.OutOfMemory) ⊎ (fault ≡ ToolFault.WriteFailed))) }
 {
     // The whole has to fit a `usize`, though it is never held.
-    capacity(mode, text.len())?;
+    if mode.capacity(text.len()).is_err() {
+        return Err(ToolFault::TooLarge);
+    }
     let mut room = zeros(alloc, 6 * PIECE.min(text.len()) + 32)?;
     write_whole(mode, kernel, text, room.as_mut_slice(), output)
-}
-
-/// Returns how many bytes the output of a text of `len` bytes may take.
-fn capacity(mode: Mode, len: usize) -> Result<usize, ToolFault>
-    ensures room { IfOk result (λ room. room ≡ bound (escaping mode) len) }
-    ensures too_large { IsErrOf result ToolFault.TooLarge
-        ↔ (usize.MAX < bound (escaping mode) len) }
-    ensures fault { IfErr result (λ fault. fault ≡ ToolFault.TooLarge) }
-{
-    match mode {
-        Mode::Json | Mode::Script => match json_capacity(len) {
-            Ok(room) => Ok(room),
-            Err(_) => Err(ToolFault::TooLarge),
-        },
-        Mode::Html => match html_capacity(len) {
-            Ok(room) => Ok(room),
-            Err(_) => Err(ToolFault::TooLarge),
-        },
-    }
 }
 
 fn zeros<A: Allocator>(alloc: A, count: usize) -> Result<Vec<u8, A>, ToolFault>
@@ -108,10 +88,7 @@ fn write_quote<W: Write>(mode: Mode, output: &mut W) -> Result<(), ToolFault>
         (AppendsBeginning (W.contents output.old) (W.contents output.new) (quote_of (escaping mode))) }
     ensures fault { IfErr result (λ fault. fault ≡ ToolFault.WriteFailed) }
 {
-    match mode {
-        Mode::Json | Mode::Script => write_all(output, b"\""),
-        Mode::Html => write_all(output, b""),
-    }
+    write_all(output, mode.quote().as_bytes())
 }
 
 /// Writes what stands for the text's bytes, piece by piece.
@@ -134,24 +111,9 @@ fn write_pieces<W: Write>(
     let mut at = 0;
     'pieces: while at < text.len() {
         let next = text.floor_char_boundary(at + PIECE.min(text.len() - at));
-        let count = format_inner(mode, kernel, &text[at..next], room);
+        let count = format_inner(kernel, mode, &text[at..next], room);
         write_all(output, &room[..count])?;
         at = next;
     }
     Ok(())
-}
-
-/// Writes what stands for the text, with no quotation marks, to the front of `room`, and returns how
-/// many bytes it became.
-fn format_inner(mode: Mode, kernel: Kernel, text: &str, room: &mut [u8]) -> usize
-    requires { 6 * length text.now + 32 ≤ length room.old }
-    ensures inside { result ≤ length room.new }
-    ensures same_room { length room.new ≡ length room.old }
-    ensures exact { take result room.new ≡ inner (escaping mode) text.now }
-{
-    match mode {
-        Mode::Json => format_json_inner(kernel, text, room),
-        Mode::Html => format_html_string(kernel, text, room),
-        Mode::Script => format_script_inner(kernel, text, room),
-    }
 }

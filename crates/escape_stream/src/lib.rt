@@ -19,7 +19,8 @@ mod stream;
 mod words;
 mod write;
 
+pub use escape_simd::Mode;
 pub use escaped::PIECE;
 pub use fault::ToolFault;
 pub use stream::{run, run_in};
-pub use words::{Mode, USAGE, choose};
+pub use words::{USAGE, choose};

@@ -2,14 +2,13 @@
 ghost use Rattle.std.specs.Prelude.{◌≡◌, ◌≢◌, ◌<◌, length, IfErr, IfSome, IsErrOf, IsUtf8, OnOk};
 ghost use Rattle.std.specs.Io.KnownBytes.{Appends, Keeps};
 ghost use Rattle.escape_simd.specs.Output.{plain, bound};
-ghost use Rattle.escape_stream.specs.Words.{escaping};
+ghost use Rattle.escape_simd.specs.Modes.{escaping};
 ghost use Rattle.escape_stream.specs.Run.{AppendsEscaped, AppendsEscapedBeginning, WholeInput};
 
 use crate::escaped::write_escaped;
 use crate::fault::ToolFault;
 use crate::input::read_whole;
-use crate::words::Mode;
-use escape_simd::Kernel;
+use escape_simd::{Kernel, Mode};
 use std::alloc::{Allocator, Global};
 use std::io::{Read, Write};
 use std::str;

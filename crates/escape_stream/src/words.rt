@@ -1,22 +1,10 @@
 //! The arguments of the program: the mode, and the kernel.
 ghost use Rattle.std.specs.Prelude.{◌≡◌, ◌↔◌, Some};
 ghost use Rattle.escape_simd.specs.declared.Kernel.{Kernel};
-ghost use Rattle.escape_stream.specs.declared.words.Mode.{Mode};
+ghost use Rattle.escape_simd.specs.declared.Mode.{Mode};
 ghost use Rattle.escape_stream.specs.Words.{NamesKernel, mode_word, kernel_word};
 
-use escape_simd::Kernel;
-
-/// The kind of output.
-#[derive(Clone, Copy, Debug, PartialEq, Eq)]
-pub enum Mode {
-    /// A JSON string literal (RFC 8259, section 7), its quotation marks included.
-    Json,
-    /// HTML: each of `"`, `&`, `'`, `/`, `<` and `>` as its entity.
-    Html,
-    /// A JSON string literal that is safe inside a script element: `<`, `>`, `&`, U+2028 and U+2029
-    /// are escaped too.
-    Script,
-}
+use escape_simd::{Kernel, Mode};
 
 /// The usage message of the program, for a caller to print if [`choose`] returns `None`.
 pub const USAGE: &str = "usage: escape_tool json|html|script [v128|sse2|neon|avx2|avx512]";

@@ -1,5 +1,5 @@
 //! The output for a text to a formatter.
-ghost use Rattle.std.specs.Prelude.{IsTrue};
+ghost use Rattle.std.specs.Prelude.{◌≤◌, IsTrue};
 ghost use Rattle.std.specs.Fmt.{WritesOnOk, IsPlainFormatter, HasWritten};
 ghost use Rattle.escape_simd.specs.Modes.{mode_numbered};
 ghost use Rattle.escape_simd.specs.Output.{plain};
@@ -28,6 +28,7 @@ pub(crate) fn display<const MODE: u8, W: fmt::Write>(
     value: &str,
     f: &mut fmt::Formatter<W>,
 ) -> fmt::Result
+    requires mode { MODE ≤ 2 }
     ensures { WritesOnOk W.write_str_gives f.old result
         (plain (mode_numbered MODE) value.now) f.new }
 {

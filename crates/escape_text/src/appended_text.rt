@@ -12,6 +12,7 @@ pub(crate) fn append_text<const MODE: u8, A: Allocator>(
     value: &str,
     dst: &mut String<A>,
 ) -> Result<(), Refusal>
+    requires mode { MODE ≤ 2 }
     ensures exact { OnOk result (string_bytes dst.new
         ≡ string_bytes dst.old ++ plain (mode_numbered MODE) value.now) }
     ensures unchanged { OnErr result (string_bytes dst.new ≡ string_bytes dst.old) }
@@ -28,6 +29,7 @@ fn appended<const MODE: u8, A: Allocator>(
     dst: String<A>,
     value: &str,
 ) -> (String<A>, Result<(), Refusal>)
+    requires mode { MODE ≤ 2 }
     ensures exact { OnOk result.1 (string_bytes result.0
         ≡ string_bytes dst ++ plain (mode_numbered MODE) value.now) }
     ensures unchanged { OnErr result.1 (string_bytes result.0 ≡ string_bytes dst) }

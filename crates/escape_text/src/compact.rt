@@ -1,5 +1,5 @@
 //! The output for a text in a `String` of the output's own length.
-ghost use Rattle.std.specs.Prelude.{◌≡◌, ◌<◌, ◌↔◌, length, string_bytes, Err, IfOk};
+ghost use Rattle.std.specs.Prelude.{◌≤◌, ◌≡◌, ◌<◌, ◌↔◌, length, string_bytes, Err, IfOk};
 ghost use Rattle.escape_simd.specs.Modes.{mode_numbered};
 ghost use Rattle.escape_simd.specs.Output.{plain};
 
@@ -13,6 +13,7 @@ pub(crate) fn compact_text<const MODE: u8, A: Allocator>(
     alloc: A,
     value: &str,
 ) -> Result<String<A>, Refusal>
+    requires mode { MODE ≤ 2 }
     ensures exact { IfOk result (λ output. string_bytes output ≡ plain (mode_numbered MODE) value.now) }
     ensures too_large { (result ≡ Err Refusal.TooLarge)
         ↔ (usize.MAX < length (plain (mode_numbered MODE) value.now)) }

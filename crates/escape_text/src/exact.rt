@@ -3,8 +3,8 @@ ghost use Rattle.std.specs.Prelude.{◌≡◌, ◌+◌, ◌≤◌, ◌++◌, len
 ghost use Rattle.escape_simd.specs.Modes.{mode_numbered};
 ghost use Rattle.escape_simd.specs.Output.{plain, inner};
 
-use crate::piecewise::{escape_inner, quote, split_front};
-use escape_simd::output::write_inner;
+use crate::piecewise::{escape_inner, split_front};
+use escape_simd::output::{quote, write_inner};
 use escape_simd::simd::target::Target;
 
 /// How many bytes at the end of an output are made in an array.
@@ -22,7 +22,8 @@ const END_ROOM: usize = 6 * END + 32;
 /// write_exact::<{ JSON_MODE }>("a\n", &mut dst[..5]) // dst begins with "a\n", with its quotes
 /// ```
 pub fn write_exact<const MODE: u8>(value: &str, dst: &mut [u8])
-    requires { length dst.old ≡ length (plain (mode_numbered MODE) value.now) }
+    requires mode { MODE ≤ 2 }
+    requires room { length dst.old ≡ length (plain (mode_numbered MODE) value.now) }
     ensures { dst.new ≡ plain (mode_numbered MODE) value.now }
 {
     let quote = quote::<MODE>().as_bytes();
@@ -34,7 +35,8 @@ pub fn write_exact<const MODE: u8>(value: &str, dst: &mut [u8])
 
 /// Writes what stands for the bytes of a text to `dst`, and to all of it.
 fn write_exact_inner<const MODE: u8>(value: &str, dst: &mut [u8])
-    requires { length dst.old ≡ length (inner (mode_numbered MODE) value.now) }
+    requires mode { MODE ≤ 2 }
+    requires room { length dst.old ≡ length (inner (mode_numbered MODE) value.now) }
     ensures { dst.new ≡ inner (mode_numbered MODE) value.now }
 {
     if dst.len() == value.len() {
@@ -53,6 +55,7 @@ fn write_exact_inner<const MODE: u8>(value: &str, dst: &mut [u8])
 
 /// Writes what stands for the last bytes of a text to all that is left of `dst` from `at` on.
 fn write_end<const MODE: u8>(rest: &str, dst: &mut [u8], at: usize)
+    requires mode { MODE ≤ 2 }
     requires few { length dst.old ≤ at + END }
     requires ends { at + length (inner (mode_numbered MODE) rest.now) ≡ length dst.old }
     ensures { dst.new ≡ take at dst.old ++ inner (mode_numbered MODE) rest.now }

@@ -49,6 +49,7 @@ fn append_after<const MODE: u8, A: Allocator>(
     value: &str,
     dst: &mut Vec<u8, A>,
 ) -> Result<(), Refusal>
+    requires mode { MODE ≤ 2 }
     ensures exact { OnOk result (dst.new.items
         ≡ dst.old.items ++ (between.now ++ plain (mode_numbered MODE) value.now)) }
     ensures unchanged { OnErr result (dst.new.items ≡ dst.old.items) }
@@ -82,6 +83,7 @@ pub(crate) fn append_joined<const MODE: u8, A: Allocator>(
     between: &str,
     dst: &mut Vec<u8, A>,
 ) -> Result<(), (usize, Refusal)>
+    requires mode { MODE ≤ 2 }
     ensures exact { OnOk result (dst.new.items
         ≡ dst.old.items ++ join_by (λ v. plain (mode_numbered MODE) v.now) between.now values.now) }
     ensures fits { OnOk result
@@ -107,6 +109,7 @@ pub(crate) fn append_array<const MODE: u8, A: Allocator>(
     values: &[&str],
     dst: &mut Vec<u8, A>,
 ) -> Result<(), Refusal>
+    requires mode { MODE ≤ 2 }
     ensures exact { OnOk result (dst.new.items
         ≡ dst.old.items ++ array_of (λ v. plain (mode_numbered MODE) v.now) values.now) }
     ensures unchanged { OnErr result (dst.new.items ≡ dst.old.items) }
@@ -124,6 +127,7 @@ fn append_brackets<const MODE: u8, A: Allocator>(
     values: &[&str],
     dst: &mut Vec<u8, A>,
 ) -> Result<(), Refusal>
+    requires mode { MODE ≤ 2 }
     ensures exact { OnOk result (dst.new.items
         ≡ dst.old.items ++ array_of (λ v. plain (mode_numbered MODE) v.now) values.now) }
     ensures front { take (vec_len dst.old) dst.new.items ≡ dst.old.items }

@@ -1,11 +1,10 @@
 //! The output for a text, written to a sink: at once, or piece by piece.
 ghost use Rattle.std.specs.Prelude.{◌≡◌, ◌+◌, ◌*◌, ◌<◌, ◌≤◌, ◌++◌, length, take, IsUtf8, is_ok};
 ghost use Rattle.escape_simd.specs.Modes.{mode_numbered};
-ghost use Rattle.escape_simd.specs.Output.{plain, inner, quote_of};
+ghost use Rattle.escape_simd.specs.Output.{plain, inner};
 
 use crate::sink::Sink;
-use escape_simd::output::{stands_for_itself, write_inner};
-use escape_simd::simd::HTML_MODE;
+use escape_simd::output::{is_clean, quote, write_inner};
 
 /// How many bytes a text has at most that is escaped at once.
 const SHORT: usize = 79;
@@ -25,6 +24,7 @@ const ROOM: usize = 6 * PIECE + 32;
 /// Writes the output for the text. An array is filled with zeros before it is written: so a short text has a small
 /// one, and bytes that need no escape have none.
 pub(crate) fn send<const MODE: u8, D, S: Sink<D>>(value: &str, dst: &mut D) -> Result<(), S::Error>
+    requires mode { MODE ≤ 2 }
     ensures { S.sends dst.old (is_ok result) (plain (mode_numbered MODE) value.now) dst.new }
 {
     if value.len() <= SHORT {
@@ -38,6 +38,7 @@ pub(crate) fn send<const MODE: u8, D, S: Sink<D>>(value: &str, dst: &mut D) -> R
 
 /// Writes what stands for the bytes of a text, front by front.
 fn send_inner<const MODE: u8, D, S: Sink<D>>(value: &str, dst: &mut D) -> Result<(), S::Error>
+    requires mode { MODE ≤ 2 }
     ensures { S.sends dst.old (is_ok result) (inner (mode_numbered MODE) value.now) dst.new }
 {
     let mut rest = value;
@@ -51,9 +52,10 @@ fn send_inner<const MODE: u8, D, S: Sink<D>>(value: &str, dst: &mut D) -> Result
 
 /// Writes what stands for the bytes of a text, which is the text itself if it needs no escape.
 fn send_front<const MODE: u8, D, S: Sink<D>>(front: &str, dst: &mut D) -> Result<(), S::Error>
+    requires mode { MODE ≤ 2 }
     ensures { S.sends dst.old (is_ok result) (inner (mode_numbered MODE) front.now) dst.new }
 {
-    if stands_for_itself::<MODE>(front) {
+    if is_clean::<MODE>(front) {
         return S::put(front, dst);
     }
     send_pieces::<MODE, D, S>(front, dst)
@@ -62,6 +64,7 @@ fn send_front<const MODE: u8, D, S: Sink<D>>(front: &str, dst: &mut D) -> Result
 /// Writes what stands for the bytes of a text, escaped piece by piece.
 #[inline(never)]
 fn send_pieces<const MODE: u8, D, S: Sink<D>>(front: &str, dst: &mut D) -> Result<(), S::Error>
+    requires mode { MODE ≤ 2 }
     ensures { S.sends dst.old (is_ok result) (inner (mode_numbered MODE) front.now) dst.new }
 {
     let mut room = [0; ROOM];
@@ -85,18 +88,11 @@ pub(crate) fn split_front(text: &str, most: usize) -> (&str, &str)
     text.split_at(text.floor_char_boundary(most.min(text.len())))
 }
 
-/// Returns what stands before and after an output: a quotation mark in JSON, also in script mode, and nothing in HTML.
-#[inline(always)]
-pub(crate) fn quote<const MODE: u8>() -> &'static str
-    ensures { result.now ≡ quote_of (mode_numbered MODE) }
-{
-    if MODE == HTML_MODE { "" } else { "\"" }
-}
-
 /// Returns the output for a text, written in `room`.
 #[inline(always)]
 fn escape_short<'r, const MODE: u8>(text: &str, room: &'r mut [u8]) -> &'r str
-    requires { 6 * length text.now + 34 ≤ length room.old }
+    requires mode { MODE ≤ 2 }
+    requires room { 6 * length text.now + 34 ≤ length room.old }
     ensures { result.now ≡ plain (mode_numbered MODE) text.now }
 {
     let quote = quote::<MODE>().as_bytes();
@@ -110,7 +106,8 @@ fn escape_short<'r, const MODE: u8>(text: &str, room: &'r mut [u8]) -> &'r str
 /// Returns what stands for the bytes of a text, written in `room`.
 #[inline(always)]
 pub(crate) fn escape_inner<'r, const MODE: u8>(text: &str, room: &'r mut [u8]) -> &'r str
-    requires { 6 * length text.now + 32 ≤ length room.old }
+    requires mode { MODE ≤ 2 }
+    requires room { 6 * length text.now + 32 ≤ length room.old }
     ensures { result.now ≡ inner (mode_numbered MODE) text.now }
 {
     let end = write_inner::<MODE>(text, room, 0);

@@ -26,6 +26,7 @@ impl<W: Write> Sink<W> for ToWriter {
 
 /// Writes the output for the text, and does not flush.
 pub(crate) fn write_output<const MODE: u8, W: Write>(value: &str, writer: &mut W) -> Result<()>
+    requires mode { MODE ≤ 2 }
     ensures whole { OnOk result (Appends (W.contents writer.old) (W.contents writer.new)
         (plain (mode_numbered MODE) value.now)) }
     ensures beginning { OnErr result (AppendsBeginning (W.contents writer.old)

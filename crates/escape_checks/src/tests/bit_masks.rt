@@ -31,6 +31,7 @@ fn masks_that_are_cut(rt: HostRuntime) {
         &0x8400u16,
         &[(5, (10, 10, false)), (6, (10, 16, true))],
     );
+    has_fronts(&rt, &0x8001u16, &[(1, (0, 0, false)), (16, (0, 16, true))]);
     has_fronts(&rt, &0u32, &[(0, (32, 32, true))]);
     has_fronts(
         &rt,
@@ -54,6 +55,7 @@ fn is_cut<M: BitMask + PartialEq>(rt: &impl Abort, mask: M, n: usize, left: M) {
 fn numbers_that_are_cut(rt: HostRuntime) {
     is_cut(&rt, 0x8001u16, 1, 0x0001);
     is_cut(&rt, 0x8001u16, 16, 0);
+    is_cut(&rt, 0x8000_0001u32, 31, 1);
     is_cut(&rt, u32::MAX, 0, u32::MAX);
     is_cut(&rt, u32::MAX, 32, 0);
     is_cut(&rt, u64::MAX, 63, 1);
@@ -72,7 +74,7 @@ fn neon_bits(rt: HostRuntime) {
     has_fronts(
         &rt,
         &NeonBits::new(0xf0000),
-        &[(11, (4, 4, false)), (12, (4, 16, true))],
+        &[(4, (4, 4, false)), (11, (4, 4, false)), (12, (4, 16, true))],
     );
     has_fronts(
         &rt,

@@ -157,6 +157,26 @@ fn masks_of_lanes(rt: HostRuntime) {
     assert!(rt; avx512_masks(ROW) == in_64);
 }
 
+/// The bytes that HTML escapes, others that have their two halves from two of them, and bytes at the ends of ranges.
+const NEIGHBOURS: &[u8; 64] = b"\"&'/<>,.267?!\0\x80\xff\
+    \"&'/<>,.267?!\0\x80\xff\
+    \"&'/<>,.267?!\0\x80\xff\
+    \"&'/<>,.267?!\0\x80\xff";
+
+#[test]
+fn masks_of_neighbours(rt: HostRuntime) {
+    assert!(rt; v128_masks(NEIGHBOURS) == [0x003f, 0x2001, 0x2033]);
+    assert!(rt; sse2_masks(NEIGHBOURS) == [0x003f, 0x2001, 0x2033]);
+    assert!(rt; numbers(&neon_flags(NEIGHBOURS)) == [0x003f, 0x2001, 0x2033]);
+    assert!(rt; avx2_masks(NEIGHBOURS) == [0x003f_003f, 0x2001_2001, 0x2033_2033]);
+    let in_64 = [
+        0x003f_003f_003f_003f,
+        0x2001_2001_2001_2001,
+        0x2033_2033_2033_2033,
+    ];
+    assert!(rt; avx512_masks(NEIGHBOURS) == in_64);
+}
+
 #[test]
 fn neon_masks_of_lanes(rt: HostRuntime) {
     let [html, json, script] = neon_masks(ROW);

@@ -95,6 +95,12 @@ fn separators(rt: HostRuntime) {
     assert!(rt; &PARAGRAPH_SEPARATOR == b"\\u2029\0\0");
 }
 
+#[test]
+fn halves_of_a_byte(rt: HostRuntime) {
+    assert!(rt; HTML_LO_NIBBLE_TAB == [0, 0, 1, 0, 0, 0, 2, 4, 0, 0, 0, 0, 16, 0, 32, 8]);
+    assert!(rt; HTML_HI_NIBBLE_TAB == [0, 0, 15, 48, 0, 0, 0, 0, 0, 0, 0, 0, 0, 0, 0, 0]);
+}
+
 /// Whether both halves of the byte have a bit in common where it is flagged.
 fn is_flagged_by_halves(byte: u8) -> bool {
     let low = HTML_LO_NIBBLE_TAB[(byte & 15) as usize];

@@ -5,6 +5,7 @@ use crate::tests::whole_targets::{UNTOUCHED, is_written};
 use escape_lanes::simd::target::{Target, Ticks};
 use escape_lanes::simd::{Simd, avx2, avx512, neon, sse2, v128};
 use std::process::Abort;
+use std::simd::prelude::*;
 
 #[test]
 fn counts_take_no_bytes(rt: HostRuntime) {
@@ -24,7 +25,7 @@ fn written_to<const N: usize, S: Simd<Element = u8>>() -> [u8; 160]
     let mut target = Target::<N>::new(&mut bytes);
     target.quote(0);
     target.escape(1, b"&lt;\0\0\0\0");
-    target.put_block(9, b"a\\\"b\\\\cdefghijkl", 2);
+    target.escape_block(9, u8x16::from_array(*b"a\"b\\cdefghijklmn"), 0b1010);
     target.put_front(25, b"f");
     target.put(27, &[b'p'; N]);
     target.store(91, &S::loadu(LANES));
@@ -37,7 +38,7 @@ fn expected(lanes: usize) -> [u8; 160]
     requires { lanes ≤ 64 }
 {
     let mut bytes = [0xee; 160];
-    bytes[..26].copy_from_slice(b"\"&lt;\0\0\0\0a\\\"b\\\\cdefghijklf");
+    bytes[..26].copy_from_slice(b"\"&lt;\0\0\0\0a\\\"b\\\\cdef\\\\\\\\\\\\f");
     bytes[27..27 + lanes].copy_from_slice(&[b'p'; 64][..lanes]);
     bytes[91..91 + lanes].copy_from_slice(&LANES[..lanes]);
     bytes[159] = b'"';

@@ -62,6 +62,17 @@ fn comparisons_of_unsigned_lanes(rt: HostRuntime) {
     assert!(rt; first_lanes::<avx512::Simd512u>(&src) == [2, 2, 5, 64]);
 }
 
+/// The mask of the lanes that are at most the bound, where each lane has the same byte.
+fn at_most<S: Simd<Element = u8>>(byte: u8, bound: u8) -> <S::Mask as Mask>::BitMask {
+    S::splat(byte).le(&S::splat(bound)).bitmask()
+}
+
+#[test]
+fn lanes_that_are_all_the_same(rt: HostRuntime) {
+    assert!(rt; at_most::<v128::Simd128u>(0x20, 0x1f) == 0x0000);
+    assert!(rt; at_most::<v128::Simd128u>(0xff, 0xff) == 0xffff);
+}
+
 /// Bytes that all differ.
 fn rising<const N: usize>() -> [u8; N] {
     let mut bytes = [0x80; N];

@@ -1,6 +1,6 @@
 //! The whole targets that the three ways to a kernel leave.
 
-use crate::routes::{Way, format, lanes, room};
+use crate::routes::{Way, format, lanes};
 use crate::tests::texts::all_are;
 use escape_simd::Kernel;
 use escape_stream::Mode;
@@ -40,7 +40,7 @@ fn whole_target(
     text: &str,
     more: usize,
 ) -> (usize, Vec<u8>) {
-    let room = room(mode, text).expect(rt, "too large");
+    let room = mode.capacity(text.len()).expect(rt, "too large");
     let mut target = vec![in rt.alloc(); UNTOUCHED; room.saturating_add(more)].expect(
         rt,
         "no memory",

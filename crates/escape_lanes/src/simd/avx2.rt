@@ -17,6 +17,7 @@ use crate::simd::lanes;
 use crate::simd::last::{self, LoadLast};
 use crate::simd::target::Ticks;
 use crate::simd::traits::{BitMask, Mask, Simd};
+use crate::simd::vector::Vector;
 use crate::tables::HTML_CANDIDATE_TAB;
 pub use script::{script_flags, script_mask};
 use std::ops::{BitAnd, BitOr, BitOrAssign};
@@ -203,6 +204,37 @@ impl LoadLast for Simd256u {
         Simd256u {
             lanes: last::last_32(src, count),
         }
+    }
+}
+
+impl Vector<32> for Simd256u {
+    type Flags = Flags256;
+
+    const LOOKS_UP: bool = true;
+
+    ghost lane_count = { refl };
+
+    ghost flag_count = { refl };
+
+    ghost sixteens = { refl };
+
+    ghost several = { lit≤ tt };
+
+    ghost most = { lit≤ tt };
+
+    #[inline]
+    fn json_flags(&self, ticks: &mut Ticks) -> Flags256 {
+        escaped_flags::<false>(self, ticks)
+    }
+
+    #[inline]
+    fn html_flags(&self, ticks: &mut Ticks) -> Flags256 {
+        escaped_flags::<true>(self, ticks)
+    }
+
+    #[inline]
+    fn script_flags(&self, ticks: &mut Ticks) -> Flags256 {
+        script_flags(self, ticks)
     }
 }
 

@@ -16,6 +16,7 @@ use crate::simd::lanes;
 use crate::simd::last::{self, LoadLast};
 use crate::simd::target::Ticks;
 use crate::simd::traits::{BitMask, Mask, Simd};
+use crate::simd::vector::Vector;
 use crate::tables::HTML_CANDIDATE_TAB;
 pub use script::{script_flags, script_mask};
 use std::ops::{BitAnd, BitOr, BitOrAssign};
@@ -195,6 +196,37 @@ impl LoadLast for Simd512u {
         Simd512u {
             lanes: last::last_64(src, count),
         }
+    }
+}
+
+impl Vector<64> for Simd512u {
+    type Flags = Flags512;
+
+    const LOOKS_UP: bool = true;
+
+    ghost lane_count = { refl };
+
+    ghost flag_count = { refl };
+
+    ghost sixteens = { refl };
+
+    ghost several = { lit≤ tt };
+
+    ghost most = { lit≤ tt };
+
+    #[inline]
+    fn json_flags(&self, ticks: &mut Ticks) -> Flags512 {
+        escaped_flags::<false>(self, ticks)
+    }
+
+    #[inline]
+    fn html_flags(&self, ticks: &mut Ticks) -> Flags512 {
+        escaped_flags::<true>(self, ticks)
+    }
+
+    #[inline]
+    fn script_flags(&self, ticks: &mut Ticks) -> Flags512 {
+        script_flags(self, ticks)
     }
 }
 

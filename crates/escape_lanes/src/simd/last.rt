@@ -9,11 +9,11 @@ ghost use Rattle.escape_lanes.specs.Lanes.{AreBytes};
 use crate::simd::down::down_16;
 use crate::simd::halves::{both_4, both_8, both_16, both_32};
 use crate::simd::lanes;
-use crate::simd::traits::Simd;
+use crate::simd::traits::LoadStore;
 use std::simd::prelude::*;
 
 /// A vector that can be loaded with the last bytes of a text.
-pub trait LoadLast: Simd {
+pub trait LoadLast: LoadStore {
     /// Returns the last `count` bytes of `src` in the first lanes, and zeros in the others.
     ///
     /// `src` has `count` bytes or more, and a vector more than `count` lanes. Of `abcd` and 2 it

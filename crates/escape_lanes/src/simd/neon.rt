@@ -18,6 +18,7 @@ use crate::simd::lanes;
 use crate::simd::last::{self, LoadLast};
 use crate::simd::target::Ticks;
 use crate::simd::traits::{BitMask, Mask, Simd};
+use crate::simd::vector::Vector;
 use crate::tables::{HTML_HI_NIBBLE_TAB, HTML_LO_NIBBLE_TAB};
 pub(crate) use script::script_needs;
 pub use script::{script_flags, script_mask};
@@ -197,6 +198,37 @@ impl LoadLast for Simd128u {
         Simd128u {
             lanes: last::last_16(src, count),
         }
+    }
+}
+
+impl Vector<16> for Simd128u {
+    type Flags = Flags128;
+
+    const LOOKS_UP: bool = true;
+
+    ghost lane_count = { refl };
+
+    ghost flag_count = { refl };
+
+    ghost sixteens = { refl };
+
+    ghost several = { lit≤ tt };
+
+    ghost most = { lit≤ tt };
+
+    #[inline]
+    fn json_flags(&self, ticks: &mut Ticks) -> Flags128 {
+        escaped_flags::<false>(self, ticks)
+    }
+
+    #[inline]
+    fn html_flags(&self, ticks: &mut Ticks) -> Flags128 {
+        escaped_flags::<true>(self, ticks)
+    }
+
+    #[inline]
+    fn script_flags(&self, ticks: &mut Ticks) -> Flags128 {
+        script_flags(self, ticks)
     }
 }
 

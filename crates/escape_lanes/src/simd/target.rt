@@ -1,12 +1,19 @@
 //! The bytes that a kernel writes to, and how often it did.
-ghost use Rattle.std.specs.Prelude.{◌≡◌, ℕ, ◌+◌, ◌<◌, ◌≤◌, length, max, nat_eq, slice_set, if◌then◌else◌};
+ghost use Rattle.std.specs.Prelude.{◌≡◌, ℕ, ◌+◌, ◌<◌, ◌≤◌, length, take, max, slice_set};
 ghost use Rattle.std.proofs.Math.Seq.{paste};
+ghost use Rattle.escape_lanes.specs.Bits.{bits_of};
+ghost use Rattle.escape_lanes.specs.Spread.{IsBlock};
 ghost use Rattle.escape_lanes.specs.Written.{bytes_of, stored_of, escaped_of, quotes_of, writes_of, IsOver, IsSameSlice, Writes};
 
 use crate::simd::front::copy_front;
 use crate::simd::ticks::Tally;
 pub use crate::simd::ticks::Ticks;
-use crate::simd::traits::Simd;
+use crate::simd::traits::LoadStore;
+use crate::tables::spread_row;
+use std::simd::prelude::*;
+
+/// The first eight lanes of a vector, and the first eight of another.
+const FIRST_HALVES: [usize; 16] = [0, 1, 2, 3, 4, 5, 6, 7, 16, 17, 18, 19, 20, 21, 22, 23];
 
 /// A slice that a kernel with vectors of `N` bytes writes to, and nowhere else.
 ///
@@ -77,7 +84,7 @@ impl<'a, const N: usize> Target<'a, N> {
     ///
     /// The vector has `N` lanes, and the target `N` bytes from `at` on.
     #[inline(always)]
-    pub fn store<S: Simd>(&mut self, at: usize, v: &S)
+    pub fn store<S: LoadStore>(&mut self, at: usize, v: &S)
         requires lanes { S.LANES ≡ N }
         requires room { at + N ≤ length (bytes_of self.old) }
         ensures same_slice { IsSameSlice self.old self.new }
@@ -88,7 +95,7 @@ impl<'a, const N: usize> Target<'a, N> {
         ensures writes { writes_of self.new ≡ writes_of self.old + 1 }
     {
         let mut lanes = [0u8; N];
-        v.storeu(&mut lanes);
+        v.put(&mut lanes);
         self.put(at, &lanes);
     }
 
@@ -96,7 +103,7 @@ impl<'a, const N: usize> Target<'a, N> {
     ///
     /// The vector has `N` lanes, `k` of which are written, and the target `k` bytes from `at` on.
     #[inline(always)]
-    pub fn store_front<S: Simd>(&mut self, at: usize, v: &S, k: usize)
+    pub fn store_front<S: LoadStore>(&mut self, at: usize, v: &S, k: usize)
         requires lanes { S.LANES ≡ N }
         requires count { k ≤ N }
         requires room { at + k ≤ length (bytes_of self.old) }
@@ -108,7 +115,7 @@ impl<'a, const N: usize> Target<'a, N> {
         ensures writes { writes_of self.new ≡ writes_of self.old + 1 }
     {
         let mut lanes = [0u8; N];
-        v.storeu(&mut lanes);
+        v.put(&mut lanes);
         self.put_front(at, &lanes[..k]);
     }
 
@@ -153,18 +160,23 @@ impl<'a, const N: usize> Target<'a, N> {
         self.escaped.raise();
     }
 
-    /// Writes a block of 16 bytes at `at`, in which so many escapes stand. A block with none counts
-    /// as a vector stored.
+    /// Writes the first eight bytes of `block` at `at`, a reverse solidus before each that is flagged, and after them
+    /// reverse solidi up to 16 bytes. The flag of the first byte is the lowest. Returns the place after the eight bytes.
     ///
-    /// The target has 16 bytes from `at` on.
+    /// Each flag is an escape. A block with none counts as a vector stored. The target has 16 bytes from `at` on.
     #[inline(always)]
-    pub fn put_block(&mut self, at: usize, block: &[u8; 16], escapes: usize)
-        requires { at + 16 ≤ length (bytes_of self.old) }
-        ensures { Writes (if nat_eq escapes 0 then 1 else 0) escapes 0 self.old self.new at block.now }
+    pub fn escape_block(&mut self, at: usize, block: u8x16, flags: u8) -> usize
+        requires whole { length block ≡ 16 }
+        requires room { at + 16 ≤ length (bytes_of self.old) }
+        ensures { IsBlock (bits_of 8 flags) (take 8 block) self.old self.new at result }
     {
-        self.write(at, block);
+        let solidi = block.shuffle(u8x16::splat(b'\\'), FIRST_HALVES);
+        let places = u8x16::from_array(*spread_row(flags));
+        let escapes = flags.count_ones() as usize;
+        self.write(at, &solidi.swizzle_dyn(places).to_array());
         self.stored.raise_by((escapes == 0) as usize);
         self.escaped.raise_by(escapes);
+        at + 8 + escapes
     }
 
     /// Writes a quotation mark, 0x22, at `at`.

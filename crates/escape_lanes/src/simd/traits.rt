@@ -136,3 +136,48 @@ pub trait Simd: Sized + Drop {
     // So few that an array of them fits in memory, and that two pieces of 32 copy any front.
     ghost few: { LANES ≤ 64 };
 }
+
+/// A [`Simd`] as it is loaded and stored. Each of them is one, and nothing else.
+///
+/// What needs no comparison asks for this: then its proof has no masks in it.
+pub trait LoadStore: Sized + Drop {
+    ghost LANES: { ℕ };
+
+    // The numbers, lane by lane.
+    ghost lanes: { Self → List ℕ };
+
+    /// As [`Simd::loadu`].
+    fn load(src: &[u8]) -> Self
+        requires { LANES ≤ length src.now }
+        ensures { lanes result ≡ take LANES src.now };
+
+    /// As [`Simd::storeu`].
+    fn put(&self, dst: &mut [u8])
+        requires { LANES ≤ length dst.old }
+        ensures { dst.new ≡ lanes self.now ++ drop LANES dst.old };
+
+    // There are `LANES` of them.
+    ghost width: { (v : Self) → length (lanes v) ≡ LANES };
+
+    ghost few: { LANES ≤ 64 };
+}
+
+impl<T: Simd> LoadStore for T {
+    ghost LANES = { T.LANES };
+
+    ghost lanes = { T.lanes };
+
+    ghost width = { T.width };
+
+    ghost few = { T.few };
+
+    #[inline(always)]
+    fn load(src: &[u8]) -> T {
+        T::loadu(src)
+    }
+
+    #[inline(always)]
+    fn put(&self, dst: &mut [u8]) {
+        self.storeu(dst);
+    }
+}

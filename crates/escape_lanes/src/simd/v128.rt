@@ -19,6 +19,7 @@ use crate::simd::flags::Flags;
 use crate::simd::last::{self, LoadLast};
 use crate::simd::target::Ticks;
 use crate::simd::traits::{BitMask, Mask, Simd};
+use crate::simd::vector::Vector;
 pub use script::{script_flags, script_mask};
 use std::ops::{BitAnd, BitOr, BitOrAssign};
 
@@ -330,6 +331,37 @@ impl LoadLast for Simd128u {
     fn load_last(src: &[u8], count: usize) -> Self {
         let [low, high] = last::words(src, count);
         Simd128u { low, high }
+    }
+}
+
+impl Vector<16> for Simd128u {
+    type Flags = Flags128;
+
+    const LOOKS_UP: bool = false;
+
+    ghost lane_count = { refl };
+
+    ghost flag_count = { refl };
+
+    ghost sixteens = { refl };
+
+    ghost several = { lit≤ tt };
+
+    ghost most = { lit≤ tt };
+
+    #[inline]
+    fn json_flags(&self, ticks: &mut Ticks) -> Flags128 {
+        escaped_flags::<false>(self, ticks)
+    }
+
+    #[inline]
+    fn html_flags(&self, ticks: &mut Ticks) -> Flags128 {
+        escaped_flags::<true>(self, ticks)
+    }
+
+    #[inline]
+    fn script_flags(&self, ticks: &mut Ticks) -> Flags128 {
+        script_flags(self, ticks)
     }
 }
 

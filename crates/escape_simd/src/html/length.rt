@@ -35,5 +35,5 @@ pub fn escaped_len(value: &str) -> Option<usize>
 pub fn is_clean(value: &str) -> bool
     ensures { (result ≡ true) ↔ (plain html value.now ≡ value.now) }
 {
-    output::stands_for_itself::<{ HTML_MODE }>(value)
+    output::is_clean::<{ HTML_MODE }>(value)
 }

@@ -52,7 +52,7 @@ pub fn script_len(value: &str) -> Option<usize>
 pub fn is_clean(value: &str) -> bool
     ensures { (result ≡ true) ↔ (inner json value.now ≡ value.now) }
 {
-    output::stands_for_itself::<{ JSON_MODE }>(value)
+    output::is_clean::<{ JSON_MODE }>(value)
 }
 
 /// Returns whether no character of the text needs an escape in a literal for a script element. If so, the literal
@@ -68,5 +68,5 @@ pub fn is_clean(value: &str) -> bool
 pub fn is_script_clean(value: &str) -> bool
     ensures { (result ≡ true) ↔ (inner script value.now ≡ value.now) }
 {
-    output::stands_for_itself::<{ SCRIPT_MODE }>(value)
+    output::is_clean::<{ SCRIPT_MODE }>(value)
 }

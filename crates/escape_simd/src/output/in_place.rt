@@ -1,43 +1,21 @@
 //! Escaping in place: the vector is filled with zeros ahead of what is written.
 ghost use Rattle.std.specs.Prelude.{◌≡◌, ◌+◌, ◌*◌, ◌<◌, ◌≤◌, ◌++◌, length, take, drop, vec_len, vec_capacity};
-ghost use Rattle.escape_lanes.specs.Bits.{bits_of};
 ghost use Rattle.escape_simd.specs.Modes.{mode_numbered};
 ghost use Rattle.escape_simd.specs.Output.{inner, quote_of};
-ghost use Rattle.escape_simd.specs.Stretch.{AreLast};
 
-use crate::output::push::{fill, push_quote};
-use crate::output::{N, V};
-use crate::simd::{escape_at, escape_chunks, escape_flagged};
+use crate::output::push::{fill, push_all};
+use crate::output::{N, V, quote};
+use crate::simd::{escape_at, escape_chunks};
 use std::alloc::Allocator;
 
 /// How many bytes the output for a chunk of four vectors may have, and a vector more.
 const CHUNK_ROOM: usize = 25 * N;
 
-/// Appends what stands for a text of fewer bytes than two vectors have, and the last quotation mark. Its flags are
-/// known: `last` has those of its last vector, and `first` those of its first one, where it has as many bytes as one.
-#[inline(never)]
-pub(super) fn append_flagged<const MODE: u8, A: Allocator>(
-    text: &[u8],
-    first: u64,
-    last: u64,
-    dst: &mut Vec<u8, A>,
-)
-    requires flagged { AreLast (mode_numbered MODE) N text.now (bits_of 64 first) (bits_of 64 last) }
-    requires room { vec_len dst.old + 6 * length text.now + N ≤ vec_capacity dst.old }
-    ensures { dst.new.items ≡ dst.old.items
-        ++ (inner (mode_numbered MODE) text.now ++ quote_of (mode_numbered MODE)) }
-{
-    let old = dst.len();
-    fill(dst, old + 6 * text.len() + N);
-    let end = escape_flagged::<V, MODE, N>(text, first, last, dst, old);
-    dst.truncate(end);
-    push_quote::<MODE, A>(dst);
-}
-
 /// Appends what stands for the text's bytes, and the last quotation mark.
 #[inline(never)]
 pub(super) fn append_in_place<const MODE: u8, A: Allocator>(src: &[u8], dst: &mut Vec<u8, A>)
-    requires { vec_len dst.old + 6 * length src.now + N ≤ vec_capacity dst.old }
+    requires mode { MODE ≤ 2 }
+    requires room { vec_len dst.old + 6 * length src.now + N ≤ vec_capacity dst.old }
     ensures { dst.new.items ≡ dst.old.items
         ++ (inner (mode_numbered MODE) src.now ++ quote_of (mode_numbered MODE)) }
 {
@@ -52,5 +30,5 @@ pub(super) fn append_in_place<const MODE: u8, A: Allocator>(src: &[u8], dst: &mu
     fill(dst, end + 6 * left.len() + N);
     end = escape_at::<V, MODE, N>(left, dst, end);
     dst.truncate(end);
-    push_quote::<MODE, A>(dst);
+    push_all(dst, quote::<MODE>().as_bytes());
 }

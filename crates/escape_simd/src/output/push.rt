@@ -1,10 +1,8 @@
 //! Bytes at the end of a vector that has room for them.
-ghost use Rattle.std.specs.Prelude.{◌≡◌, ◌+◌, ◌*◌, ◌<◌, ◌≤◌, ◌++◌, length, take, drop, vec_len, vec_capacity};
-ghost use Rattle.escape_simd.specs.Modes.{mode_numbered};
-ghost use Rattle.escape_simd.specs.Output.{quote_of};
+ghost use Rattle.std.specs.Prelude.{◌≡◌, ◌+◌, ◌≤◌, ◌++◌, length, take, drop, vec_len, vec_capacity};
 
 use crate::output::{N, V};
-use crate::simd::{HTML_MODE, Vector};
+use crate::simd::Simd;
 use std::alloc::Allocator;
 
 /// How many bytes of a vector are filled with zeros at a time, if it has room for them.
@@ -31,18 +29,6 @@ pub(super) fn push_all<A: Allocator>(dst: &mut Vec<u8, A>, bytes: &[u8])
     };
 }
 
-/// Appends a quotation mark in JSON, also in script mode, and nothing in HTML.
-#[inline(always)]
-pub(super) fn push_quote<const MODE: u8, A: Allocator>(dst: &mut Vec<u8, A>)
-    requires { vec_len dst.old < vec_capacity dst.old }
-    ensures items { dst.new.items ≡ dst.old.items ++ quote_of (mode_numbered MODE) }
-    ensures capacity { vec_capacity dst.old ≤ vec_capacity dst.new }
-{
-    if MODE != HTML_MODE {
-        dst.push_reserved(b'"');
-    }
-}
-
 /// Makes the vector `len` bytes long or longer by zeros, where it is shorter. It has room for `len`.
 #[inline(always)]
 pub(super) fn fill<A: Allocator>(dst: &mut Vec<u8, A>, len: usize)
@@ -61,46 +47,12 @@ pub(super) fn fill<A: Allocator>(dst: &mut Vec<u8, A>, len: usize)
     }
 }
 
-/// Cuts `dst` to `len` bytes, and appends the vector's lanes.
+/// Returns the vector's lanes.
 #[inline(always)]
-pub(super) fn push_vector<A: Allocator>(dst: &mut Vec<u8, A>, len: usize, v: &V)
-    requires { (len ≤ vec_len dst.old) × (len + N ≤ vec_capacity dst.old) }
-    ensures items { dst.new.items ≡ take len dst.old.items ++ ⟦<V as Vector<32>>⟧.lanes v.now }
-    ensures capacity { vec_capacity dst.old ≤ vec_capacity dst.new }
+pub(super) fn lanes(v: &V) -> [u8; N]
+    ensures { result ≡ ⟦<V as Simd>⟧.lanes v.now }
 {
     let mut lanes = [0u8; N];
-    v.put(&mut lanes);
-    dst.truncate(len);
-    push_all(dst, &lanes);
-}
-
-/// Returns the text's vector at `from`.
-///
-/// It goes through an array and not as a slice of the text: so it is stored from the register in which it was
-/// asked.
-#[inline(always)]
-pub(super) fn lanes_at(src: &[u8], from: usize) -> [u8; N]
-    requires { from + N ≤ length src.now }
-    ensures { result ≡ take N (drop from src.now) }
-{
-    let mut lanes = [0u8; N];
-    V::load(src, from).put(&mut lanes);
+    v.storeu(&mut lanes);
     lanes
-}
-
-/// Appends four vectors of the text from `from` on.
-#[inline(always)]
-pub(super) fn push_chunk<A: Allocator>(dst: &mut Vec<u8, A>, src: &[u8], from: usize)
-    requires inside { from + 4 * N ≤ length src.now }
-    requires room { vec_len dst.old + 4 * N ≤ vec_capacity dst.old }
-    ensures items { dst.new.items ≡ dst.old.items ++ take (4 * N) (drop from src.now) }
-    ensures capacity { vec_capacity dst.old ≤ vec_capacity dst.new }
-{
-    let rows = [
-        lanes_at(src, from),
-        lanes_at(src, from + N),
-        lanes_at(src, from + 2 * N),
-        lanes_at(src, from + 3 * N),
-    ];
-    push_all(dst, rows.as_flattened());
 }

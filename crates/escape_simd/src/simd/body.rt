@@ -6,9 +6,9 @@ ghost use Rattle.escape_simd.specs.Formatted.{IsInnerAt};
 ghost use Rattle.escape_simd.specs.Parts.{IsPartAt};
 ghost use Rattle.escape_simd.specs.Stretch.{Escapes, HasVectors, reach};
 
+use crate::simd::Vector;
 use crate::simd::chunk::{chunk, whole_vector};
-use crate::simd::rest::rest;
-use crate::simd::vector::Vector;
+use crate::simd::tail::escape_tail;
 use escape_lanes::simd::target::{Target, Ticks};
 
 /// Escapes the bytes to the target from `to` on, with no quotation marks. Returns the place after them.
@@ -30,7 +30,7 @@ pub(crate) fn escape_bytes<V: Vector<N>, const MODE: u8, const N: usize>(
     'vectors: while 2 * N <= src.len() - at {
         (at, end) = whole_vector::<V, MODE, N>(src, at, target, end, ticks);
     }
-    rest::<V, MODE, N>(src, at, target, end, ticks)
+    escape_tail::<V, MODE, N>(src, at, target, end, ticks)
 }
 
 /// Escapes chunks of the text to `dst` from `to` on, as long as one more has room. Returns the places after them.

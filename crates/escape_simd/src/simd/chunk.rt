@@ -6,10 +6,11 @@ ghost use Rattle.escape_lanes.specs.Written.{bytes_of};
 ghost use Rattle.escape_simd.specs.Modes.{mode_numbered};
 ghost use Rattle.escape_simd.specs.Stretch.{Escapes, HasVectors, HoldsFlags, Passed};
 
+use crate::simd::Vector;
 use crate::simd::by_mask::escape_by_mask;
-use crate::simd::store::store_loaded;
-use crate::simd::vector::Vector;
+use crate::simd::store::{load, store_loaded};
 use escape_lanes::simd::Flags;
+use escape_lanes::simd::classify::classify;
 use escape_lanes::simd::lane_bits::shift_lanes;
 use escape_lanes::simd::target::{Target, Ticks};
 
@@ -24,7 +25,7 @@ pub(crate) fn flags_at<V: Vector<N>, const MODE: u8, const N: usize>(
     ensures flagged { V.Flags.truths result ≡ map (needs_escape (mode_numbered MODE)) (take N (drop at src.now)) }
     ensures tick { ticks.new ≡ ticks.old + 1 }
 {
-    V::load(src, at).flags(MODE, ticks)
+    classify::<V, MODE, N>(src, at, ticks).0
 }
 
 /// Escapes one vector of the text. Returns the places after it.
@@ -79,8 +80,8 @@ pub(crate) fn chunk<V: Vector<N>, const MODE: u8, const N: usize>(
     ensures { Escapes (mode_numbered MODE) N (at + 4 * N) 4 0 src.now target.old target.new at result.0 to result.1 ticks.old ticks.new }
 {
     let (second, third, fourth) = (at + N, at + 2 * N, at + 3 * N);
-    let (v1, v2) = (V::load(src, at), V::load(src, second));
-    let (v3, v4) = (V::load(src, third), V::load(src, fourth));
+    let (v1, v2) = (load::<V, N>(src, at), load::<V, N>(src, second));
+    let (v3, v4) = (load::<V, N>(src, third), load::<V, N>(src, fourth));
     let flags1 = flags_at::<V, MODE, N>(src, at, ticks);
     let flags2 = flags_at::<V, MODE, N>(src, second, ticks);
     let flags3 = flags_at::<V, MODE, N>(src, third, ticks);

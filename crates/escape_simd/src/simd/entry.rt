@@ -4,7 +4,7 @@ ghost use Rattle.escape_lanes.specs.Entry.{entry_count, entry_bytes, padded};
 ghost use Rattle.escape_simd.specs.Modes.{mode_numbered};
 ghost use Rattle.escape_simd.specs.Output.{begins_separator};
 
-use crate::simd::vector::{HTML_MODE, JSON_MODE};
+use crate::simd::{HTML_MODE, JSON_MODE};
 use escape_lanes::tables::{
     LINE_SEPARATOR, PARAGRAPH_SEPARATOR, html_entry, json_entry, script_entry,
 };

@@ -1,13 +1,33 @@
 //! Vectors of a text, stored as they are.
-ghost use Rattle.std.specs.Prelude.{◌≡◌, ◌+◌, ◌≤◌, length, take, drop};
+ghost use Rattle.std.specs.Prelude.{◌≡◌, ◌+◌, ◌-◌, ◌<◌, ◌≤◌, ◌++◌, length, take, drop, replicate};
 ghost use Rattle.escape_lanes.specs.Written.{bytes_of};
 ghost use Rattle.escape_simd.specs.Stretch.{CanStore, IsStored, reach};
 
-use crate::simd::vector::Vector;
+use crate::simd::Vector;
+use escape_lanes::simd::classify::flags;
 use escape_lanes::simd::target::{Target, Ticks};
 
 /// How far a vector's store may reach past a text: kernels of more lanes store a text's last bytes exactly.
 const WIDEST_REACH: usize = 32;
+
+/// Returns the text's vector at `at`.
+#[inline(always)]
+pub(crate) fn load<V: Vector<N>, const N: usize>(src: &[u8], at: usize) -> V
+    requires { at + N ≤ length src.now }
+    ensures { V.lanes result ≡ take N (drop at src.now) }
+{
+    V::load(&src[at..])
+}
+
+/// Returns the text's last `count` bytes, with zeros after them.
+#[inline(always)]
+pub(crate) fn load_last<V: Vector<N>, const N: usize>(src: &[u8], count: usize) -> V
+    requires few { count < N }
+    requires inside { count ≤ length src.now }
+    ensures { V.lanes result ≡ drop (length src.now - count) src.now ++ replicate (N - count) 0 }
+{
+    V::load_last(src, count)
+}
 
 /// Stores a vector at `to`, whose first lanes are the bytes of `text`.
 ///
@@ -25,11 +45,9 @@ pub(crate) fn store_lanes<V: Vector<N>, const N: usize, const LAST: bool>(
     ensures { IsStored (reach LAST N) text.now target.old target.new 0 (length text.now) to }
 {
     if LAST && WIDEST_REACH < N {
-        return target.put_front(to, text);
+        return target.store_front(to, v, text.len());
     }
-    let mut lanes = [0u8; N];
-    v.put(&mut lanes);
-    target.put(to, &lanes);
+    target.store(to, v);
 }
 
 /// Stores a vector that was loaded from the text's bytes at `from`, the first `left` of which are to be written at
@@ -64,7 +82,7 @@ pub(crate) fn store<V: Vector<N>, const N: usize, const LAST: bool>(
     requires { CanStore N (reach LAST N) src.now from left to (length (bytes_of target.old)) }
     ensures { IsStored (reach LAST N) src.now target.old target.new from left to }
 {
-    let v = V::load(src, from);
+    let v = load::<V, N>(src, from);
     store_loaded::<V, N, LAST>(&v, src, from, left, target, to);
 }
 
@@ -80,5 +98,5 @@ pub(crate) fn tick<V: Vector<N>, const MODE: u8, const N: usize>(
     requires { from + N ≤ length src.now }
     ensures { ticks.new ≡ ticks.old + 1 }
 {
-    let _ = V::load(src, from).flags(MODE, ticks);
+    let _ = flags::<V, MODE, N>(&load::<V, N>(src, from), ticks);
 }

@@ -1,65 +1,17 @@
 //! The kernel of 16 lanes in two words of 64 bits, by plain arithmetic.
-ghost use Rattle.std.specs.Prelude.{◌≡◌, ◌+◌, ◌*◌, ◌≤◌, length, take, chars, refl};
-ghost use Rattle.std.proofs.Common.{lit≤};
+ghost use Rattle.std.specs.Prelude.{◌≡◌, ◌+◌, ◌*◌, ◌≤◌, length, take, chars};
 ghost use Rattle.escape_lanes.specs.Mode.{mode_of, script};
-ghost use Rattle.escape_lanes.specs.Words.{words-bytes};
 ghost use Rattle.escape_lanes.specs.Written.{bytes_of};
 ghost use Rattle.escape_simd.specs.Output.{bound};
 ghost use Rattle.escape_simd.specs.Formatted.{IsFormatted, IsWritten};
 ghost use Rattle.escape_simd.specs.Headline.{IsOnlyOutput};
 ghost use Rattle.escape_simd.specs.Laws.{IsOfOneText};
 
-use crate::simd::vector::{HTML_MODE, JSON_MODE, SCRIPT_MODE, Vector};
-use crate::simd::whole;
+use crate::simd::{HTML_MODE, JSON_MODE, SCRIPT_MODE, whole};
 use escape_lanes::simd::target::{Target, Ticks};
 pub use escape_lanes::simd::v128::{
     Flags128, Mask128, Simd128u, escaped_flags, escaped_mask, script_flags, script_mask,
 };
-use escape_lanes::simd::{LoadLast, Simd};
-
-impl Vector<16> for Simd128u {
-    type Flags = Flags128;
-
-    const LOOKS_UP: bool = false;
-
-    ghost lanes = { λ v. ⟦<Simd128u as Simd>⟧.lanes v };
-
-    ghost width = { λ v. (words-bytes v.low v.high).full };
-
-    ghost flag_width = { refl };
-
-    ghost sixteens = { refl };
-
-    ghost several = { lit≤ tt };
-
-    ghost few = { lit≤ tt };
-
-    #[inline(always)]
-    fn load(text: &[u8], at: usize) -> Self {
-        Self::loadu(&text[at..])
-    }
-
-    #[inline]
-    fn load_last(text: &[u8], count: usize) -> Self {
-        <Self as LoadLast>::load_last(text, count)
-    }
-
-    #[inline]
-    fn flags(&self, mode: u8, ticks: &mut Ticks) -> Flags128 {
-        if mode == JSON_MODE {
-            escaped_flags::<false>(self, ticks)
-        } else if mode == HTML_MODE {
-            escaped_flags::<true>(self, ticks)
-        } else {
-            script_flags(self, ticks)
-        }
-    }
-
-    #[inline(always)]
-    fn put(&self, bytes: &mut [u8]) {
-        self.storeu(bytes);
-    }
-}
 
 /// Escapes the text to the front of the target, as HTML if `HTML`, else as a JSON string literal,
 /// and returns how many bytes it became.

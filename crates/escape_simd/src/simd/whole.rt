@@ -1,18 +1,16 @@
 //! A whole text: its bytes between quotation marks.
-ghost use Rattle.std.specs.Prelude.{◌≡◌, ◌+◌, ◌*◌, ◌<◌, ◌≤◌, length, take, chars};
-ghost use Rattle.escape_lanes.specs.Bits.{bits_of};
+ghost use Rattle.std.specs.Prelude.{◌≡◌, ◌+◌, ◌*◌, ◌<◌, ◌≤◌, length, take, drop, chars, IfSome, IfNone};
 ghost use Rattle.escape_lanes.specs.Mode.{mode_of};
 ghost use Rattle.escape_lanes.specs.Written.{bytes_of};
-ghost use Rattle.escape_simd.specs.Formatted.{IsFormatted, IsInnerWritten, IsQuoted, IsQuotedAt, IsWritten};
+ghost use Rattle.escape_simd.specs.Formatted.{IsFormatted, IsInnerWritten, IsQuoted, IsWritten};
 ghost use Rattle.escape_simd.specs.Headline.{IsOnlyOutput};
 ghost use Rattle.escape_simd.specs.Laws.{IsOfOneText};
 ghost use Rattle.escape_simd.specs.Modes.{mode_numbered};
 ghost use Rattle.escape_simd.specs.Output.{bound, quote_of};
-ghost use Rattle.escape_simd.specs.Stretch.{AreLast};
 
 use crate::simd::body::{escape_at, escape_bytes};
-use crate::simd::rest::{escape_flagged, store_last};
-use crate::simd::vector::{HTML_MODE, JSON_MODE, Vector};
+use crate::simd::tail::store_clean_tail;
+use crate::simd::{HTML_MODE, JSON_MODE, Vector};
 use escape_lanes::simd::target::{Target, Ticks};
 
 /// Writes a quotation mark in JSON, also in script mode, and nothing in HTML. Returns the place after it.
@@ -61,75 +59,40 @@ pub(crate) fn format_target<V: Vector<N>, const HTML: bool, const N: usize>(
     format::<V, { JSON_MODE }, N>(value, target, ticks)
 }
 
-/// As [`quote`], to `dst`.
-#[inline(always)]
-fn quote_at<const MODE: u8, const N: usize>(dst: &mut [u8], to: usize) -> usize
-    requires { to < length dst.old }
-    ensures { IsQuotedAt (mode_numbered MODE) dst.old dst.new to result }
-{
-    let mut target = Target::<N>::new(dst);
-    quote::<MODE, N>(&mut target, to)
-}
-
 /// As [`format`], to `dst`, and with no count.
+///
+/// The target is made here: so the compiler keeps it in registers.
 #[inline(never)]
-fn format_long<V: Vector<N>, const MODE: u8, const N: usize>(value: &str, dst: &mut [u8]) -> usize
+fn format_slice<V: Vector<N>, const MODE: u8, const N: usize>(value: &str, dst: &mut [u8]) -> usize
     requires { bound (mode_numbered MODE) (length value.now) ≤ length dst.old }
     ensures { IsWritten N (mode_numbered MODE) value.now dst.old dst.new result }
 {
-    let open = quote_at::<MODE, N>(dst, 0);
-    let close = escape_at::<V, MODE, N>(value.as_bytes(), dst, open);
-    quote_at::<MODE, N>(dst, close)
+    let mut target = Target::<N>::new(dst);
+    let mut ticks = Ticks::new();
+    format::<V, MODE, N>(value, &mut target, &mut ticks)
 }
 
-/// Returns how many bytes a quotation mark takes: one in JSON, also in script mode, and none in HTML.
+/// As [`format_slice`], of a short text, if none of its bytes needs an escape. Else it writes at most the first
+/// quotation mark, and returns `None`.
 #[inline(always)]
-const fn quote_length<const MODE: u8>() -> usize
-    ensures { result ≡ length (quote_of (mode_numbered MODE)) }
-{
-    if MODE == HTML_MODE {
-        return 0;
-    }
-    1
-}
-
-/// As [`format_long`], of a short text whose flags are known, and whose first quotation mark is written.
-#[inline(never)]
-fn format_flagged<V: Vector<N>, const MODE: u8, const N: usize>(
+fn format_clean<V: Vector<N>, const MODE: u8, const N: usize>(
     text: &[u8],
-    first: u64,
-    last: u64,
     dst: &mut [u8],
-) -> usize
-    requires flagged { AreLast (mode_numbered MODE) N text.now (bits_of 64 first) (bits_of 64 last) }
-    requires room { bound (mode_numbered MODE) (length text.now) ≤ length dst.old }
-    requires quoted { take (length (quote_of (mode_numbered MODE))) dst.old ≡ quote_of (mode_numbered MODE) }
-    ensures { IsWritten N (mode_numbered MODE) text.now dst.old dst.new result }
-{
-    let open = quote_length::<MODE>();
-    let close = escape_flagged::<V, MODE, N>(text, first, last, dst, open);
-    quote_at::<MODE, N>(dst, close)
-}
-
-/// As [`format_long`], of a short text: a clean one needs no frame.
-#[inline(always)]
-fn format_short<V: Vector<N>, const MODE: u8, const N: usize>(text: &[u8], dst: &mut [u8]) -> usize
+) -> Option<usize>
     requires few { length text.now < 2 * N }
     requires room { bound (mode_numbered MODE) (length text.now) ≤ length dst.old }
-    ensures { IsWritten N (mode_numbered MODE) text.now dst.old dst.new result }
+    ensures clean { IfSome result (λ count. IsWritten N (mode_numbered MODE) text.now dst.old dst.new count) }
+    ensures flagged { IfNone result (drop 1 dst.new ≡ drop 1 dst.old) }
 {
-    let open = quote_at::<MODE, N>(dst, 0);
-    let asked = {
-        let mut target = Target::<N>::new(dst);
-        match store_last::<V, MODE, N>(text, 0, &mut target, open, &mut Ticks::new()) {
-            Ok(close) => return quote::<MODE, N>(&mut target, close),
-            Err(flags) => flags,
-        }
-    };
-    format_flagged::<V, MODE, N>(text, asked.first, asked.last, dst)
+    let mut target = Target::<N>::new(dst);
+    let open = quote::<MODE, N>(&mut target, 0);
+    match store_clean_tail::<V, MODE, N>(text, 0, &mut target, open, &mut Ticks::new()) {
+        Ok(close) => Some(quote::<MODE, N>(&mut target, close)),
+        Err(_) => None,
+    }
 }
 
-/// As [`format`], with the target made over `dst`.
+/// As [`format`], with the target made over `dst`. A clean short text needs no frame.
 #[inline(never)]
 pub(crate) fn format_in_mode<V: Vector<N>, const MODE: u8, const N: usize>(
     value: &str,
@@ -141,9 +104,11 @@ pub(crate) fn format_in_mode<V: Vector<N>, const MODE: u8, const N: usize>(
     ensures equal_texts { IsOfOneText (mode_numbered MODE) value.now (take result dst.new) }
 {
     if value.len() < 2 * N {
-        return format_short::<V, MODE, N>(value.as_bytes(), dst);
+        if let Some(count) = format_clean::<V, MODE, N>(value.as_bytes(), dst) {
+            return count;
+        }
     }
-    format_long::<V, MODE, N>(value, dst)
+    format_slice::<V, MODE, N>(value, dst)
 }
 
 /// Escapes the text to the front of `dst`, with no quotation marks. Returns how many bytes it became.

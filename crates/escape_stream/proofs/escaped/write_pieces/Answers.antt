@@ -5,7 +5,7 @@ use Rattle.std.proofs.KnownBytes.{Appends-nil}
 use Rattle.escape_simd.specs.Output.{inner}
 use Rattle.escape_simd.proofs.Pieces.{cut-forward}
 use Rattle.escape_simd.proofs.ReplacementLemmas.{inner-nil}
-use Rattle.escape_stream.specs.Words.{escaping}
+use Rattle.escape_simd.specs.Modes.{escaping}
 use Rattle.escape_stream.proofs.Written.{piece-appended, piece-beginning}
 use Rattle.escape_stream.proofs.escaped.write_pieces.Goals as goal
 
@@ -21,7 +21,7 @@ returns-in_err-write_all-clause-beginning g c =
     let inv = c.pieces.invariant in let text : List ℕ = c.args.text.now in let next : ℕ = c.floor_char_boundary-next.result in
     let forward = cut-forward text c.pieces.at _ next c.utf8.text inv.cut c.pieces-test.true (λ n few within. omega (arith, few, within)) c.floor_char_boundary-next.ensures.nearest in
     let w = piece-beginning (escaping c.args.mode) text c.pieces.at next (g.W.Write.contents c.args.output.now) (g.W.Write.contents c.pieces.output) (g.W.Write.contents c.write_all.new.output) _ c.utf8.text inv.cut c.floor_char_boundary-next.ensures.boundary (omega (arith, forward))
-    (c.format_inner-count.ensures.exact ∙ ap (inner (escaping c.args.mode)) c.range.ensures.value) inv.appended c.in_err-write_all.ensures.beginning in
+    (c.format_inner-count.ensures.written.exact ∙ ap (inner (escaping c.args.mode)) c.range.ensures.value) inv.appended c.in_err-write_all.ensures.beginning in
     search (rules, w)
 
 pub pieces-smaller : goal.pieces-smaller
@@ -36,7 +36,7 @@ pieces-preserved g c =
     let forward = cut-forward text c.pieces.at _ next c.utf8.text inv.cut c.pieces-test.true (λ n few within. omega (arith, few, within)) c.floor_char_boundary-next.ensures.nearest in
     record {
       cut = c.floor_char_boundary-next.ensures.boundary;
-      same_room = c.format_inner-count.ensures.same_room ∙ inv.same_room;
+      same_room = c.format_inner-count.auto.dst ∙ inv.same_room;
       appended = piece-appended (escaping c.args.mode) text c.pieces.at next (g.W.Write.contents c.args.output.now) (g.W.Write.contents c.pieces.output) (g.W.Write.contents c.write_all.new.output) _ c.utf8.text inv.cut c.floor_char_boundary-next.ensures.boundary (omega (arith, forward))
-          (c.format_inner-count.ensures.exact ∙ ap (inner (escaping c.args.mode)) c.range.ensures.value) inv.appended c.in_ok-write_all.ensures.whole;
+          (c.format_inner-count.ensures.written.exact ∙ ap (inner (escaping c.args.mode)) c.range.ensures.value) inv.appended c.in_ok-write_all.ensures.whole;
     }

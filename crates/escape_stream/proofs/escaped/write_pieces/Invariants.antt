@@ -2,7 +2,7 @@ use Rattle.std.proofs.Common.{◌≡◌, ◌-◌, length, take}
 use Rattle.std.specs.Str.{IsCharBoundary}
 use Rattle.std.specs.Io.KnownBytes.{Appends}
 use Rattle.escape_simd.specs.Output.{inner}
-use Rattle.escape_stream.specs.Words.{escaping}
+use Rattle.escape_simd.specs.Modes.{escaping}
 use Rattle.escape_stream.proofs.escaped.write_pieces.Given as goal
 
 -- What stands for the pieces so far was written.

@@ -1,7 +1,7 @@
 use Rattle.std.proofs.Common.{◌++◌, List, ℕ, rules}
 use Rattle.std.proofs.KnownBytes.{Appends-trans}
 use Rattle.escape_simd.specs.Output.{inner, plain, quote_of}
-use Rattle.escape_stream.specs.Words.{escaping}
+use Rattle.escape_simd.specs.Modes.{escaping}
 use Rattle.escape_stream.proofs.Transfer.{beginning-all}
 use Rattle.escape_stream.proofs.Written.{ends-in_open, ends-in_text, ends-in_close, written-whole}
 use Rattle.escape_stream.proofs.escaped.write_whole.Goals as goal

@@ -10,7 +10,7 @@ use Rattle.escape_text.proofs.exact.write_exact_inner.Goals as goal
 pub returns-then-dst-value : goal.returns-then-dst-value
 returns-then-dst-value g c =
     let long = c.if-dst-value.true in
-    c.copy_from_slice.ensures.after ∙ c.as_bytes.ensures.value ∙ sym (same-length (mode_numbered g.row.MODE) c.args.value.now (omega (arith, long, c.requires)))
+    c.copy_from_slice.ensures.after ∙ c.as_bytes.ensures.value ∙ sym (same-length (mode_numbered g.row.MODE) c.args.value.now (omega (arith, long, c.requires.room)))
 
 pub pieces-smaller : goal.pieces-smaller
 pieces-smaller g c =
@@ -18,7 +18,7 @@ pieces-smaller g c =
     let rest : List ℕ = c.pieces.rest.now in
     let so_far : List ℕ = take c.pieces.at c.pieces.dst in
     let whole = ap length c.pieces.invariant.text in
-    let some : 0 < length rest = omega (arith, whole, length-inner mode rest, length-append so_far (inner mode rest), length-take c.pieces.at c.pieces.dst, c.pieces.invariant.within, c.pieces.auto.dst, c.requires, c.pieces-test.true) in
+    let some : 0 < length rest = omega (arith, whole, length-inner mode rest, length-append so_far (inner mode rest), length-take c.pieces.at c.pieces.dst, c.pieces.invariant.within, c.pieces.auto.dst, c.requires.room, c.pieces-test.true) in
     c.split_front.ensures.shorter some
 
 pub pieces-preserved : goal.pieces-preserved

@@ -1,4 +1,4 @@
 use Rattle.escape_simd.proofs.json.length.is_script_clean.Goals as goal
 
 pub returns : goal.returns
-returns c = c.stands_for_itself.ensures.itself
+returns c = c.is_clean.ensures.itself

@@ -25,10 +25,10 @@ vectors-preserved g c =
     let i = c.vectors.invariant.stretch.inside in
     body-on (mode_numbered g.row.MODE) c.args.src.now c.args.target.now c.vectors.target c.whole_vector.new.target c.vectors.at c.args.to c.vectors.end c.args.ticks.now c.vectors.ticks g.met.V.Vector.several c.vectors.invariant 1 c.whole_vector.result.0 c.whole_vector.result.1 c.whole_vector.new.ticks (omega (arith, c.vectors-test.true, i)) (omega arith) (omega arith) (escapes-bordered (omega arith) c.whole_vector.ensures)
 
-pub rest-requires : goal.rest-requires
-rest-requires g c =
+pub escape_tail-requires : goal.escape_tail-requires
+escape_tail-requires g c =
     let i = c.vectors.invariant.stretch.inside in
     (omega arith, body-rest (mode_numbered g.row.MODE) c.args.src.now c.args.target.now c.vectors.target c.vectors.target c.vectors.at c.args.to c.vectors.end c.args.ticks.now c.vectors.ticks g.met.V.Vector.several c.vectors.invariant (length (bytes_of c.args.target.now)) c.requires (sym c.vectors.invariant.stretch.same_slice.len) (omega (arith, c.vectors-test.false, i)))
 
 pub returns : goal.returns
-returns g c = body-all (mode_numbered g.row.MODE) c.args.src.now c.args.target.now c.vectors.target c.rest.new.target c.vectors.at c.args.to c.vectors.end c.args.ticks.now c.vectors.ticks g.met.V.Vector.several c.vectors.invariant c.rest.result c.rest.new.ticks c.rest.ensures
+returns g c = body-all (mode_numbered g.row.MODE) c.args.src.now c.args.target.now c.vectors.target c.escape_tail.new.target c.vectors.at c.args.to c.vectors.end c.args.ticks.now c.vectors.ticks g.met.V.Vector.several c.vectors.invariant c.escape_tail.result c.escape_tail.new.ticks c.escape_tail.ensures

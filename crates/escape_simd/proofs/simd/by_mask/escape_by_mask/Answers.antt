@@ -1,31 +1,36 @@
-use Rattle.escape_simd.proofs.Words.{◌+◌, ◌-◌, ◌∙◌, ℕ, not, nat_eq, List, length, length-drop, take, drop, sym, subst, arith, take_all, bits_of, bytes_of, mode_numbered, Escapes, reach}
+use Rattle.std.proofs.Common.{Bool, nat_le}
+use Rattle.escape_simd.proofs.Words.{◌≡◌, ◌≤◌, ◌+◌, ◌-◌, ◌∙◌, ℕ, true, nat_tests, not, nat_eq, List, length, length-drop, take, drop, sym, subst, arith, take_all, bits_of, bytes_of, mode_numbered, Escapes, reach}
 use denote.Param.{number, value_of}
 use Rattle.escape_simd.proofs.Lanes.{held-none}
 use Rattle.escape_simd.proofs.Stretches.{reach-bounds}
 use Rattle.escape_simd.proofs.Vectors.{escapes-later, vector-blocks, vector-clean, vector-later}
 use Rattle.escape_simd.proofs.simd.by_mask.escape_by_mask.Goals as goal
 
+-- a test that holds
+paid : (b : Bool) (m n : ℕ) → b ≡ nat_le m n → b ≡ true → m ≤ n
+paid b m n is holds = let e : nat_le m n ≡ true = sym is ∙ holds in grind (arith, nat_tests, e)
+
 pub returns-then-all_zero : goal.returns-then-all_zero
 returns-then-all_zero g c =
     let mode = mode_numbered g.row.MODE in let v = c.requires in
     vector-clean mode (reach (not (nat_eq (value_of (number g.row.LAST)) 0)) g.row.N) c.args.src.now c.args.target.now c.store.new.target c.args.at c.args.valid c.args.to c.args.ticks.now
-    (omega (arith, v.inside)) (held-none mode c.args.src.now c.args.at c.args.valid c.args.at (bits_of 64 c.args.flags) v.flags (omega arith) (sym c.all_zero.ensures ∙ c.if-all_zero.true)) c.store.ensures
+    (omega (arith, v.inside)) (held-none mode c.args.src.now c.args.at c.args.valid c.args.at (bits_of 64 c.args.mask) v.flags (omega arith) (sym c.all_zero.ensures ∙ c.if-all_zero.true)) c.store.ensures
 
 pub returns-then-are_short : goal.returns-then-are_short
 returns-then-are_short g c =
     let last = not (nat_eq (value_of (number g.row.LAST)) 0) in let far = reach-bounds last g.row.N g.met.V.Vector.several in
-    vector-blocks (mode_numbered g.row.MODE) (reach last g.row.N) c.args.src.now c.args.target.now c.escape_blocks-end.new.target c.args.at c.args.valid c.args.to c.escape_blocks-end.result (length (bytes_of c.args.target.now)) c.args.flags c.args.ticks.now c.tick_for_blocks.new.ticks
-    c.requires (c.are_short.ensures c.if-are_short.true) g.met.V.Vector.few g.met.V.Vector.several (omega (arith, far)) (c.pay_for_blocks.ensures c.if-pay_for_blocks.true) c.escape_blocks-end.ensures.stretch c.escape_blocks-end.ensures.stored c.tick_for_blocks.ensures
+    vector-blocks (mode_numbered g.row.MODE) (reach last g.row.N) c.args.src.now c.args.target.now c.escape_blocks-end.new.target c.args.at c.args.valid c.args.to c.escape_blocks-end.result (length (bytes_of c.args.target.now)) c.args.mask c.args.ticks.now c.tick_for_blocks.new.ticks
+    c.requires (c.are_short.ensures c.if-are_short.true) g.met.V.Vector.most (omega (arith, far)) (paid c.are_paid.result _ _ c.are_paid.ensures c.if-are_paid.true) c.escape_blocks-end.ensures.stretch c.escape_blocks-end.ensures.stored c.tick_for_blocks.ensures
 
-pub turns-passed-requires : goal.turns-passed-requires
-turns-passed-requires g c =
+pub escape_by_turns-passed-requires : goal.escape_by_turns-passed-requires
+escape_by_turns-passed-requires g c =
     let src : List ℕ = c.args.src.now in let at : ℕ = c.args.at in
     let is = take_all (length src - at) (drop at src) (omega (arith, length-drop at src)) in
-    (omega arith, (vector-later (mode_numbered g.row.MODE) g.row.N (reach (not (nat_eq (value_of (number g.row.LAST)) 0)) g.row.N) src (take (length src - at) (drop at src)) at c.args.valid c.args.to (length (bytes_of c.args.target.now)) (bits_of 64 c.args.flags) is c.requires, sym c.all_zero.ensures ∙ c.if-all_zero.false))
+    (omega arith, (vector-later (mode_numbered g.row.MODE) g.row.N (reach (not (nat_eq (value_of (number g.row.LAST)) 0)) g.row.N) src (take (length src - at) (drop at src)) at c.args.valid c.args.to (length (bytes_of c.args.target.now)) (bits_of 64 c.args.mask) is c.requires, sym c.all_zero.ensures ∙ c.if-all_zero.false))
 
 pub returns : goal.returns
 returns g c =
     let mode = mode_numbered g.row.MODE in let src : List ℕ = c.args.src.now in let at : ℕ = c.args.at in let v = c.requires in
     let is = take_all (length src - at) (drop at src) (omega (arith, length-drop at src)) in
-    subst (λ k. Escapes mode (reach (not (nat_eq (value_of (number g.row.LAST)) 0)) g.row.N) (at + c.args.valid) 1 1 src c.args.target.now c.turns-passed.new.target at k c.args.to c.turns-passed.result.1 c.args.ticks.now c.turns-passed.new.ticks) (sym c.past_border.ensures)
-    (escapes-later src (take (length src - at) (drop at src)) at is (omega (arith, v.inside)) c.turns-passed.ensures)
+    subst (λ k. Escapes mode (reach (not (nat_eq (value_of (number g.row.LAST)) 0)) g.row.N) (at + c.args.valid) 1 1 src c.args.target.now c.escape_by_turns-passed.new.target at k c.args.to c.escape_by_turns-passed.result.1 c.args.ticks.now c.escape_by_turns-passed.new.ticks) (sym c.past_border.ensures)
+    (escapes-later src (take (length src - at) (drop at src)) at is (omega (arith, v.inside)) c.escape_by_turns-passed.ensures)

@@ -6,4 +6,4 @@ pub returns-then-border-from : goal.returns-then-border-from
 returns-then-border-from g c = finished-over c.if-border-from.true c.requires
 
 pub returns : goal.returns
-returns g c = finished-stored (omega (arith, c.if-border-from.false)) c.requires c.store_rest.ensures.stored c.store_rest.ensures.tick
+returns g c = finished-stored (omega (arith, c.if-border-from.false)) c.requires c.store_tail.ensures.stored c.store_tail.ensures.tick

@@ -1,14 +1,15 @@
-use Rattle.std.proofs.Common.{◌+◌, ◌≤◌, arith}
-use Rattle.escape_simd.specs.Modes.{mode_numbered}
-use Rattle.escape_simd.proofs.Shortened.{short-more}
+use Rattle.std.proofs.Common.{◌≡◌, ◌∙◌, Bool, true, false, not, refl, sym, ap}
+use Rattle.escape_simd.proofs.Words.{◌+◌, ◌-◌, arith, bits_of, length-bits_of, mode_numbered}
+use Rattle.escape_simd.proofs.Vectors.{short-lanes}
 use Rattle.escape_simd.proofs.simd.util.blocks.are_short.Goals as goal
 
-pub pieces-preserved : goal.pieces-preserved
-pieces-preserved g c =
-    let fits : c.pieces.next + 16 ≤ g.row.N = omega (arith, c.requires.width, c.pieces.invariant.sixteens, c.pieces-test.true) in
-    record {
-      short = short-more (mode_numbered g.row.MODE) c.args.src.now c.args.at c.args.flags c.pieces.next c.pieces.long c.long_lanes.result c.shift_lanes.result
-          (omega (arith, fits, c.requires.most)) c.pieces.invariant.short c.long_lanes.ensures c.shift_lanes.ensures;
-      sixteens = omega (arith, c.pieces.invariant.sixteens);
-      fits = fits;
-    }
+-- not that it is not
+twice : (a b : Bool) → a ≡ not b → not a ≡ true → b ≡ true
+twice a true is denied = refl
+twice a false is denied = sym (sym denied ∙ ap not is)
+
+pub returns-then-this-ne-HTML_MODE : goal.returns-then-this-ne-HTML_MODE
+returns-then-this-ne-HTML_MODE g c = λ short k h set needed.
+    let here : c.args.at + g.row.N - c.args.at ≡ g.row.N = omega arith in
+    let told = rw here at c.has_long.ensures in
+    short-lanes (mode_numbered g.row.MODE) g.row.N c.args.src.now c.args.at (bits_of 64 c.args.flags) c.requires.inside (omega (arith, c.requires.most, length-bits_of 64 c.args.flags)) (twice c.has_long.result _ told short) k h set needed

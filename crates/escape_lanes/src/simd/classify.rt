@@ -1,0 +1,95 @@
+//! The classifiers of a text's bytes: each ticks once, and says for which bytes it answered.
+ghost use Rattle.std.specs.Prelude.{◌≡◌, ◌+◌, ◌-◌, ◌<◌, ◌≤◌, ◌++◌, length, take, drop, map, replicate};
+ghost use Rattle.escape_lanes.specs.Bits.{bits_of};
+ghost use Rattle.escape_lanes.specs.Classified.{asked_of, Tells};
+ghost use Rattle.escape_lanes.specs.Mode.{mode_numbered};
+ghost use Rattle.escape_lanes.specs.Replacement.{needs_escape};
+
+use crate::simd::ticks::Ticks;
+use crate::simd::vector::{HTML_MODE, JSON_MODE, Vector};
+
+/// Bytes for which a classifier answered. Only classifiers make one, and it can't be cloned.
+///
+/// A store of a vector takes one, and so does a block without an escape: so each of them was classified. Nothing reads
+/// the bytes, and the compiler removes them.
+#[derive(Drop)]
+pub struct Classified<'a> {
+    bytes: &'a [u8],
+}
+
+/// Returns which lanes of a vector are flagged in the mode numbered `MODE`. Ticks once.
+#[inline(always)]
+pub fn flags<V: Vector<N>, const MODE: u8, const N: usize>(v: &V, ticks: &mut Ticks) -> V::Flags
+    ensures lanes { V.Flags.truths result ≡ map (needs_escape (mode_numbered MODE)) (V.lanes v.now) }
+    ensures tick { ticks.new ≡ ticks.old + 1 }
+{
+    if MODE == JSON_MODE {
+        v.json_flags(ticks)
+    } else if MODE == HTML_MODE {
+        v.html_flags(ticks)
+    } else {
+        v.script_flags(ticks)
+    }
+}
+
+/// Classifies the text's vector at `at`. Ticks once.
+#[inline(always)]
+pub fn classify<'a, V: Vector<N>, const MODE: u8, const N: usize>(
+    text: &'a [u8],
+    at: usize,
+    ticks: &mut Ticks,
+) -> (V::Flags, Classified<'a>)
+    requires { at + N ≤ length text.now }
+    ensures flagged { V.Flags.truths result.0 ≡ map (needs_escape (mode_numbered MODE)) (take N (drop at text.now)) }
+    ensures asked { asked_of result.1 ≡ take N (drop at text.now) }
+    ensures tick { ticks.new ≡ ticks.old + 1 }
+{
+    let bytes = &text[at..at + N];
+    (
+        flags::<V, MODE, N>(&V::load(bytes), ticks),
+        Classified { bytes },
+    )
+}
+
+/// Classifies the text's last `count` bytes, fewer than a vector has, with zeros after them. Ticks once.
+#[inline(always)]
+pub fn classify_last<'a, V: Vector<N>, const MODE: u8, const N: usize>(
+    text: &'a [u8],
+    count: usize,
+    ticks: &mut Ticks,
+) -> (V::Flags, Classified<'a>)
+    requires few { count < N }
+    requires inside { count ≤ length text.now }
+    ensures flagged { V.Flags.truths result.0
+        ≡ map (needs_escape (mode_numbered MODE)) (drop (length text.now - count) text.now ++ replicate (N - count) 0) }
+    ensures asked { asked_of result.1 ≡ drop (length text.now - count) text.now }
+    ensures tick { ticks.new ≡ ticks.old + 1 }
+{
+    let bytes = &text[text.len() - count..];
+    (
+        flags::<V, MODE, N>(&V::load_last(text, count), ticks),
+        Classified { bytes },
+    )
+}
+
+/// Classifies the text's bytes from `from` up to `until` by a mask that has their flags: bit `k` is that of byte `k`.
+/// Ticks once.
+#[inline(always)]
+pub fn classify_by_mask<'a, const MODE: u8>(
+    text: &'a [u8],
+    from: usize,
+    until: usize,
+    _mask: u64,
+    ticks: &mut Ticks,
+) -> Classified<'a>
+    requires forward { from ≤ until }
+    requires inside { until ≤ length text.now }
+    requires told { Tells (mode_numbered MODE) text.now (bits_of 64 _mask) from until }
+    ensures asked { asked_of result ≡ take (until - from) (drop from text.now) }
+    ensures tick { ticks.new ≡ ticks.old + 1 }
+{
+    ticks.tick();
+    Classified {
+        bytes: &text[from..until],
+    }
+}

@@ -1,0 +1,66 @@
+//! Short escapes: a reverse solidus, and the byte itself or a control character's letter.
+ghost use Rattle.std.specs.Prelude.{◌≡◌, ◌≢◌, ℕ, ◌+◌, ◌*◌, ◌/◌, ◌≤◌, ◌++◌, ◌&&◌, not, false, length, take, drop, map, replicate};
+ghost use Rattle.std.specs.Simd.Lanes.{zip2};
+ghost use Rattle.escape_lanes.specs.Bits.{bits_of, none_set};
+ghost use Rattle.escape_lanes.specs.Mode.{mode_numbered};
+ghost use Rattle.escape_lanes.specs.Short.{shortened, is_long};
+
+use crate::simd::lane_bits::shift_lanes;
+use crate::simd::lanes::load;
+use crate::simd::vector::SCRIPT_MODE;
+use std::simd::prelude::*;
+
+/// Returns the 16 bytes of the text from `at` on, with the letter of its short escape in place of each control
+/// character that has one.
+///
+/// Of a line end that is `n`, and of any other byte that is no control character the byte itself.
+#[inline(always)]
+pub fn shorten(text: &[u8], at: usize) -> u8x16
+    requires { at + 16 ≤ length text.now }
+    ensures { result ≡ map shortened (take 16 (drop at text.now)) }
+{
+    let bytes = load::<16>(&text[at..]);
+    // By the control character, and 0 for one that has no short escape.
+    let letters = u8x16::from_array(*b"\0\0\0\0\0\0\0\0btn\0fr\0\0");
+    // A byte below 0x10 is its own place. That of any other is at least 0x80, where the look-up reads 0.
+    let places = bytes.saturating_add(u8x16::splat(0x70)) ^ u8x16::splat(0x70);
+    // A letter is more than the byte that it stands for.
+    bytes.simd_max(letters.swizzle_dyn(places))
+}
+
+/// Returns a bit for each of the text's 16 bytes from `at` on: it is set if the byte needs an escape and has no short one.
+#[inline(always)]
+fn long_lanes<const MODE: u8>(text: &[u8], at: usize) -> u64
+    requires mode { MODE ≢ 1 }
+    requires inside { at + 16 ≤ length text.now }
+    ensures { bits_of 64 result ≡ map (is_long (mode_numbered MODE)) (take 16 (drop at text.now)) ++ replicate 48 false }
+{
+    let bytes = shorten(text, at);
+    let control = bytes.simd_le(u8x16::splat(0x1f));
+    if MODE < SCRIPT_MODE {
+        return control.to_bitmask();
+    }
+    let angle = (bytes | u8x16::splat(2)).simd_eq(u8x16::splat(b'>'));
+    let ampersand = bytes.simd_eq(u8x16::splat(b'&'));
+    let lead = bytes.simd_eq(u8x16::splat(0xe2));
+    (control | angle | ampersand | lead).to_bitmask()
+}
+
+/// Returns whether a byte of the text is flagged that needs an escape and has no short one. HTML has none at all.
+///
+/// The text has a multiple of 16 bytes, at most 64. Of a text with `"` and `\u{1}` that is so where the second is flagged.
+#[inline(always)]
+pub fn has_long<const MODE: u8>(text: &[u8], flags: u64) -> bool
+    requires mode { MODE ≢ 1 }
+    requires sixteens { length text.now ≡ 16 * (length text.now / 16) }
+    requires few { length text.now ≤ 64 }
+    ensures { result ≡ not (none_set (zip2 ◌&&◌ (map (is_long (mode_numbered MODE)) text.now) (bits_of 64 flags))) }
+{
+    let mut long = 0;
+    let mut next = 0;
+    'pieces: while next < text.len() {
+        long |= long_lanes::<MODE>(text, next) & shift_lanes(flags, next);
+        next += 16;
+    }
+    long != 0
+}

@@ -1,0 +1,119 @@
+//! Which bytes of a text are flagged, and whether a text stands for itself.
+ghost use Rattle.std.specs.Prelude.{◌≡◌, ◌+◌, ◌-◌, ◌*◌, ◌<◌, ◌≤◌, ◌↔◌, true, false, length};
+ghost use Rattle.std.specs.List.{count_by};
+ghost use Rattle.escape_lanes.specs.Bits.{bits_of};
+ghost use Rattle.escape_lanes.specs.Replacement.{needs_escape};
+ghost use Rattle.escape_simd.specs.Lengths.{IsPartLength};
+ghost use Rattle.escape_simd.specs.Modes.{mode_numbered};
+ghost use Rattle.escape_simd.specs.Output.{inner};
+ghost use Rattle.escape_simd.specs.Parts.{IsAnswer, IsFront};
+ghost use Rattle.escape_simd.specs.Stretch.{HoldsFlags, rest_length};
+
+use crate::output::length::added;
+use crate::output::{N, V};
+use crate::simd::{flags_at, load_last};
+use escape_lanes::simd::classify::flags;
+use escape_lanes::simd::lane_bits::clear_first_lane;
+use escape_lanes::simd::target::Ticks;
+use escape_lanes::simd::{BitMask, Flags};
+
+/// Returns whether no byte of four vectors of the text from `at` on is flagged.
+#[inline(always)]
+fn is_clean_chunk<const MODE: u8>(src: &[u8], at: usize) -> bool
+    requires { at + 4 * N ≤ length src.now }
+    ensures { IsAnswer (mode_numbered MODE) src.now at (at + 4 * N) result }
+{
+    let mut ticks = Ticks::new();
+    let flags1 = flags_at::<V, MODE, N>(src, at, &mut ticks);
+    let flags2 = flags_at::<V, MODE, N>(src, at + N, &mut ticks);
+    let flags3 = flags_at::<V, MODE, N>(src, at + 2 * N, &mut ticks);
+    let flags4 = flags_at::<V, MODE, N>(src, at + 3 * N, &mut ticks);
+    flags1.join(&flags2).join(&flags3.join(&flags4)).none()
+}
+
+/// Returns the flags of `count` bytes of the text from `at` on: of a vector, or of the last bytes if they are fewer.
+#[inline(always)]
+pub(super) fn mask_at<const MODE: u8>(src: &[u8], at: usize, count: usize) -> u64
+    requires few { count ≤ N }
+    requires inside { at + count ≤ length src.now }
+    requires last { count < N → at + count ≡ length src.now }
+    ensures { HoldsFlags (mode_numbered MODE) src.now at count at (bits_of 64 result) }
+{
+    let mut ticks = Ticks::new();
+    if count == N {
+        return flags_at::<V, MODE, N>(src, at, &mut ticks).bits();
+    }
+    let flags = flags::<V, MODE, N>(&load_last::<V, N>(src, count), &mut ticks).bits();
+    flags.clear_high_bits(64 - count)
+}
+
+/// Returns where the clean bytes of the text from `at` on end, as far as whole vectors tell: at a vector with a flagged
+/// byte, or where fewer than two vectors are left.
+#[inline(always)]
+pub(super) fn clean_end<const MODE: u8>(src: &[u8], at: usize) -> usize
+    requires { at ≤ length src.now }
+    ensures front { IsFront (mode_numbered MODE) src.now at result }
+    ensures left { at + N ≤ length src.now → result + N ≤ length src.now }
+{
+    let mut end = at;
+    'chunks: while 5 * N <= src.len() - end {
+        if !is_clean_chunk::<MODE>(src, end) {
+            break;
+        }
+        end += 4 * N;
+    }
+    'vectors: while 2 * N <= src.len() - end {
+        if !mask_at::<MODE>(src, end, N).all_zero() {
+            return end;
+        }
+        end += N;
+    }
+    end
+}
+
+/// Returns whether `count` bytes of the text from `at` on stand for themselves: a vector, or the last bytes. A flagged
+/// byte does so if it is an e2 with which no separator begins.
+#[inline(always)]
+fn is_clean_part<const MODE: u8>(src: &[u8], at: usize, count: usize) -> bool
+    requires few { count ≤ N }
+    requires inside { at + count ≤ length src.now }
+    requires last { count < N → at + count ≡ length src.now }
+    ensures clean { result ≡ true → IsPartLength (mode_numbered MODE) src.now at (at + count) count }
+    ensures grown { result ≡ false → length src.now - at < rest_length (mode_numbered MODE) src.now at }
+{
+    let mut rest = mask_at::<MODE>(src, at, count);
+    'flags: while !rest.all_zero() {
+        if added::<MODE>(src, at + rest.first_offset()) != 0 {
+            return false;
+        }
+        rest = clear_first_lane(rest);
+    }
+    true
+}
+
+/// Returns whether nothing in the text needs an escape: the output is the text itself, between quotation marks in
+/// the modes that have them.
+///
+/// No memory is allocated. The call reads the text up to the first 128 bytes that need an escape.
+///
+/// ```text
+/// is_clean::<{ HTML_MODE }>("a<b") == false
+/// ```
+#[inline(never)]
+pub fn is_clean<const MODE: u8>(value: &str) -> bool
+    requires mode { MODE ≤ 2 }
+    ensures itself { (result ≡ true) ↔ (inner (mode_numbered MODE) value.now ≡ value.now) }
+    ensures flagged { result ≡ false → 0 < count_by (needs_escape (mode_numbered MODE)) value.now }
+{
+    let src = value.as_bytes();
+    let mut at = 0;
+    'parts: while at < src.len() {
+        let end = clean_end::<MODE>(src, at);
+        let count = N.min(src.len() - end);
+        if !is_clean_part::<MODE>(src, end, count) {
+            return false;
+        }
+        at = end + count;
+    }
+    true
+}

@@ -1,0 +1,148 @@
+//! The last bytes of a text, fewer than two vectors have, and with them every short text.
+ghost use Rattle.std.specs.Prelude.{min, ◌≡◌, ◌+◌, ◌-◌, ◌*◌, ◌/◌, ◌≤◌, ◌++◌, true, length, drop, replicate, IfOk, IfErr, OnErr};
+ghost use Rattle.std.specs.List.{flat_map};
+ghost use Rattle.escape_lanes.specs.Bits.{bits_of};
+ghost use Rattle.escape_lanes.specs.Written.{bytes_of};
+ghost use Rattle.escape_simd.specs.Modes.{mode_numbered};
+ghost use Rattle.escape_simd.specs.Stretch.{AreTail, Escapes, HasTail, IsAsked, reach};
+
+use crate::simd::Vector;
+use crate::simd::by_mask::escape_by_mask;
+use crate::simd::chunk::flags_at;
+use crate::simd::store::{load, load_last, store, store_lanes};
+use escape_lanes::simd::classify::flags;
+use escape_lanes::simd::lane_bits::shift_lanes;
+use escape_lanes::simd::target::{Target, Ticks};
+use escape_lanes::simd::{BitMask, Flags};
+
+/// The flags of a text's last bytes, fewer than two vectors have: of their last vector, and where they fill one, of
+/// their first one.
+#[derive(Drop)]
+pub(crate) struct TailFlags {
+    pub first: u64,
+    pub last: u64,
+}
+
+/// Returns the last vector of a text, with zeros after it, so that a vector can be loaded from each of its bytes on.
+#[inline(always)]
+fn spill_last<V: Vector<N>, const N: usize>(text: &[u8]) -> [[u8; N]; 2]
+    ensures { flat_map (λ row. row) result ≡ drop (length text.now - N) text.now ++ replicate (2 * N - min (length text.now) N) 0 }
+{
+    let mut rows = [[0u8; N]; 2];
+    if text.len() < N {
+        load_last::<V, N>(text, text.len()).put(&mut rows[0]);
+    } else {
+        load::<V, N>(text, text.len() - N).put(&mut rows[0]);
+    }
+    rows
+}
+
+/// Escapes the bytes before the last vector of a text of fewer bytes than two vectors have, whose flags are known.
+/// Returns the places after them.
+#[inline(always)]
+fn escape_before_last<V: Vector<N>, const MODE: u8, const N: usize>(
+    text: &[u8],
+    flags: &TailFlags,
+    target: &mut Target<'_, N>,
+    to: usize,
+    ticks: &mut Ticks,
+) -> (usize, usize)
+    requires flagged { AreTail (mode_numbered MODE) N text.now (bits_of 64 flags.now.first) (bits_of 64 flags.now.last) }
+    requires room { to + 6 * length text.now + reach true N ≤ length (bytes_of target.old) }
+    ensures { Escapes (mode_numbered MODE) (reach true N) (length text.now - N) (length text.now / N) (length text.now / N) text.now target.old target.new 0 result.0 to result.1 ticks.old ticks.new }
+{
+    if text.len() < N {
+        return (0, to);
+    }
+    let border = text.len() - N;
+    let front = flags.first.clear_high_bits(64 - border);
+    escape_by_mask::<V, MODE, N, true>(text, 0, border, front, target, to, ticks)
+}
+
+/// Escapes a text of fewer bytes than two vectors have, whose flags are known. Returns the place after it.
+#[inline(always)]
+fn escape_flagged_tail<V: Vector<N>, const MODE: u8, const N: usize>(
+    text: &[u8],
+    flags: &TailFlags,
+    target: &mut Target<'_, N>,
+    to: usize,
+    ticks: &mut Ticks,
+) -> usize
+    requires flagged { AreTail (mode_numbered MODE) N text.now (bits_of 64 flags.now.first) (bits_of 64 flags.now.last) }
+    requires room { to + 6 * length text.now + reach true N ≤ length (bytes_of target.old) }
+    ensures { Escapes (mode_numbered MODE) (reach true N) (length text.now) (length text.now / N + 1) (length text.now / N + 1) text.now target.old target.new 0 (length text.now) to result ticks.old ticks.new }
+{
+    let (next, end) = escape_before_last::<V, MODE, N>(text, flags, target, to, ticks);
+    let rows = spill_last::<V, N>(text);
+    let passed = next - text.len().saturating_sub(N);
+    let left = shift_lanes(flags.last, passed);
+    escape_by_mask::<V, MODE, N, true>(
+        &rows.as_flattened()[passed..],
+        0,
+        text.len() - next,
+        left,
+        target,
+        end,
+        ticks,
+    )
+    .1
+}
+
+/// Stores the text's bytes from `at` on, fewer than two vectors have, if none of them needs an escape. Returns the
+/// place after them, and else their flags.
+#[inline(always)]
+pub(crate) fn store_clean_tail<V: Vector<N>, const MODE: u8, const N: usize>(
+    src: &[u8],
+    at: usize,
+    target: &mut Target<'_, N>,
+    to: usize,
+    ticks: &mut Ticks,
+) -> Result<usize, TailFlags>
+    requires { HasTail N src.now at to (length (bytes_of target.old)) }
+    ensures clean { IfOk result (λ end. Escapes (mode_numbered MODE) (reach true N) (length src.now) ((length src.now - at) / N + 1) 0 src.now target.old target.new at (length src.now) to end ticks.old ticks.new) }
+    ensures flagged { IfErr result (λ flags. AreTail (mode_numbered MODE) N (drop at src.now) (bits_of 64 flags.first) (bits_of 64 flags.last)) }
+    ensures unchanged { OnErr result (IsAsked N (length src.now - at) target.old target.new ticks.old ticks.new) }
+{
+    let count = src.len() - at;
+    if count < N {
+        let v = load_last::<V, N>(src, count);
+        let last = flags::<V, MODE, N>(&v, ticks)
+            .bits()
+            .clear_high_bits(64 - count);
+        if !last.all_zero() {
+            return Err(TailFlags { first: 0, last });
+        }
+        store_lanes::<V, N, true>(&v, &src[at..], target, to);
+        return Ok(to + count);
+    }
+    let last = src.len() - N;
+    let flags1 = flags_at::<V, MODE, N>(src, at, ticks);
+    let flags2 = flags_at::<V, MODE, N>(src, last, ticks);
+    if !flags1.join(&flags2).none() {
+        return Err(TailFlags {
+            first: flags1.bits(),
+            last: flags2.bits(),
+        });
+    }
+    store::<V, N, true>(src, at, N, target, to);
+    store::<V, N, true>(src, last, N, target, to + (count - N));
+    Ok(to + count)
+}
+
+/// Escapes the text's bytes from `at` on, fewer than two vectors have. Returns the place after them.
+#[inline(always)]
+pub(crate) fn escape_tail<V: Vector<N>, const MODE: u8, const N: usize>(
+    src: &[u8],
+    at: usize,
+    target: &mut Target<'_, N>,
+    to: usize,
+    ticks: &mut Ticks,
+) -> usize
+    requires { HasTail N src.now at to (length (bytes_of target.old)) }
+    ensures { Escapes (mode_numbered MODE) (reach true N) (length src.now) ((length src.now - at) / N + 1) 0 src.now target.old target.new at (length src.now) to result ticks.old ticks.new }
+{
+    match store_clean_tail::<V, MODE, N>(src, at, target, to, ticks) {
+        Ok(end) => end,
+        Err(flags) => { escape_flagged_tail::<V, MODE, N>(&src[at..], &flags, target, to, ticks) }
+    }
+}

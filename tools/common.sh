@@ -1,0 +1,208 @@
+# What the scripts share: help, counts, the list of crates, levels and builds. Read by them, and not run by itself.
+# It sets top, the checkout's folder, and script, the script that reads it.
+
+[ -n "${BASH_VERSION-}" ] || { echo "${0##*/}: it needs bash: run $0 itself, or bash $0" >&2; exit 3; }
+# With it cd goes elsewhere, and prints where.
+unset CDPATH
+top=$(cd "${BASH_SOURCE[0]%/*}/.." && pwd) || exit 3
+script=$0
+[[ $script == /* ]] || script=$PWD/$script
+
+# The logic that the proofs are for: the end of what rt version prints. The kit's name may be another.
+logic=dac8208d650f15bf
+
+say() { echo "${script##*/}: $*" >&2; }
+
+# Prints the comment at the script's head.
+help() { sed -n '1d; /^#/!q; s/^# \{0,1\}//p' "$script"; }
+
+usage() {
+  help >&2
+  exit 2
+}
+
+# The version of the library and the program.
+version() { awk '/^#define ESCAPE_VERSION_(MAJOR|MINOR|PATCH) / { printf "%s%s", dot, $3; dot = "." }' "$top/c/escape.h"; }
+
+# What a script of tests counts, and its last line.
+passed=0 failed=0 skipped=0
+pass() { passed=$((passed + 1)) && echo "passed $1"; }
+fail() { failed=$((failed + 1)) && echo "failed $1"; }
+skip() { skipped=$((skipped + 1)) && echo "skipped $1"; }
+
+# Prints the counts, and fails where something failed.
+summary() {
+  if [ "$skipped" = 0 ]; then
+    echo "$passed passed, $failed failed"
+  else
+    echo "$passed passed, $failed failed, $skipped skipped"
+  fi
+  [ "$failed" = 0 ]
+}
+
+# add_counts FILE: adds the counts of the last line that has some, and fails where none has.
+add_counts() {
+  local counts='([0-9]+) passed[,;] ([0-9]+) failed(, ([0-9]+) skipped)?'
+  [[ $(grep -E "$counts" "$1" | tail -n 1) =~ $counts ]] || return 1
+  passed=$((passed + BASH_REMATCH[1]))
+  failed=$((failed + BASH_REMATCH[2]))
+  skipped=$((skipped + ${BASH_REMATCH[4]:-0}))
+}
+
+# has COMMAND: whether it is there.
+has() { command -v "$1" >/dev/null; }
+
+# set_crates [NAME]: sets crates to that crate and those that it stands on, or to all, lowest first. It starts no
+# process.
+set_crates() {
+  local lines line name number wanted=" ${1-} "
+  crates=()
+  mapfile -t lines <"$top/crates.txt"
+  for ((number = ${#lines[@]} - 1; number >= 0; number--)); do
+    line=${lines[number]%%#*}
+    name=${line%%[: ]*}
+    [ -n "$name" ] || continue
+    if [ $# = 0 ] || [[ $wanted == *" $name "* ]]; then
+      crates=("$name" "${crates[@]}")
+      wanted+="${line#*:} "
+    fi
+  done
+}
+
+# Whether the crate is a program; and whether it is a library for other crates.
+is_program() { [ -e "$top/crates/$1/src/main.rt" ]; }
+is_library() { ! is_program "$1" && ! grep -q "^$1 staticlib" "$top/crates.txt"; }
+
+# Sets level: to $ESCAPE_LEVEL if that is set; else to the highest level that a program here is built for,
+# x86-64-v3 where the processor has all of it, else x86-64-v2. It starts no process.
+set_level() {
+  local name flags= feature
+  level=${ESCAPE_LEVEL:-x86-64-v2}
+  case ${ESCAPE_LEVEL:-} in
+    '') ;;
+    x86-64-v2 | x86-64-v3) return ;;
+    *)
+      echo "${0##*/}: ESCAPE_LEVEL is $ESCAPE_LEVEL, and neither x86-64-v2 nor x86-64-v3" >&2
+      return 1
+      ;;
+  esac
+  [ -r /proc/cpuinfo ] || return 0
+  while read -r name flags; do
+    [ "$name" != flags ] || break
+  done </proc/cpuinfo
+  for feature in avx2 bmi1 bmi2 f16c fma abm movbe; do
+    [[ " $flags " == *" $feature "* ]] || return 0
+  done
+  level=x86-64-v3
+}
+
+# compiler_for LANGUAGE LEVEL: prints the compiler of C or C++ that builds and links for the level.
+compiler_for() {
+  case $1:$2 in
+    C:aarch64) echo "${AARCH64_CC:-aarch64-linux-gnu-gcc}" ;;
+    C++:aarch64) echo "${AARCH64_CXX:-aarch64-linux-gnu-g++}" ;;
+    C:*) echo "${CC:-cc}" ;;
+    C++:*) echo "${CXX:-c++}" ;;
+  esac
+}
+
+# link_shared COMPILER LIBRARY SONAME FILE: links the static library to a shared one. It needs no library but
+# C's, of which some levels call memset. A file that is in use is replaced, and not written over.
+link_shared() {
+  "$1" -shared -Wl,-soname,"$3" -Wl,--no-undefined -o "$4.new" \
+    -Wl,--whole-archive "$2" -Wl,--no-whole-archive &&
+    mv -f "$4.new" "$4"
+}
+
+# Whether there is an rt. Where its logic is another than that of the proofs, this says so.
+find_rt() {
+  local found
+  has rt || { say "there is no rt on the PATH: proving and building need Rattle's toolchain"; return 1; }
+  found=$(rt version)
+  [ "${found##* }" = "$logic" ] ||
+    say "the proofs are for Rattle's logic $logic, and rt version prints: $found. They may fail here"
+}
+
+# Waits until no other call builds. Its file is closed by unlock.
+lock() {
+  if ! { mkdir -p "$top/.build" && true >>"$top/.build/lock"; } 2>/dev/null; then
+    say "it has to prove and build first, which writes to $top/.build and to $top/crates/*/out, and it can't write there"
+    return 1
+  fi
+  exec 9>>"$top/.build/lock"
+  flock -n 9 && return
+  say "waiting for the build that another call began"
+  flock 9
+}
+
+unlock() { exec 9>&-; }
+
+# is_fresh BUILD CRATE..: whether the build is there, and no source of the crates is newer. Folders
+# count, for files that were removed.
+is_fresh() {
+  local built=$1 crate folder sources=("$top/crates.txt")
+  shift
+  [ -e "$built" ] || return 1
+  for crate; do
+    for folder in src specs proofs; do
+      [ -e "$top/crates/$crate/$folder" ] && sources+=("$top/crates/$crate/$folder")
+    done
+  done
+  [ -z "$(find "${sources[@]}" -newer "$built" -print -quit)" ]
+}
+
+# build CRATE LEVEL: proves and builds a program or a static library, unless that was done since the last edit of a
+# source, and sets built to its file. Says on standard error how far it is, and what disk was taken. What an interrupted
+# call has proved is kept.
+build() {
+  local crates
+  built=$top/.build/$1-$2
+  set_crates "$1"
+  is_fresh "$built" "${crates[@]}" && return
+  find_rt && lock || return
+  # Another call may have built it meanwhile. That call's file is closed before the program runs.
+  is_fresh "$built" "${crates[@]}" || build_anew "$1" "$2"
+  set -- $?
+  unlock
+  return "$1"
+}
+
+# The build gets the time at which it began, so that a later edit outdates it.
+build_anew() {
+  local log=$top/.build/$1-$2.log began=$top/.build/$1-$2.began made=$top/crates/$1/out started=$SECONDS words=(--cpu "$2")
+  [ "$2" != aarch64 ] || words=(--target aarch64-unknown-linux-gnu)
+  if is_program "$1"; then words=(run "${words[@]}") made+=/$1; else words=(lib "${words[@]}") made+=/lib$1.a; fi
+  say "proving and building $1 for $2, once. It writes to crates/*/out and .build, and the log is $log"
+  touch "$began" && rm -f "$made" || return
+  # A program is run when it is built. What it does there is nothing to the build.
+  (cd "$top/crates/$1" && rt "${words[@]}" </dev/null 2>&1) | tee "$log" | tell_progress "$started"
+  if [ ! -e "$made" ]; then
+    tail -n 5 "$log" >&2
+    say "$1 was not built: $log says why"
+    return 1
+  fi
+  cp "$made" "$built.new" && touch -r "$began" "$built.new" && mv -f "$built.new" "$built" || return
+  say "built in $((SECONDS - started)) seconds. crates/*/out and .build take $(du -ch "$top"/crates/*/out "$top/.build" | sed -n '$s/[[:space:]].*//p')"
+}
+
+# tell_progress STARTED: reads what rt prints, and says on standard error at which crate it is, how many of its functions
+# are proved, and how many seconds passed: on a terminal in one line, else a line for each crate and one every half minute.
+tell_progress() {
+  local line number crate= functions= told=-30 far='so far: ([0-9]+) of ([0-9]+) functions'
+  while IFS= read -r line; do
+    for number in "${!crates[@]}"; do
+      if [[ $line == "rt: chose "* && ${line##* for } = "${crates[number]}" ]]; then
+        crate="crate $((number + 1)) of ${#crates[@]}, ${crates[number]}" functions= told=-30
+      fi
+    done
+    [[ ! $line =~ $far ]] || functions=", ${BASH_REMATCH[1]} of ${BASH_REMATCH[2]} functions"
+    [ -n "$crate" ] || continue
+    if [ -t 2 ]; then
+      printf '\r\033[K%s: %s%s, %s seconds' "${script##*/}" "$crate" "$functions" "$((SECONDS - $1))" >&2
+    elif [ $((SECONDS - told)) -ge 30 ]; then
+      say "$crate$functions, $((SECONDS - $1)) seconds"
+      told=$SECONDS
+    fi
+  done
+  [ ! -t 2 ] || printf '\r\033[K' >&2
+}

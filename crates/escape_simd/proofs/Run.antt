@@ -1,11 +1,28 @@
 -- How far a run of escapes has come.
 use Rattle.std.proofs.Common.{◌≡◌, ℕ, ◌+◌, ◌-◌, ◌*◌, ◌<◌, ◌≤◌, Bool, true, false, true≢false, List, length, length-drop, drop, get_or, refl, sym, ap, subst, ◌∙◌, arith}
 use Rattle.std.specs.List.{prefix_len}
-use Rattle.escape_simd.proofs.Words.{drop-drop, false_from_ne_true, true_from_ne_false, get_or-drop, bytes_of, first_set, none_set, clear_first, Mode, needs_escape, Target, escaped_count, run_count_after, run_end, run_reach, BeginsRun, Escaped, HasLanesFrom, InRun, HoldsFlags, IsFlaggedAt, IsRun}
+use Rattle.escape_simd.proofs.Words.{drop-drop, false_from_ne_true, true_from_ne_false, get_or-drop, bytes_of, first_set, none_set, clear_first, Mode, needs_escape, Target, escaped_count, run_count, run_count_after, stored_of, escaped_of, IsByteWise, run_end, run_reach, Stretch, BeginsRun, Escaped, HoldsFlags, IsFlaggedAt, IsRun}
 use Rattle.escape_simd.proofs.Escapes.{passed-after}
 use Rattle.escape_simd.proofs.Lanes.{cleared-later, first_set-here, first_set-least, get_or-clear_first, none_set-at, some_from_set}
 use Rattle.escape_simd.proofs.Stretches.{onward, standing, stretch-later, stretch-on}
 use Rattle.escape_simd.proofs.Texts.{escaped-here, first-here, next-here, one≤passed, run_end-here}
+
+-- The bytes from `at` up to `next` were escaped one after another, all in one run.
+pub record InRun {N : ℕ} (mode : Mode) (src : List ℕ) (old new : Target N) (at next to end : ℕ) : Type 0 where
+  pub stretch : Stretch mode (run_reach mode) src old new at next to end
+  pub one : run_count mode (drop at src) ≡ run_count_after mode true (drop next src) + 1
+  pub stored : stored_of new ≡ stored_of old
+  pub place : IsByteWise mode → run_end mode src next ≡ run_end mode src at
+  pub escaped : IsByteWise mode → escaped_of new ≡ escaped_of old + (next - at)
+
+-- a mask has the lanes of another one from a place on, and no others
+pub record HasLanesFrom (from : ℕ) (bits left : List Bool) : Type 0 where
+  pub set : (k : ℕ) → get_or left k false ≡ true → (from ≤ k) × (get_or bits k false ≡ true)
+  pub unset : (k : ℕ) → get_or left k false ≡ false → from ≤ k → get_or bits k false ≡ false
+
+-- what a run did
+pub in_run : {N : ℕ} {mode : Mode} {src : List ℕ} {old new : Target N} {at next to end : ℕ} {bits left : List Bool} → IsRun mode src old new at next to end bits left → InRun mode src old new at next to end
+in_run r = record { stretch = r.stretch; one = r.one; stored = r.stored; place = r.place; escaped = r.escaped }
 
 -- no byte of a run
 pub in_run-begin : {N : ℕ} (mode : Mode) (src : List ℕ) (t : Target N) (at to : ℕ) → IsFlaggedAt mode src at → InRun mode src t t at at to to
@@ -113,12 +130,17 @@ module _ {N : ℕ} {mode : Mode} {src : List ℕ} {old : Target N} {at to : ℕ}
       -- where the next byte has no lane, that was the run
       pub run-ended : get_or rest after false ≡ false → IsRun mode src old new at after to reached bits rest
       run-ended none = record {
-        run = run-on.1;
+        stretch = run-on.1.stretch;
+        one = run-on.1.one;
+        stored = run-on.1.stored;
+        place = run-on.1.place;
+        escaped = run-on.1.escaped;
         last = next;
         some = so_far.run.stretch.forward;
         flagged = (so_far.lanes.set next so_far.here).1;
         after = e.place;
-        lanes = run-lanes;
+        set = run-lanes.set;
+        unset = run-lanes.unset;
         ended = none;
       }
 

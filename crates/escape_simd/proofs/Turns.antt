@@ -1,11 +1,26 @@
 -- How far the turns of a vector have come.
-use Rattle.std.proofs.Common.{◌≡◌, ℕ, ◌+◌, ◌-◌, ◌<◌, ◌≤◌, Bool, true, false, List, length, take, drop, get_or, refl, sym, arith, append_assoc}
-use Rattle.escape_simd.proofs.Words.{take-take, take-add, bytes_of, first_set, none_set, Mode, needs_escape, stored_of, Target, run_count, run_count_after, Stretch, BeginsRun, CanStore, CleanAhead, Escapes, HoldsFlags, IsFinished, IsFlaggedAt, IsLeftAt, IsRun, IsStored, IsVectorAt, IsVectorEnd, Passed}
+use Rattle.std.proofs.Common.{◌≡◌, ℕ, ◌+◌, ◌-◌, ◌*◌, ◌<◌, ◌≤◌, Bool, true, false, List, length, take, drop, get_or, refl, sym, arith, append_assoc}
+use Rattle.escape_simd.proofs.Words.{take-take, take-add, bytes_of, first_set, none_set, Mode, needs_escape, stored_of, Target, run_count, run_count_after, Stretch, BeginsRun, CanStore, Escapes, HoldsFlags, IsFinished, IsFlaggedAt, IsRun, IsStored, IsVectorAt, IsVectorEnd, Passed}
 use Rattle.escape_simd.proofs.Escapes.{passed-after, reach-few}
 use Rattle.escape_simd.proofs.Texts.{one≤passed, runs_after-≤, runs_stop-here}
 use Rattle.escape_simd.proofs.Stretches.{onward_to, standing, stored_ahead, stretch-on}
 use Rattle.escape_simd.proofs.RestSteps.{clean_escaped, clean_inner, clean_rest, clean_runs}
 use Rattle.escape_simd.proofs.Lanes.{CleanFrom, first-set, first_set-here, first_set-least, held-first, held-none}
+
+-- The bytes of a vector from `next` on are left, with what is written at `to`. The mask has their flags alone.
+pub record IsLeftAt (mode : Mode) (N slack : ℕ) (src : List ℕ) (at valid next to size : ℕ) (bits : List Bool) : Type 0 where
+  pub flags : HoldsFlags mode src at valid next bits
+  pub cleared : (k : ℕ) → get_or bits k false ≡ true → next ≤ at + k
+  pub few : valid ≤ N
+  pub inside : at + valid + N ≤ length src
+  pub after : at ≤ next
+  pub before : next < at + valid
+  pub room : to + 6 * (at + valid - next) + slack ≤ size
+
+-- the text's clean bytes from `from` on, as far as the border, stand in a target from `to` on
+abbrev pub CleanAhead : {N : ℕ} → Mode → List ℕ → Target N → ℕ → ℕ → ℕ → Type 0
+CleanAhead mode src target from border to = (count : ℕ) → from + count ≤ border → ((p : ℕ) → from ≤ p → p < from + count → needs_escape mode (get_or src p 0) ≡ false)
+    → take count (drop to (bytes_of target)) ≡ take count (drop from src)
 
 -- The bytes up to `next` were passed, of a text's first vector whose mask now has the lanes from there on. Of the vectors stored all
 -- but the first were classified.
@@ -82,19 +97,19 @@ module _ {N : ℕ} {mode : Mode} {slack : ℕ} {src : List ℕ} {old mid : Targe
     -- all that was passed up to here
     turn-stretch : Stretch mode (valid - after + slack) src old new 0 after to reached
     turn-stretch =
-        let p = turn-place in let s = done.run.stretch in let on = stretch-on s in let few = reach-few mode in let u = turn-after in
+        let p = turn-place in let s = done.stretch in let on = stretch-on s in let few = reach-few mode in let u = turn-after in
         let clean = ahead-passed mode (valid - flagged + slack) src mid next valid flagged end so_far.ahead p.1 (omega arith) (omega (arith, so_far.left.inside)) p.3 in
         onward_to (valid - after + slack) (onward_to (valid - flagged + slack) so_far.stretch clean (omega arith) (omega arith)) s (omega arith) (omega arith)
 
     -- it was one run
     turn-runs : run_count_after mode true (drop after src) + 1 ≡ run_count mode (drop next src)
-    turn-runs = omega (arith, done.run.one, ahead-runs mode src next flagged turn-place.1 turn-place.3)
+    turn-runs = omega (arith, done.one, ahead-runs mode src next flagged turn-place.1 turn-place.3)
 
     -- the mask that is left has the flags from there on
     turn-flags : HoldsFlags mode src 0 valid after rest
     turn-flags = record {
-      set = λ k s. so_far.left.flags.set k (done.lanes.set k s).1;
-      unset = λ k none later few. so_far.left.flags.unset k (done.lanes.unset k none (omega (arith, later))) (omega (arith, later, turn-place.1, turn-after.0)) few;
+      set = λ k s. so_far.left.flags.set k (done.set k s).1;
+      unset = λ k none later few. so_far.left.flags.unset k (done.unset k none (omega (arith, later))) (omega (arith, later, turn-place.1, turn-after.0)) few;
     }
 
     -- the next byte is clean
@@ -105,7 +120,7 @@ module _ {N : ℕ} {mode : Mode} {slack : ℕ} {src : List ℕ} {old mid : Targe
     pub turn-end : none_set rest ≡ true → IsVectorEnd mode N slack src valid after reached (length (bytes_of new))
     turn-end none =
         let clean = held-none mode src 0 valid after rest turn-flags (omega arith) none in
-        grind (arith, turn-place, turn-after, turn-over, stretch-on done.run.stretch, so_far.left)
+        grind (arith, turn-place, turn-after, turn-over, stretch-on done.stretch, so_far.left)
 
     -- these were passed: so was the vector
     pub turn-finished : {last : Target N} {past close ticks : ℕ} → IsFinished mode slack src new last valid after past reached close ticks_new ticks → Escapes mode slack valid 1 1 src old last 0 past to close ticks_old ticks
@@ -116,9 +131,9 @@ module _ {N : ℕ} {mode : Mode} {slack : ℕ} {src : List ℕ} {old mid : Targe
       -- bytes are left
       pub turn-left : IsLeftAt mode N slack src 0 valid after reached (length (bytes_of new)) rest
       turn-left =
-          let p = turn-place in let u = turn-after in let on = stretch-on done.run.stretch in let flags = turn-flags in
-          let f = (first-set mode src 0 valid after rest turn-flags some).0 in let c = (done.lanes.set (first_set rest) (first_set-here rest some)).0 in
-          let w = so_far.left in let none = λ (k : ℕ) (s : get_or rest k false ≡ true). (done.lanes.set k s).0 in grind arith
+          let p = turn-place in let u = turn-after in let on = stretch-on done.stretch in let flags = turn-flags in
+          let f = (first-set mode src 0 valid after rest turn-flags some).0 in let c = (done.set (first_set rest) (first_set-here rest some)).0 in
+          let w = so_far.left in let none = λ (k : ℕ) (s : get_or rest k false ≡ true). (done.set k s).0 in grind arith
 
       -- the vector that begins there is stored
       pub turn-stores : (after ≤ valid) × CanStore N slack src after (valid - after) reached (length (bytes_of new))

@@ -1,10 +1,9 @@
 -- A vector of a text as a whole: stored where it is clean, and what blocks cost.
 use Rattle.std.proofs.Common.{◌≡◌, ℕ, ◌+◌, ◌-◌, ◌/◌, ◌<◌, ◌≤◌, Bool, true, false, ◌&&◌, List, ◌++◌, length, length-drop, length-take-le, map, replicate, take, drop, get_or, refl, sym, ap, subst, ◌∙◌, arith}
-use Rattle.escape_simd.proofs.Words.{cases_Bool, drop-drop, get_or-drop, get_or-map, get_or-take, get_or-zip2, length-map, nat_tests, zip2, take-take, bits_of, flagged_blocks, gaps, length-bits_of, none_set, Mode, is_long, script, needs_escape, replacement, bytes_of, stored_of, Target, inner, passed, escaped_count, run_count, AreShort, Escapes, HasVectors, HoldsFlags, IsStored, IsVectorAt, Passed, Stretch}
+use Rattle.escape_simd.proofs.Words.{cases_Bool, drop-drop, get_or-drop, get_or-map, get_or-take, get_or-zip2, length-map, nat_tests, zip2, take-take, bits_of, flagged_blocks, gaps, length-bits_of, none_set, Mode, is_long, script, needs_escape, replacement, stored_of, Target, passed, run_count, AreShort, Escapes, HasVectors, HoldsFlags, IsStored, IsVectorAt, Passed, Stretch}
 use Rattle.escape_simd.proofs.Escapes.{other-byte, passed-alone}
 use Rattle.escape_simd.proofs.Gaps.{gaps-paid_mask}
 use Rattle.escape_simd.proofs.Lanes.{CleanFrom, held-shifted, held-whole, none_clean, none_set-at}
-use Rattle.escape_simd.proofs.RestSteps.{rest-is}
 use Rattle.escape_simd.proofs.Stretches.{ended, onward, onward_to, standing, stored_ahead, stretch-later, widened}
 use Rattle.escape_simd.proofs.Texts.{passed_clean-here}
 use Rattle.escape_simd.proofs.Turns.{ahead-front, ahead-passed, ahead-runs}

@@ -91,29 +91,21 @@ pub record BeginsRun (mode : Mode) (src : List ℕ) (at to size : ℕ) (bits : L
   pub first : slice_index_or bits at false ≡ true
   pub lanes : (k : ℕ) → slice_index_or bits k false ≡ true → (at ≤ k) × IsFlaggedAt mode src k × (to + 6 * (k - at) + 8 ≤ size)
 
--- a mask has the lanes of another one from a place on, and no others
-pub record HasLanesFrom (from : ℕ) (bits left : List Bool) : Type 0 where
-  pub set : (k : ℕ) → slice_index_or left k false ≡ true → (from ≤ k) × (slice_index_or bits k false ≡ true)
-  pub unset : (k : ℕ) → slice_index_or left k false ≡ false → from ≤ k → slice_index_or bits k false ≡ false
-
--- The bytes from `at` up to `next` were escaped one after another, all in one run. No vector was stored.
-pub record InRun {N : ℕ} (mode : Mode) (src : List ℕ) (old new : Target N) (at next to end : ℕ) : Type 0 where
+-- The run of bytes at `at` whose lanes a mask has was escaped: up to `next`, with `last` the last flagged one of them. No vector was
+-- stored. The mask that is left has the lanes after them, and not that of the next byte.
+pub record IsRun {N : ℕ} (mode : Mode) (src : List ℕ) (old new : Target N) (at next to end : ℕ) (bits left : List Bool) : Type 0 where
   pub stretch : Stretch mode (run_reach mode) src old new at next to end
   pub one : run_count mode (drop at src) ≡ run_count_after mode true (drop next src) + 1
   pub stored : stored_of new ≡ stored_of old
   -- where what stands for a byte is told by that byte alone, each of them is one escape
   pub place : IsByteWise mode → run_end mode src next ≡ run_end mode src at
   pub escaped : IsByteWise mode → escaped_of new ≡ escaped_of old + (next - at)
-
--- The run of bytes at `at` whose lanes a mask has was escaped: `last` is the last one of them. The mask that is left has the lanes
--- after them, and not that of the next byte.
-pub record IsRun {N : ℕ} (mode : Mode) (src : List ℕ) (old new : Target N) (at next to end : ℕ) (bits left : List Bool) : Type 0 where
-  pub run : InRun mode src old new at next to end
   pub last : ℕ
   pub some : at ≤ last
   pub flagged : slice_index_or bits last false ≡ true
   pub after : next ≡ last + passed mode (drop last src)
-  pub lanes : HasLanesFrom next bits left
+  pub set : (k : ℕ) → slice_index_or left k false ≡ true → (next ≤ k) × (slice_index_or bits k false ≡ true)
+  pub unset : (k : ℕ) → slice_index_or left k false ≡ false → next ≤ k → slice_index_or bits k false ≡ false
   pub ended : slice_index_or left next false ≡ false
 
 -- A mask has the flags of `valid` bytes of a text from `at` on, at most a vector of N. A vector can be loaded from each place from
@@ -123,16 +115,6 @@ pub record IsVectorAt (mode : Mode) (N slack : ℕ) (src : List ℕ) (at valid t
   pub few : valid ≤ N
   pub inside : at + valid + N ≤ length src
   pub room : to + 6 * valid + slack ≤ size
-
--- Some of these bytes were passed: those from `next` on are left, with what is written at `to`. The mask has their flags alone.
-pub record IsLeftAt (mode : Mode) (N slack : ℕ) (src : List ℕ) (at valid next to size : ℕ) (bits : List Bool) : Type 0 where
-  pub flags : HoldsFlags mode src at valid next bits
-  pub cleared : (k : ℕ) → slice_index_or bits k false ≡ true → next ≤ at + k
-  pub few : valid ≤ N
-  pub inside : at + valid + N ≤ length src
-  pub after : at ≤ next
-  pub before : next < at + valid
-  pub room : to + 6 * (at + valid - next) + slack ≤ size
 
 -- a vector can be stored at `to`, whose first `left` lanes are the text's bytes from `from` on
 pub record CanStore (N slack : ℕ) (src : List ℕ) (from left to size : ℕ) : Type 0 where
@@ -167,11 +149,6 @@ pub record IsFinished {N : ℕ} (mode : Mode) (slack : ℕ) (src : List ℕ) (ol
   pub passed : Passed mode src border next
   pub stored : stored_of new + run_count mode (drop next src) ≤ stored_of old + run_count_after mode true (drop from src) + 1
   pub classified : ticks_new + stored_of old ≡ ticks_old + stored_of new
-
--- the text's clean bytes from `from` on, as far as the border, stand in a target from `to` on
-abbrev pub CleanAhead : {N : ℕ} → Mode → List ℕ → Target N → ℕ → ℕ → ℕ → Type 0
-CleanAhead mode src target from border to = (count : ℕ) → from + count ≤ border → ((p : ℕ) → from ≤ p → p < from + count → needs_escape mode (slice_index src p) ≡ false)
-    → take count (drop to (bytes_of target)) ≡ take count (drop from src)
 
 -- Vectors of a text from `at` on are there, and one more behind them. There is room for what their bytes from `from` on become,
 -- and for a vector.

@@ -6,7 +6,7 @@ ghost use Rattle.escape_lanes.specs.Replacement.{needs_escape};
 ghost use Rattle.escape_lanes.specs.Written.{bytes_of, stored_of, escaped_of, quotes_of, writes_of, IsSameSlice};
 ghost use Rattle.escape_simd.specs.Modes.{mode_numbered};
 ghost use Rattle.escape_simd.specs.Output.{inner};
-ghost use Rattle.escape_simd.specs.Stretch.{BeginsRun, Escaped, HoldsFlags, InRun, IsFlaggedAt, IsRun, run_end};
+ghost use Rattle.escape_simd.specs.Stretch.{BeginsRun, Escaped, HoldsFlags, IsFlaggedAt, IsRun, Stretch, run_end, run_reach};
 
 mod blocks;
 
@@ -110,7 +110,8 @@ fn escape_long_run<const MODE: u8, const N: usize>(
     requires bytewise { MODE < 2 }
     requires flagged { IsFlaggedAt (mode_numbered MODE) src.now at }
     requires room { to + 6 * (length src.now - at) + 2 ≤ length (bytes_of target.old) }
-    ensures run { InRun (mode_numbered MODE) src.now target.old target.new at result.0 to result.1 }
+    ensures stretch { Stretch (mode_numbered MODE) (run_reach (mode_numbered MODE)) src.now target.old target.new at result.0 to result.1 }
+    ensures stored { stored_of target.new ≡ stored_of target.old }
     ensures place { result.0 ≡ run_end (mode_numbered MODE) src.now at }
     ensures escaped { escaped_of target.new ≡ escaped_of target.old + (result.0 - at) }
 {

@@ -2,7 +2,7 @@ use Rattle.std.proofs.Common.{min}
 use Rattle.escape_simd.proofs.Words.{◌≡◌, ℕ, ◌+◌, ◌-◌, true, false, List, length, length-drop, take, take_all, drop, get_or, sym, ap, ◌∙◌, arith, bits_of, bytes_of, entry_count, Mode, needs_escape, mode_numbered}
 use Rattle.escape_simd.proofs.Escapes.{bytewise-below, entry-counts}
 use Rattle.escape_simd.proofs.ReplacementLemmas.{length-replacement}
-use Rattle.escape_simd.proofs.Run.{in_run-begin, in_run-later, in_run-onward, long-begins}
+use Rattle.escape_simd.proofs.Run.{in_run, in_run-begin, in_run-later, in_run-onward, long-begins}
 use Rattle.escape_simd.proofs.Stretches.{stretch-on}
 use Rattle.escape_simd.proofs.Texts.{run_end-stop, run_end-end, one≤passed}
 use Rattle.escape_simd.proofs.simd.util.escape_long_run.Goals as goal
@@ -33,7 +33,7 @@ runs-preserved g c =
     let mode = mode_numbered g.row.MODE in let src : List ℕ = c.args.src.now in let next : ℕ = c.runs.next in
     let text = take (length src - next) (drop next src) in let is = take_all (length src - next) (drop next src) (omega (arith, length-drop next src)) in
     let needed = counted mode (get_or src next 0) c.entry.result.now.0 c.entry.ensures.count (λ none. absurd (omega (arith, none, c.if-entry-eq0.false))) in
-    in_run-onward (record { inside = c.runs-test.true; needed = needed }) c.runs.invariant (in_run-later src text next is (omega (arith, c.runs-test.true)) c.escape_run-run.ensures.run)
+    in_run-onward (record { inside = c.runs-test.true; needed = needed }) c.runs.invariant (in_run-later src text next is (omega (arith, c.runs-test.true)) (in_run c.escape_run-run.ensures))
 
 pub returns-then-entry-eq0-clause-place : goal.returns-then-entry-eq0-clause-place
 returns-then-entry-eq0-clause-place g c =

@@ -1,4 +1,5 @@
-use Rattle.escape_simd.proofs.Words.{◌-◌, length, mode_numbered, InRun}
+use Rattle.escape_simd.proofs.Words.{◌-◌, length, mode_numbered}
+use Rattle.escape_simd.proofs.Run.{InRun}
 use Rattle.escape_simd.proofs.simd.util.escape_long_run.Given as goal
 
 abbrev pub invariant-runs : goal.invariant-runs

@@ -38,7 +38,11 @@ fn messages_of_refusals_among_errors_of_io(rt: HostRuntime) {
     let too_large = "input is too large to escape";
     prints(&rt, &io::Error::from(Refusal::TooLarge), too_large);
     prints(&rt, &io::Error::from(EscapeError::TooLarge), too_large);
-    prints(&rt, &io::Error::from(EscapeHtmlError::OutOfMemory), "out of memory");
+    prints(
+        &rt,
+        &io::Error::from(EscapeHtmlError::OutOfMemory),
+        "out of memory",
+    );
 }
 
 #[test]

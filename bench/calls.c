@@ -1,4 +1,4 @@
-/* Nanoseconds for a text by the calls from C, best of many rounds, as the rows of a table of docs/C.md. */
+/* Nanoseconds for a text by the calls from C, best of many rounds, as the rows of a table. */
 #include "escape.h"
 
 #include <stdio.h>

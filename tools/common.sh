@@ -177,7 +177,7 @@ build_anew() {
   # A program is run when it is built. What it does there is nothing to the build.
   (cd "$top/crates/$1" && rt "${words[@]}" </dev/null 2>&1) | tee "$log" | tell_progress "$started"
   if [ ! -e "$made" ]; then
-    tail -n 5 "$log" >&2
+    { grep ' error: \|: not proved$' "$log" || tail -n 5 "$log"; } | head -n 5 >&2
     say "$1 was not built: $log says why"
     return 1
   fi

@@ -60,17 +60,27 @@ static void measure_characters(struct output *output, const unsigned char *piece
     }
 }
 
+/* Writes the characters of UTF-8 bytes from the index `at` on. Returns the index after them. */
+static inline size_t decode(int kind, void *data, size_t at, const unsigned char *piece, const unsigned char *end) {
+    while (piece < end) {
+        Py_UCS4 c = *piece++;
+        if (c >= 0x80) {
+            if (c < 0xe0) c = (c & 31) << 6 | (piece[0] & 63u), piece += 1;
+            else if (c < 0xf0) c = (c & 15) << 12 | (piece[0] & 63u) << 6 | (piece[1] & 63u), piece += 2;
+            else c = (c & 7) << 18 | (piece[0] & 63u) << 12 | (piece[1] & 63u) << 6 | (piece[2] & 63u), piece += 3;
+        }
+        PyUnicode_WRITE(kind, data, at, c);
+        at++;
+    }
+    return at;
+}
+
+/* One loop for each kind. */
 static void write_characters(struct output *output, const unsigned char *piece, size_t count) {
     const unsigned char *end = piece + count;
-    size_t at = output->size;
-    for (; piece < end; at++) {
-        Py_UCS4 c = *piece++;
-        if (c >= 0xf0) c = (c & 7) << 18 | (piece[0] & 63u) << 12 | (piece[1] & 63u) << 6 | (piece[2] & 63u), piece += 3;
-        else if (c >= 0xe0) c = (c & 15) << 12 | (piece[0] & 63u) << 6 | (piece[1] & 63u), piece += 2;
-        else if (c >= 0xc0) c = (c & 31) << 6 | (piece[0] & 63u), piece += 1;
-        PyUnicode_WRITE(output->kind, output->data, at, c);
-    }
-    output->size = at;
+    if (output->kind == 1) output->size = decode(1, output->data, output->size, piece, end);
+    else if (output->kind == 2) output->size = decode(2, output->data, output->size, piece, end);
+    else output->size = decode(4, output->data, output->size, piece, end);
 }
 
 /* Returns the length of the next piece. It ends between two characters, if the text is UTF-8. */
@@ -142,39 +152,53 @@ static PyObject *escape_clean(const struct mode *mode, PyObject *text) {
     return output;
 }
 
+/* Returns a str with room for what was measured and for quotation marks. The output is then written to it. */
+static PyObject *new_str(struct output *output, size_t quotes) {
+    Py_UCS4 widest = output->greatest < 0x80 ? 0x7f : output->greatest < 0xc4 ? 0xff : output->greatest < 0xf0 ? 0xffff : 0x10ffff;
+    PyObject *answer = PyUnicode_New((Py_ssize_t)(output->size + 2 * quotes), widest);
+    if (!answer) return NULL;
+    output->data = PyUnicode_DATA(answer);
+    output->kind = (int)PyUnicode_KIND(answer);
+    output->size = quotes;
+    return answer;
+}
+
 /* Returns the output of at most PIECE bytes. */
 static PyObject *escape_short(const struct mode *mode, const struct text *text, int as_str) {
-    char output[ROOM + 2];
+    unsigned char piece[ROOM + 2];
     size_t quotes = mode->quotes, count;
-    if (text->escape(ESCAPE_DEFAULT, text->bytes, text->length, output + quotes, ROOM, &count) != ESCAPE_OK) return raise_not_utf8(text);
+    struct output output = {0};
+    PyObject *answer;
+    if (text->escape(ESCAPE_DEFAULT, text->bytes, text->length, (char *)piece + quotes, ROOM, &count) != ESCAPE_OK) return raise_not_utf8(text);
     if (count == text->length && count && PyUnicode_Check(text->object)) return escape_clean(mode, text->object);
-    if (quotes) output[0] = output[count + 1] = '"';
+    if (quotes) piece[0] = piece[count + 1] = '"';
     count += 2 * quotes;
-    return as_str ? PyUnicode_DecodeUTF8(output, (Py_ssize_t)count, NULL) : PyBytes_FromStringAndSize(output, (Py_ssize_t)count);
+    if (!as_str) return PyBytes_FromStringAndSize((char *)piece, (Py_ssize_t)count);
+    measure_characters(&output, piece, count);
+    answer = new_str(&output, 0);
+    if (answer) (output.greatest < 0x80 ? write_bytes : write_characters)(&output, piece, count);
+    return answer;
 }
 
 /* Returns the output of more bytes. It takes the memory of the output alone. */
 static PyObject *escape_long(const struct mode *mode, const struct text *text, int as_str) {
     int is_str = PyUnicode_Check(text->object), has_characters = as_str && !(is_str && PyUnicode_IS_ASCII(text->object));
-    struct output output = {.kind = 1, .is_text = 1};
+    struct output output = {.is_text = 1};
+    size_t quotes = mode->quotes, size;
     PyObject *answer;
-    size_t size;
     if (!escape_pieces(text->escape, text->bytes, text->length, has_characters ? measure_characters : measure_bytes, &output)) return raise_not_utf8(text);
     if (output.is_text && is_str) return escape_clean(mode, text->object);
-    size = output.size + 2 * mode->quotes;
-    if (as_str) {
-        Py_UCS4 widest = output.greatest < 0x80 ? 0x7f : output.greatest < 0xc4 ? 0xff : output.greatest < 0xf0 ? 0xffff : 0x10ffff;
-        if (!(answer = PyUnicode_New((Py_ssize_t)size, widest))) return NULL;
-        output.data = PyUnicode_DATA(answer);
-        output.kind = (int)PyUnicode_KIND(answer);
-    } else {
-        if (!(answer = PyBytes_FromStringAndSize(NULL, (Py_ssize_t)size))) return NULL;
+    size = output.size + 2 * quotes;
+    answer = as_str ? new_str(&output, quotes) : PyBytes_FromStringAndSize(NULL, (Py_ssize_t)size);
+    if (!answer) return NULL;
+    if (!as_str) {
         output.data = PyBytes_AS_STRING(answer);
+        output.size = quotes;
+        if (quotes) output.data[0] = output.data[size - 1] = '"';
+    } else if (quotes) {
+        write_quotes(answer);
     }
-    output.size = mode->quotes;
     escape_pieces(mode->unchecked, text->bytes, text->length, has_characters ? write_characters : write_bytes, &output);
-    if (mode->quotes && as_str) write_quotes(answer);
-    if (mode->quotes && !as_str) output.data[0] = output.data[size - 1] = '"';
     return answer;
 }
 

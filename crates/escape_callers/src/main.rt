@@ -1,12 +1,14 @@
 //! Callers of `escape_simd` and `escape_text`, one for each kind of user, and a program over them.
 #![tactic(auto)]
 
+mod document;
 mod entries;
 mod filter;
 mod page;
 mod report;
 mod stack;
 
+use document::append_document;
 use entries::{Entry, append_entry};
 use escape_simd::Refusal;
 use filter::filter;
@@ -14,7 +16,7 @@ use page::append_page;
 use report::write_report;
 use stack::write_label;
 use std::alloc::Global;
-use std::io::{self, BufReader, BufWriter, ErrorKind, Write};
+use std::io::{self, BufReader, BufWriter, Write};
 
 const NAME: &str = "Ann \"</script><b>\" O'Hara";
 
@@ -22,6 +24,8 @@ const ENTRIES: [Entry; 1] = [Entry {
     level: "info",
     message: NAME,
 }];
+
+const DOCUMENT: &str = r#"{"name":"</script>","note":"a\nb"}"#;
 
 fn main(rt: HostRuntime) -> io::Result<()> {
     let mut output = BufWriter::new(rt.alloc(), io::writer(&rt))?;
@@ -32,21 +36,19 @@ fn main(rt: HostRuntime) -> io::Result<()> {
 
 /// Writes what each caller but the filter makes.
 fn write_each<W: Write>(alloc: Global, output: &mut W) -> io::Result<()> {
-    // So short texts are refused for want of memory alone.
-    let Ok(bytes) = log_and_page(alloc) else {
-        return Err(ErrorKind::OutOfMemory.into());
-    };
-    output.write_all(bytes.as_slice())?;
+    output.write_all(log_and_pages(alloc)?.as_slice())?;
     write_report(&ENTRIES, output)?;
     write_label("tab\there", output)?;
     output.write_all(b"\n")
 }
 
-/// A log and a page, each on a line of its own.
-fn log_and_page(alloc: Global) -> Result<Vec<u8>, Refusal> {
+/// A log, a page and a script element, each on a line of its own.
+fn log_and_pages(alloc: Global) -> Result<Vec<u8>, Refusal> {
     let mut bytes = Vec::new(alloc);
     append_entry(&ENTRIES[0], &mut bytes)?;
     append_page("Guests", &[NAME, "Bo"], NAME, &mut bytes)?;
+    bytes.push(b'\n')?;
+    append_document(DOCUMENT, &mut bytes)?;
     bytes.push(b'\n')?;
     Ok(bytes)
 }

@@ -16,12 +16,12 @@ use crate::kernel::Kernel;
 use crate::mode::Mode;
 use crate::simd::{HTML_MODE, JSON_MODE, SCRIPT_MODE, avx2, avx512, neon, sse2, v128, whole};
 
-/// Writes the output of a text in the mode `mode` to the front of `dst`, with the kernel `kernel`. Returns the length of
-/// the output in bytes. The call allocates nothing and does not fail.
+/// Writes the output of a text in the mode `mode` to the front of `dst`, with the kernel `kernel`. Returns the length
+/// of the output in bytes. The call allocates nothing and does not fail.
 ///
-/// For a text of `n` bytes, `dst` must have at least `6 * n + 35` bytes, in HTML `6 * n + 32` ([`Mode::capacity`]). The
-/// bytes of `dst` from that index on are unchanged, and so are those that are a vector (16, 32 or 64 bytes) or more past
-/// the end of the output. The bytes between may have changed. All kernels write the same output.
+/// For a text of `n` bytes, `dst` must have at least `6 * n + 35` bytes, in HTML `6 * n + 32` ([`Mode::capacity`]).
+/// The bytes of `dst` from that index on are unchanged, and so are those that are a vector (16, 32 or 64 bytes) or more
+/// past the end of the output. The bytes between may have changed. All kernels write the same output.
 ///
 /// ```text
 /// let mut dst = [0; 38];
@@ -242,7 +242,7 @@ pub fn format_script_inner(kernel: Kernel, value: &str, dst: &mut [u8]) -> usize
 
 /// Writes the output for the text in the mode numbered `MODE` by the kernel.
 ///
-/// The default kernel is asked for alone: so that takes one comparison, and no jump by a table.
+/// The default kernel is compared first: so it takes one comparison, and no jump by a table.
 fn format_by<const MODE: u8>(kernel: Kernel, value: &str, dst: &mut [u8]) -> usize
     requires { bound (mode_numbered MODE) (length value.now) ≤ length dst.old }
     ensures { IsWritten (lanes_of kernel) (mode_numbered MODE) value.now dst.old dst.new result }

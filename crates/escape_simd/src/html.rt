@@ -1,5 +1,5 @@
 //! HTML text in which six bytes are written as entities: `"`, `&`, `'`, `/`, `<` and `>`.
-ghost use Rattle.std.specs.Prelude.{◌≡◌, ◌+◌, ◌*◌, ◌<◌, ◌≤◌, ◌↔◌, ◌++◌, length, string_bytes, vec_len, vec_capacity, Err, IsOk, IsErr, IfOk, OnOk, OnErr};
+ghost use Rattle.std.specs.Prelude.{◌≡◌, ◌+◌, ◌*◌, ◌<◌, ◌≤◌, ◌^◌, ◌↔◌, ◌++◌, length, string_bytes, vec_len, vec_capacity, Err, IsOk, IsErr, IfOk, OnOk, OnErr};
 ghost use Rattle.escape_lanes.specs.Mode.{html};
 ghost use Rattle.escape_simd.specs.Output.{plain, bound};
 ghost use Rattle.escape_simd.specs.Escaping.{IsEscaping};
@@ -57,13 +57,14 @@ pub fn html_capacity(len: usize) -> Result<usize, InputTooLarge>
 /// # Errors
 ///
 /// - [`EscapeHtmlError::TooLarge`]: `6 * n + 32` exceeds `usize::MAX`.
-/// - [`EscapeHtmlError::OutOfMemory`]: the allocator refused the memory.
+/// - [`EscapeHtmlError::OutOfMemory`]: the allocator refused the memory, or the size exceeds `isize::MAX`.
 ///
 /// ```text
 /// escape_html(alloc, "<a href='/x'>")? == "&lt;a href=&#x27;&#x2f;x&#x27;&gt;"
 /// ```
 pub fn escape_html(alloc: Global, value: &str) -> Result<String, EscapeHtmlError>
     ensures output { IfOk result (λ output. IsEscaping html value.now (string_bytes output)) }
+    ensures vector_size { OnOk result (bound html (length value.now) < 2 ^ 63) }
     ensures too_large { (result ≡ Err (EscapeHtmlError.TooLarge (record {})))
         ↔ (usize.MAX < bound html (length value.now)) }
 {
@@ -82,6 +83,7 @@ pub fn escape_html(alloc: Global, value: &str) -> Result<String, EscapeHtmlError
 /// ```
 pub fn escape_html_in<A: Allocator>(alloc: A, value: &str) -> Result<String<A>, EscapeHtmlError>
     ensures output { IfOk result (λ output. IsEscaping html value.now (string_bytes output)) }
+    ensures vector_size { OnOk result (bound html (length value.now) < 2 ^ 63) }
     ensures too_large { (result ≡ Err (EscapeHtmlError.TooLarge (record {})))
         ↔ (usize.MAX < bound html (length value.now)) }
 {
@@ -110,6 +112,7 @@ pub fn escape_html_into<A: Allocator>(
     ensures output { OnOk result (IsEscaping html value.now
         (appended dst.old.items dst.new.items)) }
     ensures unchanged { OnErr result (dst.new.items ≡ dst.old.items) }
+    ensures vector_size { OnOk result (vec_len dst.old + bound html (length value.now) < 2 ^ 63) }
     ensures too_large { (result ≡ Err (EscapeHtmlError.TooLarge (record {})))
         ↔ (usize.MAX < bound html (length value.now)) }
     ensures has_room { vec_len dst.old + bound html (length value.now)

@@ -1,5 +1,5 @@
 //! JSON string literals (RFC 8259, section 7), and literals that are safe inside a script element.
-ghost use Rattle.std.specs.Prelude.{◌≡◌, ◌+◌, ◌*◌, ◌<◌, ◌≤◌, ◌↔◌, ◌++◌, length, string_bytes, vec_len, vec_capacity, Err, IsOk, IsOkUnless, IfOk, OnOk, OnErr};
+ghost use Rattle.std.specs.Prelude.{◌≡◌, ◌+◌, ◌*◌, ◌<◌, ◌≤◌, ◌^◌, ◌↔◌, ◌++◌, length, string_bytes, vec_len, vec_capacity, Err, IsOk, IsOkUnless, IfOk, OnOk, OnErr};
 ghost use Rattle.escape_lanes.specs.Mode.{json, script};
 ghost use Rattle.escape_simd.specs.Output.{plain, bound};
 ghost use Rattle.escape_simd.specs.Escaping.{IsEscaping};
@@ -57,13 +57,14 @@ pub fn json_capacity(len: usize) -> Result<usize, EscapeError>
 /// # Errors
 ///
 /// - [`EscapeError::TooLarge`]: `6 * n + 35` exceeds `usize::MAX`.
-/// - [`EscapeError::OutOfMemory`]: the allocator refused the memory.
+/// - [`EscapeError::OutOfMemory`]: the allocator refused the memory, or the size exceeds `isize::MAX`.
 ///
 /// ```text
 /// escape(alloc, "a\"\n")? == "\"a\\\"\\n\""
 /// ```
 pub fn escape(alloc: Global, value: &str) -> Result<String, EscapeError>
     ensures output { IfOk result (λ output. IsEscaping json value.now (string_bytes output)) }
+    ensures vector_size { OnOk result (bound json (length value.now) < 2 ^ 63) }
     ensures too_large { (result ≡ Err EscapeError.TooLarge)
         ↔ (usize.MAX < bound json (length value.now)) }
 {
@@ -82,6 +83,7 @@ pub fn escape(alloc: Global, value: &str) -> Result<String, EscapeError>
 /// ```
 pub fn escape_in<A: Allocator>(alloc: A, value: &str) -> Result<String<A>, EscapeError>
     ensures output { IfOk result (λ output. IsEscaping json value.now (string_bytes output)) }
+    ensures vector_size { OnOk result (bound json (length value.now) < 2 ^ 63) }
     ensures too_large { (result ≡ Err EscapeError.TooLarge)
         ↔ (usize.MAX < bound json (length value.now)) }
 {
@@ -107,6 +109,7 @@ pub fn escape_into<A: Allocator>(value: &str, dst: &mut Vec<u8, A>) -> Result<()
     ensures output { OnOk result (IsEscaping json value.now
         (appended dst.old.items dst.new.items)) }
     ensures unchanged { OnErr result (dst.new.items ≡ dst.old.items) }
+    ensures vector_size { OnOk result (vec_len dst.old + bound json (length value.now) < 2 ^ 63) }
     ensures too_large { (result ≡ Err EscapeError.TooLarge)
         ↔ (usize.MAX < bound json (length value.now)) }
     ensures has_room { vec_len dst.old + bound json (length value.now)
@@ -134,6 +137,7 @@ pub fn escape_into<A: Allocator>(value: &str, dst: &mut Vec<u8, A>) -> Result<()
 pub fn escape_script(alloc: Global, value: &str) -> Result<String, EscapeError>
     ensures output { IfOk result (λ output. IsEscaping script value.now (string_bytes output)) }
     ensures safe { IfOk result (λ output. IsSafeInScript (string_bytes output)) }
+    ensures vector_size { OnOk result (bound script (length value.now) < 2 ^ 63) }
     ensures too_large { (result ≡ Err EscapeError.TooLarge)
         ↔ (usize.MAX < bound script (length value.now)) }
 {
@@ -153,6 +157,7 @@ pub fn escape_script(alloc: Global, value: &str) -> Result<String, EscapeError>
 pub fn escape_script_in<A: Allocator>(alloc: A, value: &str) -> Result<String<A>, EscapeError>
     ensures output { IfOk result (λ output. IsEscaping script value.now (string_bytes output)) }
     ensures safe { IfOk result (λ output. IsSafeInScript (string_bytes output)) }
+    ensures vector_size { OnOk result (bound script (length value.now) < 2 ^ 63) }
     ensures too_large { (result ≡ Err EscapeError.TooLarge)
         ↔ (usize.MAX < bound script (length value.now)) }
 {
@@ -185,6 +190,7 @@ pub fn escape_script_into<A: Allocator>(
         (appended dst.old.items dst.new.items)) }
     ensures safe { OnOk result (IsSafeInScript (appended dst.old.items dst.new.items)) }
     ensures unchanged { OnErr result (dst.new.items ≡ dst.old.items) }
+    ensures vector_size { OnOk result (vec_len dst.old + bound script (length value.now) < 2 ^ 63) }
     ensures too_large { (result ≡ Err EscapeError.TooLarge)
         ↔ (usize.MAX < bound script (length value.now)) }
     ensures has_room { vec_len dst.old + bound script (length value.now)

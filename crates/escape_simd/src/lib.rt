@@ -39,4 +39,4 @@ pub use format::{
 };
 pub use kernel::Kernel;
 pub use mode::Mode;
-pub use output::{PIECE, Refusal};
+pub use output::Refusal;

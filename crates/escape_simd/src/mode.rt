@@ -23,8 +23,8 @@ pub enum Mode {
 }
 
 impl Mode {
-    /// Returns the size in bytes that a slice must have for the output of a text of `len` bytes: `6 * len + 35`, in HTML
-    /// `6 * len + 32`.
+    /// Returns the size in bytes that a slice must have for the output of a text of `len` bytes: `6 * len + 35`, in
+    /// HTML `6 * len + 32`.
     ///
     /// # Errors
     ///

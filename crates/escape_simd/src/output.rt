@@ -1,7 +1,7 @@
 //! The calls on which further calls are built. Each has the number of the mode as its constant parameter `MODE`:
 //! [`JSON_MODE`](crate::simd::JSON_MODE), [`HTML_MODE`] or [`SCRIPT_MODE`](crate::simd::SCRIPT_MODE). No other number is
 //! accepted.
-ghost use Rattle.std.specs.Prelude.{◌≡◌, ◌+◌, ◌*◌, ◌<◌, ◌≤◌, ◌↔◌, ◌++◌, length, take, chars, string_bytes, vec_len, vec_capacity, Err, IsOk, IfOk, OnOk, OnErr, IfSome, IsNone};
+ghost use Rattle.std.specs.Prelude.{◌≡◌, ◌+◌, ◌*◌, ◌<◌, ◌≤◌, ◌^◌, ◌↔◌, ◌++◌, length, take, chars, string_bytes, vec_len, vec_capacity, Err, IsOk, IfOk, OnOk, OnErr, IfSome, IsNone};
 ghost use Rattle.escape_simd.specs.Modes.{mode_numbered};
 ghost use Rattle.escape_simd.specs.Output.{plain, inner, quote_of, bound};
 ghost use Rattle.escape_simd.specs.Spelling.{IsTextOf};
@@ -22,8 +22,7 @@ use bytes::{append_last, append_long};
 pub use clean::is_clean;
 pub use error::Refusal;
 pub use length::escaped_len;
-pub use push::PIECE;
-use push::push_all;
+use push::push_quote;
 use std::alloc::Allocator;
 
 /// The vector by which texts are appended, and how many bytes it has.
@@ -31,7 +30,7 @@ type V = Simd256u;
 
 const N: usize = 32;
 
-/// Returns the bound for a text of `len` bytes, which is the size in bytes that a slice needs for the output:
+/// Returns the bound for a text of `len` bytes, the size in bytes that a slice must have for the output:
 /// `6 * len + 35`, in HTML `6 * len + 32`. Returns `None` if that exceeds `usize::MAX`.
 ///
 /// ```text
@@ -66,10 +65,11 @@ pub fn quote<const MODE: u8>() -> &'static str
     if MODE == HTML_MODE { "" } else { "\"" }
 }
 
-/// Writes what stands for the text, with no quotation marks, to `dst` from `at` on, and returns the place after it. The
-/// bytes before `at` stay.
+/// Writes the output of a text in the mode `MODE`, without its quotation marks, to `dst` from the index `at` on.
+/// Returns the index after it. The call allocates nothing and does not fail.
 ///
-/// `dst` must have room from `at` on for `6 * n + 32` bytes for a text of `n` bytes.
+/// For a text of `n` bytes, `dst` must have at least `6 * n + 32` bytes from `at` on. Its bytes before `at` are
+/// unchanged. Those from the returned index on may have changed.
 ///
 /// ```text
 /// write_inner::<{ HTML_MODE }>("<", &mut dst, 0) == 4 // dst begins with &lt;
@@ -85,13 +85,12 @@ pub fn write_inner<const MODE: u8>(value: &str, dst: &mut [u8], at: usize) -> us
     escape_at::<V, MODE, N>(value.as_bytes(), dst, at)
 }
 
-/// Appends the output for the text to a vector that has room for it.
+/// Appends the output of a text to a vector that has room for it.
 fn append_output<const MODE: u8, A: Allocator>(value: &str, dst: &mut Vec<u8, A>)
-    requires mode { MODE ≤ 2 }
-    requires room { vec_len dst.old + bound (mode_numbered MODE) (length value.now) ≤ vec_capacity dst.old }
+    requires { vec_len dst.old + bound (mode_numbered MODE) (length value.now) ≤ vec_capacity dst.old }
     ensures { dst.new.items ≡ dst.old.items ++ plain (mode_numbered MODE) value.now }
 {
-    push_all(dst, quote::<MODE>().as_bytes());
+    push_quote::<MODE, A>(dst);
     let text = value.as_bytes();
     if text.len() < 2 * N {
         return append_last::<MODE, A>(text, dst);
@@ -107,7 +106,7 @@ fn append_output<const MODE: u8, A: Allocator>(value: &str, dst: &mut Vec<u8, A>
 /// # Errors
 ///
 /// - [`Refusal::TooLarge`]: the bound exceeds `usize::MAX`.
-/// - [`Refusal::OutOfMemory`]: the allocator refused the memory.
+/// - [`Refusal::OutOfMemory`]: the allocator refused the memory, or `dst` would have to hold more than `isize::MAX` bytes.
 ///
 /// `dst` is unchanged after each.
 ///
@@ -124,6 +123,7 @@ pub fn append<const MODE: u8, A: Allocator>(
     ensures too_large { (result ≡ Err Refusal.TooLarge)
         ↔ (usize.MAX < bound (mode_numbered MODE) (length value.now)) }
     ensures fits { OnOk result (bound (mode_numbered MODE) (length value.now) ≤ usize.MAX) }
+    ensures vector_size { OnOk result (vec_len dst.old + bound (mode_numbered MODE) (length value.now) < 2 ^ 63) }
     ensures has_room { vec_len dst.old + bound (mode_numbered MODE) (length value.now)
         ≤ vec_capacity dst.old → IsOk result }
 {
@@ -135,7 +135,7 @@ pub fn append<const MODE: u8, A: Allocator>(
     Ok(())
 }
 
-/// Returns the output for the text.
+/// Returns the output of a text in the mode `MODE`, in memory of `alloc`.
 pub(crate) fn text<const MODE: u8, A: Allocator>(
     alloc: A,
     value: &str,
@@ -151,6 +151,7 @@ pub(crate) fn text<const MODE: u8, A: Allocator>(
         value.now (string_bytes output)) }
     ensures len { IfOk result (λ output. HasOutputLength (mode_numbered MODE)
         (length value.now) (string_bytes output)) }
+    ensures vector_size { OnOk result (bound (mode_numbered MODE) (length value.now) < 2 ^ 63) }
     ensures too_large { (result ≡ Err Refusal.TooLarge)
         ↔ (usize.MAX < bound (mode_numbered MODE) (length value.now)) }
 {

@@ -1,23 +1,23 @@
-//! Why a run ended early.
+//! The error of a run.
 ghost use Rattle.std.specs.Prelude.{Some};
 ghost use Rattle.escape_stream.specs.Fault.{fault_text};
 
 use std::error::Error;
 use std::fmt;
 
-/// Why [`run`](crate::run) ended without writing the whole output.
+/// The error of [`run`](crate::run): why the whole output was not written.
 #[derive(Clone, Copy, Debug, PartialEq, Eq)]
 pub enum ToolFault {
-    /// A read answered an error, of any kind. The output is as it was.
+    /// A read returned an error, of any kind. The output is unchanged.
     ReadFailed,
-    /// The whole input isn't UTF-8. The output is as it was.
+    /// The whole input is not UTF-8. The output is unchanged.
     NotUtf8,
-    /// The room that the output may take passes `usize::MAX`. The output is as it was.
+    /// The bound for the input exceeds `usize::MAX`. The output is unchanged.
     TooLarge,
-    /// Memory for the input or for the escaped bytes was refused. The output is as it was.
+    /// The allocator refused memory for the input or for a piece of the output. The output is unchanged.
     OutOfMemory,
-    /// A write took nothing, or a write or the flush answered an error. The output has grown by a
-    /// beginning of the escaped bytes, perhaps by all of them.
+    /// A write took no bytes, or a write or the flush returned an error. The output has taken a prefix of the escaped
+    /// bytes, or all of them.
     WriteFailed,
 }
 

@@ -1,4 +1,4 @@
-//! The output for a text to a formatter.
+//! The output of a text, to a formatter.
 ghost use Rattle.std.specs.Prelude.{◌≤◌, IsTrue};
 ghost use Rattle.std.specs.Fmt.{WritesOnOk, IsPlainFormatter, HasWritten};
 ghost use Rattle.escape_simd.specs.Modes.{mode_numbered};
@@ -23,7 +23,7 @@ impl<W: fmt::Write> Sink<fmt::Formatter<W>> for ToFormatter {
     }
 }
 
-/// Writes the output for the text.
+/// Writes the output of a text in the mode `MODE` to the formatter.
 pub(crate) fn display<const MODE: u8, W: fmt::Write>(
     value: &str,
     f: &mut fmt::Formatter<W>,

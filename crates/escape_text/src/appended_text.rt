@@ -1,4 +1,4 @@
-//! The output for a text at the end of a `String`.
+//! The output of a text, at the end of a `String`.
 ghost use Rattle.std.specs.Prelude.{◌≡◌, ◌+◌, ◌<◌, ◌≤◌, ◌↔◌, ◌++◌, length, string_bytes, string_len, string_capacity, Err, IsOk, OnOk, OnErr};
 ghost use Rattle.escape_simd.specs.Modes.{mode_numbered};
 ghost use Rattle.escape_simd.specs.Output.{plain, bound};
@@ -7,7 +7,7 @@ use core::mem::replace_with;
 use escape_simd::output::{Refusal, append};
 use std::alloc::Allocator;
 
-/// Appends the output for the text.
+/// Appends the output of a text in the mode `MODE` to `dst`.
 pub(crate) fn append_text<const MODE: u8, A: Allocator>(
     value: &str,
     dst: &mut String<A>,
@@ -24,7 +24,7 @@ pub(crate) fn append_text<const MODE: u8, A: Allocator>(
     replace_with(dst, value, appended::<MODE, A>)
 }
 
-/// Returns the text with the output appended.
+/// Returns `dst` with the output appended, or as it was after an error.
 fn appended<const MODE: u8, A: Allocator>(
     dst: String<A>,
     value: &str,

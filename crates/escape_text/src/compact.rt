@@ -22,7 +22,9 @@ pub(crate) fn compact_text<const MODE: u8, A: Allocator>(
         return Err(Refusal::TooLarge);
     };
     let mut bytes = Vec::with_capacity(alloc, len)?;
-    bytes.resize(len, 0)?;
+    let Ok(()) = bytes.resize(len, 0) else {
+        unreachable!()
+    };
     write_exact::<MODE>(value, &mut bytes);
     // The output for a text is a text.
     Ok(unsafe { String::from_utf8_unchecked(bytes) })

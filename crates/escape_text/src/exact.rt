@@ -7,16 +7,15 @@ use crate::piecewise::{escape_inner, split_front};
 use escape_simd::output::{quote, write_inner};
 use escape_simd::simd::target::Target;
 
-/// How many bytes at the end of an output are made in an array.
+/// The number of bytes at the end of an output that are made in an array.
 const END: usize = 64;
 
 /// The size of the array: six bytes for each of them, and a vector.
 const END_ROOM: usize = 6 * END + 32;
 
-/// Writes the output for the text in the mode numbered `MODE` to `dst`, and to all of it.
+/// Writes the output of a text in the mode `MODE` to `dst`, and fills it. The call allocates nothing and does not fail.
 ///
-/// `dst` must have the output's own length, which [`escaped_len`](escape_simd::output::escaped_len) returns.
-/// No memory is allocated.
+/// `dst` must have the length of the output, which [`escaped_len`](escape_simd::output::escaped_len) returns.
 ///
 /// ```text
 /// write_exact::<{ JSON_MODE }>("a\n", &mut dst[..5]) // dst begins with "a\n", with its quotes
@@ -33,7 +32,7 @@ pub fn write_exact<const MODE: u8>(value: &str, dst: &mut [u8])
     dst[last..].copy_from_slice(quote);
 }
 
-/// Writes what stands for the bytes of a text to `dst`, and to all of it.
+/// Writes the output of a text without its quotation marks to `dst`, and fills it.
 fn write_exact_inner<const MODE: u8>(value: &str, dst: &mut [u8])
     requires mode { MODE ≤ 2 }
     requires room { length dst.old ≡ length (inner (mode_numbered MODE) value.now) }
@@ -53,7 +52,7 @@ fn write_exact_inner<const MODE: u8>(value: &str, dst: &mut [u8])
     write_end::<MODE>(rest, dst, at);
 }
 
-/// Writes what stands for the last bytes of a text to all that is left of `dst` from `at` on.
+/// Writes the output of the last bytes of a text, without quotation marks, to `dst` from `at` on, and fills it.
 fn write_end<const MODE: u8>(rest: &str, dst: &mut [u8], at: usize)
     requires mode { MODE ≤ 2 }
     requires few { length dst.old ≤ at + END }

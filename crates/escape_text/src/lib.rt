@@ -1,12 +1,14 @@
-//! Escaped text where it goes: to `write!` and `format!`, to writers, onto `String`s, and many texts at
-//! once.
+//! Writes the outputs of `escape_simd` to formatters, writers and `String`s, and those of many texts to a vector.
 //!
-//! [`json::Escaped`], [`json::EscapedScript`] and [`html::Escaped`] are for `write!`, `print!` and
-//! `format!`; [`json::escape_to_writer`] and its kin write to an `io::Write`. Both ask for no memory:
-//! the output is made in an array, piece by piece. [`json::escape_into_string`] and its kin append to
-//! a `String`. [`json::escape_compact`] and its kin answer a `String` of the output's own length, and
-//! [`html::escape_html_cow`] the text itself where it is clean. [`json::escape_array_into`] and
-//! [`json::escape_joined_into`] append many texts to a vector. What each output is, `escape_simd` says.
+//! - [`json::Escaped`], [`json::EscapedScript`] and [`html::Escaped`] are for `write!`, `print!` and `format!`.
+//!   [`json::escape_to_writer`], [`json::escape_script_to_writer`] and [`html::escape_html_to_writer`] write to an
+//!   `io::Write`. They allocate nothing: the output is made in an array on the stack.
+//! - [`json::escape_into_string`], [`json::escape_script_into_string`] and [`html::escape_html_into_string`] append to
+//!   a `String`.
+//! - [`json::escape_compact`], [`json::escape_script_compact`] and [`html::escape_html_compact`] return a `String` that
+//!   reserves the length of the output and no more. [`html::escape_html_cow`] borrows a text that needs no escape.
+//! - [`json::escape_array_into`], [`json::escape_script_array_into`], [`json::escape_joined_into`] and
+//!   [`html::escape_html_joined_into`] append many texts to a vector.
 //!
 //! ```text
 //! write!(page, "<p title=\"{}\">", html::Escaped("a \"b\""))?; // <p title="a &quot;b&quot;">

@@ -1,4 +1,4 @@
-//! The outputs for many texts, with something between them.
+//! The outputs of many texts, with a text between each two.
 ghost use Rattle.std.specs.Prelude.{◌≡◌, ◌<◌, ◌≤◌, ◌↔◌, ◌++◌, ◌==◌, [], length, take, All, Err, OnOk, OnErr, IfErr, IfSome, slice_get, vec_len, if◌then◌else◌};
 ghost use Rattle.std.specs.List.{join_by};
 ghost use Rattle.escape_text.specs.Lists.{array_of};
@@ -9,12 +9,12 @@ use escape_simd::output::{Refusal, append, scratch_bound};
 use std::alloc::Allocator;
 use std::fmt;
 
-/// Why a list of texts was not written whole, and how many of its texts were.
+/// The error of the calls that append a list: how many texts were appended, and why the next one was refused.
 #[derive(Debug, Clone, Copy, PartialEq, Eq)]
 pub struct ListError<E> {
-    /// How many texts stand, with what is between them.
+    /// The number of texts that were appended, with the separators between them.
     pub written: usize,
-    /// Why the next does not.
+    /// The reason for which the next text was refused.
     pub reason: E,
 }
 
@@ -25,6 +25,7 @@ impl<E: fmt::Display> fmt::Display for ListError<E> {
     ghost output = { λ e. E.output e.reason
         ++? Some (codes ", after ") ++? Some (decimal e.written) ++? Some (codes " texts") };
 
+    /// Writes the reason and the number, as "out of memory, after 2 texts".
     fn fmt<W: fmt::Write>(&self, f: &mut fmt::Formatter<W>) -> fmt::Result {
         let reason = &self.reason;
         let written = self.written;
@@ -37,13 +38,13 @@ impl<E: std::error::Error> std::error::Error for ListError<E> {}
 impl<E: Into<Refusal>> From<ListError<E>> for Refusal {
     ghost from_gives = { λ stop refusal. E.converts stop.reason refusal };
 
-    /// Returns the reason as a [`Refusal`]. So `?` serves a caller that also writes single texts.
+    /// Returns the reason as a [`Refusal`], so that `?` also converts the errors of single texts.
     fn from(stop: ListError<E>) -> Refusal {
         stop.reason.into()
     }
 }
 
-/// Appends what stands between, and the output for the text.
+/// Appends `between`, and the output of a text. After an error `dst` is unchanged.
 fn append_after<const MODE: u8, A: Allocator>(
     between: &str,
     value: &str,
@@ -69,15 +70,14 @@ fn append_after<const MODE: u8, A: Allocator>(
     appended
 }
 
-/// Nothing before the first, and what stands between before each other.
+/// Returns the text to append before text `count`: none before the first, and `between` before each other one.
 fn before(count: usize, between: &str) -> &str
     ensures { result.now ≡ (if count == 0 then [] else between.now) }
 {
     if count == 0 { "" } else { between }
 }
 
-/// Appends the outputs for the texts, with `between` between each two, and stops at the first that is
-/// refused.
+/// Appends the outputs of the texts, with `between` between each two, and stops at the first text that is refused.
 pub(crate) fn append_joined<const MODE: u8, A: Allocator>(
     values: &[&str],
     between: &str,
@@ -104,7 +104,7 @@ pub(crate) fn append_joined<const MODE: u8, A: Allocator>(
     Ok(())
 }
 
-/// Appends the array of the literals for the texts. After a refusal it holds its old bytes.
+/// Appends a JSON array of the literals of the texts. After an error `dst` is unchanged.
 pub(crate) fn append_array<const MODE: u8, A: Allocator>(
     values: &[&str],
     dst: &mut Vec<u8, A>,
@@ -122,7 +122,7 @@ pub(crate) fn append_array<const MODE: u8, A: Allocator>(
     appended
 }
 
-/// Appends the same, and leaves what was appended before a refusal.
+/// Appends what [`append_array`] appends. After an error `dst` keeps what was appended before it.
 fn append_brackets<const MODE: u8, A: Allocator>(
     values: &[&str],
     dst: &mut Vec<u8, A>,

@@ -1,4 +1,4 @@
-//! The output for a text, written to a sink: at once, or piece by piece.
+//! The output of a text, written to a sink at once or piece by piece.
 ghost use Rattle.std.specs.Prelude.{◌≡◌, ◌+◌, ◌*◌, ◌<◌, ◌≤◌, ◌++◌, length, take, IsUtf8, is_ok};
 ghost use Rattle.escape_simd.specs.Modes.{mode_numbered};
 ghost use Rattle.escape_simd.specs.Output.{plain, inner};
@@ -6,23 +6,25 @@ ghost use Rattle.escape_simd.specs.Output.{plain, inner};
 use crate::sink::Sink;
 use escape_simd::output::{is_clean, quote, write_inner};
 
-/// How many bytes a text has at most that is escaped at once.
+/// The largest number of bytes of a text that is escaped at once.
 const SHORT: usize = 79;
 
-/// The size of the array for it: six bytes for each of its bytes, two quotation marks, and a vector.
+/// The size of the array for it: six bytes for each byte, two quotation marks, and a vector.
 const SHORT_ROOM: usize = 6 * SHORT + 34;
 
-/// How many bytes of a longer text are tested at a time. So few are still in the first cache when they are written.
+/// The largest number of bytes of a longer text that are tested at a time. They are still in the first cache when they
+/// are written.
 const FRONT: usize = 8192;
 
-/// How many bytes are escaped at a time, if a test finds a byte that needs an escape.
+/// The largest number of bytes that are escaped at a time, if the test finds a byte that needs an escape.
 const PIECE: usize = 512;
 
 /// The size of the array for them: six bytes for each, and a vector.
 const ROOM: usize = 6 * PIECE + 32;
 
-/// Writes the output for the text. An array is filled with zeros before it is written: so a short text has a small
-/// one, and bytes that need no escape have none.
+/// Writes the output of a text in the mode `MODE` to the sink.
+///
+/// An array is filled with zeros before it is written to. So a short text has a small one, and clean bytes have none.
 pub(crate) fn send<const MODE: u8, D, S: Sink<D>>(value: &str, dst: &mut D) -> Result<(), S::Error>
     requires mode { MODE ≤ 2 }
     ensures { S.sends dst.old (is_ok result) (plain (mode_numbered MODE) value.now) dst.new }
@@ -36,7 +38,7 @@ pub(crate) fn send<const MODE: u8, D, S: Sink<D>>(value: &str, dst: &mut D) -> R
     S::put(quote::<MODE>(), dst)
 }
 
-/// Writes what stands for the bytes of a text, front by front.
+/// Writes the output of a text without its quotation marks, front by front.
 fn send_inner<const MODE: u8, D, S: Sink<D>>(value: &str, dst: &mut D) -> Result<(), S::Error>
     requires mode { MODE ≤ 2 }
     ensures { S.sends dst.old (is_ok result) (inner (mode_numbered MODE) value.now) dst.new }
@@ -50,7 +52,7 @@ fn send_inner<const MODE: u8, D, S: Sink<D>>(value: &str, dst: &mut D) -> Result
     Ok(())
 }
 
-/// Writes what stands for the bytes of a text, which is the text itself if it needs no escape.
+/// Writes the output of a front without quotation marks: the front itself if nothing in it needs an escape.
 fn send_front<const MODE: u8, D, S: Sink<D>>(front: &str, dst: &mut D) -> Result<(), S::Error>
     requires mode { MODE ≤ 2 }
     ensures { S.sends dst.old (is_ok result) (inner (mode_numbered MODE) front.now) dst.new }
@@ -61,7 +63,7 @@ fn send_front<const MODE: u8, D, S: Sink<D>>(front: &str, dst: &mut D) -> Result
     send_pieces::<MODE, D, S>(front, dst)
 }
 
-/// Writes what stands for the bytes of a text, escaped piece by piece.
+/// Writes the output of a front without quotation marks, piece by piece.
 #[inline(never)]
 fn send_pieces<const MODE: u8, D, S: Sink<D>>(front: &str, dst: &mut D) -> Result<(), S::Error>
     requires mode { MODE ≤ 2 }
@@ -77,7 +79,7 @@ fn send_pieces<const MODE: u8, D, S: Sink<D>>(front: &str, dst: &mut D) -> Resul
     Ok(())
 }
 
-/// Returns the front of a text, of at most `most` bytes, and what is left of it.
+/// Returns the longest front of a text that has at most `most` bytes and ends at a character, and the rest of the text.
 pub(crate) fn split_front(text: &str, most: usize) -> (&str, &str)
     requires { 4 ≤ most }
     ensures joined { text.now ≡ result.0.now ++ result.1.now }
@@ -88,7 +90,7 @@ pub(crate) fn split_front(text: &str, most: usize) -> (&str, &str)
     text.split_at(text.floor_char_boundary(most.min(text.len())))
 }
 
-/// Returns the output for a text, written in `room`.
+/// Returns the output of a text, which it writes to `room`.
 #[inline(always)]
 fn escape_short<'r, const MODE: u8>(text: &str, room: &'r mut [u8]) -> &'r str
     requires mode { MODE ≤ 2 }
@@ -103,7 +105,7 @@ fn escape_short<'r, const MODE: u8>(text: &str, room: &'r mut [u8]) -> &'r str
     unsafe { str::from_utf8_unchecked(&room[..end + quote.len()]) }
 }
 
-/// Returns what stands for the bytes of a text, written in `room`.
+/// Returns the output of a text without its quotation marks, which it writes to `room`.
 #[inline(always)]
 pub(crate) fn escape_inner<'r, const MODE: u8>(text: &str, room: &'r mut [u8]) -> &'r str
     requires mode { MODE ≤ 2 }

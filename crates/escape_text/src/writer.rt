@@ -1,4 +1,4 @@
-//! The output for a text to a writer.
+//! The output of a text, to a writer.
 ghost use Rattle.std.specs.Prelude.{◌≤◌, length, OnOk, OnErr};
 ghost use Rattle.std.specs.Io.KnownBytes.{Appends};
 ghost use Rattle.escape_simd.specs.Modes.{mode_numbered};
@@ -24,7 +24,7 @@ impl<W: Write> Sink<W> for ToWriter {
     }
 }
 
-/// Writes the output for the text, and does not flush.
+/// Writes the output of a text in the mode `MODE` to `writer`, and does not flush.
 pub(crate) fn write_output<const MODE: u8, W: Write>(value: &str, writer: &mut W) -> Result<()>
     requires mode { MODE ≤ 2 }
     ensures whole { OnOk result (Appends (W.contents writer.old) (W.contents writer.new)
@@ -35,13 +35,14 @@ pub(crate) fn write_output<const MODE: u8, W: Write>(value: &str, writer: &mut W
     send::<MODE, W, ToWriter>(value, writer)
 }
 
-/// Writes all the bytes to `writer`, and does not flush: `Write::write_all` with a promise of what an error
-/// leaves. A write that was interrupted is tried again.
+/// Writes all the bytes to `writer`, and does not flush: `Write::write_all`, with a promise of what an error leaves.
+///
+/// The call repeats a write that was interrupted.
 ///
 /// # Errors
 ///
-/// That of the first write that failed, and `WriteZero` where one took nothing. The writer has then
-/// taken a beginning of the bytes.
+/// The error of the first write that fails, or `WriteZero` if a write takes no bytes. `writer` has then taken a prefix
+/// of the bytes.
 ///
 /// ```text
 /// json::escape_to_writer(name, &mut log)?;

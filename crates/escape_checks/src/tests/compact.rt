@@ -12,7 +12,9 @@ use escape_text::json::escape_compact;
 use std::borrow::CowStr;
 use std::process::Abort;
 
-static COMPACT: [Answer; 6] = [
+static COMPACT: [Answer; 8] = [
+    (Mode::Json, "a", "\"a\"", 3),
+    (Mode::Html, "a", "a", 1),
     (Mode::Json, "\n", "\"\\n\"", 4),
     (Mode::Json, "a\"\n", "\"a\\\"\\n\"", 7),
     (Mode::Script, "&", "\"\\u0026\"", 8),

@@ -1,6 +1,7 @@
 //! Memory that is refused: each request of a call in turn, until it is `Ok`, and what was asked for.
 
 use crate::routes::KERNELS;
+use crate::tests::pieces::ZEROS;
 use crate::tests::rationed::{Rationed, Requests};
 use crate::tests::texts::{all_are, holds, repeated};
 use escape_simd::html::{
@@ -9,8 +10,10 @@ use escape_simd::html::{
 use escape_simd::json::{escape_in, escape_into, escape_script_in, escape_script_into};
 use escape_simd::{Kernel, Refusal};
 use escape_stream::{Mode, ToolFault, run_in};
-use escape_text::html::escape_html_compact;
-use escape_text::json::{escape_compact, escape_script_compact};
+use escape_text::html::{escape_html_compact, escape_html_into_string};
+use escape_text::json::{
+    escape_compact, escape_into_string, escape_script_compact, escape_script_into_string,
+};
 use std::alloc::Global;
 use std::process::Abort;
 
@@ -121,7 +124,7 @@ fn appending_asks_once_for_the_bound(rt: HostRuntime) {
 
 #[test]
 fn a_long_text_asks_once_for_the_bound(rt: HostRuntime) {
-    let len = 3 * escape_simd::PIECE;
+    let len = 3 * ZEROS;
     let text = repeated(&rt, &[(len, "\"")]);
     let output = repeated(&rt, &[(1, "\""), (len, "\\\""), (1, "\"")]);
     asks_once(&rt, (Call::Json, &text, 6 * len + 35, &output), 1, 0);
@@ -289,6 +292,72 @@ static ANSWERS: [Answer; 3] = [
 #[test]
 fn a_text_asks_once_for_the_bound(rt: HostRuntime) {
     all_answer_once(&rt, false, &ANSWERS);
+}
+
+/// What a string holds before the calls.
+const HELD: &str = "é";
+
+/// A string that holds this, and has room for `spare` bytes more.
+fn string_of<'a>(rt: &impl Abort, heap: &'a Heap, spare: usize) -> String<&'a Heap> {
+    let capacity = HELD.len().saturating_add(spare);
+    let mut string = String::with_capacity(heap, capacity).expect(rt, "no memory");
+    string.push_str(HELD).expect(rt, "no memory");
+    string
+}
+
+/// The call of the mode that appends to a string.
+fn append_to(mode: Mode, text: &str, dst: &mut String<&Heap>) -> Result<(), Refusal> {
+    match mode {
+        Mode::Json => escape_into_string(text, dst)?,
+        Mode::Html => escape_html_into_string(text, dst)?,
+        Mode::Script => escape_script_into_string(text, dst)?,
+    }
+    Ok(())
+}
+
+/// Whether the call is refused memory, and leaves the string as it was.
+fn is_string_kept(mode: Mode, text: &str, dst: &mut String<&Heap>) -> bool {
+    append_to(mode, text, dst) == Err(Refusal::OutOfMemory) && dst.as_str() == HELD
+}
+
+/// Whether the call appends the output to the string.
+fn is_string_longer((mode, text, output, _): Answer, dst: &mut String<&Heap>) -> bool {
+    append_to(mode, text, dst).is_ok() && dst.as_str().strip_prefix(HELD) == Some(output)
+}
+
+/// Whether the call asks once for the bound: it is refused if that is not granted, and else appends.
+fn is_string_asked_once(heap: &Heap, answer: Answer, dst: &mut String<&Heap>) -> bool {
+    let request = one_request(HELD.len().saturating_add(answer.3));
+    heap.ration(0);
+    let is_kept = is_string_kept(answer.0, answer.1, dst) && heap.requests() == request;
+    heap.ration(1);
+    is_kept && is_string_longer(answer, dst) && heap.requests() == request
+}
+
+#[test]
+fn a_string_asks_once_for_the_bound(rt: HostRuntime) {
+    for answer in &ANSWERS {
+        let heap = Rationed::new(rt.alloc());
+        let mut dst = string_of(&rt, &heap, 0);
+        let is_right = is_string_asked_once(&heap, *answer, &mut dst);
+        holds(&rt, is_right, answer.0, answer.1);
+    }
+}
+
+/// Whether the call appends the output, and asks for nothing.
+fn is_string_filled(heap: &Heap, answer: Answer, dst: &mut String<&Heap>) -> bool {
+    heap.ration(0);
+    is_string_longer(answer, dst) && heap.requests().made == 0
+}
+
+#[test]
+fn a_string_with_room_for_the_bound_asks_for_nothing(rt: HostRuntime) {
+    for answer in &ANSWERS {
+        let heap = Rationed::new(rt.alloc());
+        let mut dst = string_of(&rt, &heap, answer.3);
+        let is_right = is_string_filled(&heap, *answer, &mut dst);
+        holds(&rt, is_right, answer.0, answer.1);
+    }
 }
 
 /// Whether a run on "<" that is granted so many requests makes `made`, ends so, and appends these.

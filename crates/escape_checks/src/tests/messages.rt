@@ -6,6 +6,7 @@ use escape_simd::json::EscapeError;
 use escape_stream::ToolFault;
 use escape_text::ListError;
 use std::fmt::Display;
+use std::io;
 use std::process::Abort;
 
 fn prints<E: Display>(rt: &(impl Abort + AllocGlobal), error: &E, text: &str) {
@@ -30,6 +31,18 @@ fn messages_of_refusals(rt: HostRuntime) {
     prints(&rt, &EscapeHtmlError::OutOfMemory, "out of memory");
     prints(&rt, &Refusal::TooLarge, "input is too large to escape");
     prints(&rt, &Refusal::OutOfMemory, "out of memory");
+}
+
+#[test]
+fn messages_of_refusals_among_errors_of_io(rt: HostRuntime) {
+    let too_large = "input is too large to escape";
+    prints(&rt, &io::Error::from(Refusal::TooLarge), too_large);
+    prints(&rt, &io::Error::from(EscapeError::TooLarge), too_large);
+    prints(
+        &rt,
+        &io::Error::from(EscapeHtmlError::OutOfMemory),
+        "out of memory",
+    );
 }
 
 #[test]

@@ -7,7 +7,9 @@ use crate::output;
 use crate::simd::{JSON_MODE, SCRIPT_MODE};
 
 /// Returns the length in bytes of the literal that [`escape`](crate::json::escape) returns, with its quotation marks.
-/// Returns `None` if it exceeds `usize::MAX`. The call makes one pass over the text and allocates nothing.
+/// Returns `None` if it exceeds `usize::MAX`.
+///
+/// The call allocates nothing. It reads clean bytes once, and bytes near an escape up to six times.
 ///
 /// `escape_compact` of `escape_text` reserves exactly this length. The calls of this crate that write the literal
 /// need [`json_capacity`](crate::json::json_capacity) bytes, which is more.
@@ -23,8 +25,7 @@ pub fn escaped_len(value: &str) -> Option<usize>
 }
 
 /// Returns the length in bytes of the literal that [`escape_script`](crate::json::escape_script) returns, with its
-/// quotation marks. Returns `None` if it exceeds `usize::MAX`. The call makes one pass over the text and allocates
-/// nothing.
+/// quotation marks. Returns `None` if it exceeds `usize::MAX`. Memory and reads are those of [`escaped_len`].
 ///
 /// `escape_script_compact` of `escape_text` reserves exactly this length. The calls of this crate that write the
 /// literal need [`json_capacity`](crate::json::json_capacity) bytes, which is more.

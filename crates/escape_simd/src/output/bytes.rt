@@ -5,10 +5,10 @@ ghost use Rattle.std.specs.Prelude.{◌≡◌, ◌+◌, ◌*◌, ◌<◌, ◌≤
 ghost use Rattle.escape_simd.specs.Modes.{mode_numbered};
 ghost use Rattle.escape_simd.specs.Output.{inner, quote_of};
 
-use crate::output::clean::clean_end;
+use crate::output::clean::mask_at;
 use crate::output::in_place::append_in_place;
-use crate::output::push::{lanes, push_all};
-use crate::output::{N, V, quote};
+use crate::output::push::{lanes, push_all, push_quote};
+use crate::output::{N, V};
 use crate::simd::{load, load_last};
 use escape_lanes::simd::classify::flags;
 use escape_lanes::simd::target::Ticks;
@@ -18,7 +18,6 @@ use std::alloc::Allocator;
 /// Appends what stands for a text of fewer than two vectors: from registers if nothing in it needs an escape.
 #[inline(always)]
 pub(super) fn append_last<const MODE: u8, A: Allocator>(text: &[u8], dst: &mut Vec<u8, A>)
-    requires mode { MODE ≤ 2 }
     requires few { length text.now < 2 * N }
     requires room { vec_len dst.old + 6 * length text.now + N ≤ vec_capacity dst.old }
     ensures { dst.new.items ≡ dst.old.items
@@ -35,7 +34,7 @@ pub(super) fn append_last<const MODE: u8, A: Allocator>(text: &[u8], dst: &mut V
         if flags.all_zero() {
             push_all(dst, &lanes(&v));
             dst.truncate(len + count);
-            return push_all(dst, quote::<MODE>().as_bytes());
+            return push_quote::<MODE, A>(dst);
         }
     } else {
         let last = count - N;
@@ -48,25 +47,27 @@ pub(super) fn append_last<const MODE: u8, A: Allocator>(text: &[u8], dst: &mut V
             push_all(dst, &lanes(&v1));
             dst.truncate(len + last);
             push_all(dst, &lanes(&v2));
-            return push_all(dst, quote::<MODE>().as_bytes());
+            return push_quote::<MODE, A>(dst);
         }
     }
     append_in_place::<MODE, A>(text, dst);
 }
 
-/// Appends what stands for a text of two vectors or more: its clean front as it is, and the rest in place.
+/// Appends what stands for a text of two vectors or more: the vectors of its clean front from registers, and the rest
+/// in place.
 #[inline(never)]
 pub(super) fn append_long<const MODE: u8, A: Allocator>(text: &[u8], dst: &mut Vec<u8, A>)
-    requires mode { MODE ≤ 2 }
-    requires room { vec_len dst.old + 6 * length text.now + N ≤ vec_capacity dst.old }
+    requires { vec_len dst.old + 6 * length text.now + N ≤ vec_capacity dst.old }
     ensures { dst.new.items ≡ dst.old.items
         ++ (inner (mode_numbered MODE) text.now ++ quote_of (mode_numbered MODE)) }
 {
-    let end = clean_end::<MODE>(text, 0);
-    push_all(dst, &text[..end]);
-    let rest = &text[end..];
-    if rest.len() < 2 * N {
-        return append_last::<MODE, A>(rest, dst);
+    let mut at = 0;
+    'front: while 2 * N <= text.len() - at {
+        if !mask_at::<MODE>(text, at, N).all_zero() {
+            return append_in_place::<MODE, A>(&text[at..], dst);
+        }
+        push_all(dst, &lanes(&load::<V, N>(text, at)));
+        at += N;
     }
-    append_in_place::<MODE, A>(rest, dst);
+    append_last::<MODE, A>(&text[at..], dst);
 }

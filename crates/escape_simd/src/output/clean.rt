@@ -1,4 +1,4 @@
-//! Which bytes of a text are flagged, and whether a text stands for itself.
+//! Which bytes of a text are flagged, and whether nothing in a text needs an escape.
 ghost use Rattle.std.specs.Prelude.{◌≡◌, ◌+◌, ◌-◌, ◌*◌, ◌<◌, ◌≤◌, ◌↔◌, true, false, length};
 ghost use Rattle.std.specs.List.{count_by};
 ghost use Rattle.escape_lanes.specs.Bits.{bits_of};
@@ -52,8 +52,7 @@ pub(super) fn mask_at<const MODE: u8>(src: &[u8], at: usize, count: usize) -> u6
 #[inline(always)]
 pub(super) fn clean_end<const MODE: u8>(src: &[u8], at: usize) -> usize
     requires { at ≤ length src.now }
-    ensures front { IsFront (mode_numbered MODE) src.now at result }
-    ensures left { at + N ≤ length src.now → result + N ≤ length src.now }
+    ensures { IsFront (mode_numbered MODE) src.now at result }
 {
     let mut end = at;
     'chunks: while 5 * N <= src.len() - end {
@@ -91,10 +90,11 @@ fn is_clean_part<const MODE: u8>(src: &[u8], at: usize, count: usize) -> bool
     true
 }
 
-/// Returns whether nothing in the text needs an escape: the output is the text itself, between quotation marks in
-/// the modes that have them.
+/// Returns whether nothing in the text needs an escape in the mode `MODE`. If so, the output is the text, between
+/// quotation marks in the modes that have them.
 ///
-/// No memory is allocated. The call reads the text up to the first 128 bytes that need an escape.
+/// The call allocates nothing. It reads the text in parts of at most 128 bytes, returns `false` at the first part in
+/// which something needs an escape, and else reads the whole text.
 ///
 /// ```text
 /// is_clean::<{ HTML_MODE }>("a<b") == false

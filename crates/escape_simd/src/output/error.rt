@@ -4,10 +4,9 @@ use crate::json::EscapeError;
 use std::alloc::{AllocError, AllocFailed};
 use std::fmt;
 
-/// Why a text was not escaped, whatever the mode.
+/// The error of the calls that serve every mode.
 ///
-/// [`EscapeError`] and [`EscapeHtmlError`] convert to it. So a function that writes both JSON and HTML has
-/// `?` and one error type:
+/// [`EscapeError`] and [`EscapeHtmlError`] convert to it, so that `?` serves a function that writes both JSON and HTML:
 ///
 /// ```text
 /// fn write_row(name: &str, row: &mut Vec<u8>) -> Result<(), Refusal> {
@@ -19,9 +18,9 @@ use std::fmt;
 /// ```
 #[derive(Debug, Clone, Copy, PartialEq, Eq)]
 pub enum Refusal {
-    /// The number of bytes that were to be reserved passes `usize::MAX`.
+    /// The size that is needed exceeds `usize::MAX`.
     TooLarge,
-    /// The reservation was refused.
+    /// The allocator refused the memory.
     OutOfMemory,
 }
 
@@ -31,6 +30,7 @@ impl From<EscapeError> for Refusal {
 
     ghost from_gives = { λ error refusal. refusal ≡ refusal_of error };
 
+    /// Returns the variant of the same name.
     fn from(error: EscapeError) -> Refusal {
         match error {
             EscapeError::TooLarge => Refusal::TooLarge,
@@ -45,6 +45,7 @@ impl From<EscapeHtmlError> for Refusal {
 
     ghost from_gives = { λ error refusal. refusal ≡ html_refusal_of error };
 
+    /// Returns the variant of the same name.
     fn from(error: EscapeHtmlError) -> Refusal {
         match error {
             EscapeHtmlError::TooLarge(_) => Refusal::TooLarge,
@@ -59,7 +60,7 @@ impl From<AllocError> for Refusal {
 
     ghost from_gives = { λ _ refusal. refusal ≡ OutOfMemory };
 
-    /// Returns [`Refusal::OutOfMemory`]. So `?` serves a caller that also pushes bytes of its own.
+    /// Returns [`Refusal::OutOfMemory`], so that `?` also converts the errors of the caller's own reservations.
     fn from(_refused: AllocError) -> Refusal {
         Refusal::OutOfMemory
     }
@@ -71,7 +72,8 @@ impl<T: Drop> From<AllocFailed<T>> for Refusal {
 
     ghost from_gives = { λ _ refusal. refusal ≡ OutOfMemory };
 
-    /// Returns [`Refusal::OutOfMemory`], as for a `push` that was refused. The value is dropped.
+    /// Returns [`Refusal::OutOfMemory`], so that `?` also converts the error of the caller's own `push`. The value that
+    /// was not pushed is dropped.
     fn from(_refused: AllocFailed<T>) -> Refusal {
         Refusal::from(AllocError)
     }
@@ -83,6 +85,7 @@ impl fmt::Display for Refusal {
 
     ghost output = { λ refusal. Some (refusal_text refusal) };
 
+    /// Writes the reason, as "out of memory".
     fn fmt<W: fmt::Write>(&self, f: &mut fmt::Formatter<W>) -> fmt::Result {
         f.write_str(match self {
             Refusal::TooLarge => "input is too large to escape",

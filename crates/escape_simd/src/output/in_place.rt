@@ -3,8 +3,8 @@ ghost use Rattle.std.specs.Prelude.{◌≡◌, ◌+◌, ◌*◌, ◌<◌, ◌≤
 ghost use Rattle.escape_simd.specs.Modes.{mode_numbered};
 ghost use Rattle.escape_simd.specs.Output.{inner, quote_of};
 
-use crate::output::push::{fill, push_all};
-use crate::output::{N, V, quote};
+use crate::output::push::{fill, push_quote};
+use crate::output::{N, V};
 use crate::simd::{escape_at, escape_chunks};
 use std::alloc::Allocator;
 
@@ -14,8 +14,7 @@ const CHUNK_ROOM: usize = 25 * N;
 /// Appends what stands for the text's bytes, and the last quotation mark.
 #[inline(never)]
 pub(super) fn append_in_place<const MODE: u8, A: Allocator>(src: &[u8], dst: &mut Vec<u8, A>)
-    requires mode { MODE ≤ 2 }
-    requires room { vec_len dst.old + 6 * length src.now + N ≤ vec_capacity dst.old }
+    requires { vec_len dst.old + 6 * length src.now + N ≤ vec_capacity dst.old }
     ensures { dst.new.items ≡ dst.old.items
         ++ (inner (mode_numbered MODE) src.now ++ quote_of (mode_numbered MODE)) }
 {
@@ -30,5 +29,5 @@ pub(super) fn append_in_place<const MODE: u8, A: Allocator>(src: &[u8], dst: &mu
     fill(dst, end + 6 * left.len() + N);
     end = escape_at::<V, MODE, N>(left, dst, end);
     dst.truncate(end);
-    push_all(dst, quote::<MODE>().as_bytes());
+    push_quote::<MODE, A>(dst);
 }

@@ -43,9 +43,9 @@ fn part_len<const MODE: u8>(src: &[u8], at: usize, count: usize) -> usize
     len
 }
 
-/// Returns how many bytes the output for the text has, and `None` where that passes `usize::MAX`.
+/// Returns the length in bytes of the output of a text in the mode `MODE`. Returns `None` if it exceeds `usize::MAX`.
 ///
-/// No memory is allocated.
+/// The call allocates nothing. It reads clean bytes once, and bytes near an escape up to six times.
 ///
 /// ```text
 /// escaped_len::<{ HTML_MODE }>("a<b") == Some(6) // a&lt;b

@@ -1,15 +1,17 @@
 //! Bytes at the end of a vector that has room for them.
-ghost use Rattle.std.specs.Prelude.{◌≡◌, ◌+◌, ◌≤◌, ◌++◌, length, take, drop, vec_len, vec_capacity};
+ghost use Rattle.std.specs.Prelude.{◌≡◌, ◌+◌, ◌<◌, ◌≤◌, ◌++◌, length, take, drop, vec_len, vec_capacity};
+ghost use Rattle.escape_simd.specs.Modes.{mode_numbered};
+ghost use Rattle.escape_simd.specs.Output.{quote_of};
 
 use crate::output::{N, V};
-use crate::simd::Simd;
+use crate::simd::{HTML_MODE, Simd};
 use std::alloc::Allocator;
 
 /// How many bytes of a vector are filled with zeros at a time, if it has room for them.
 ///
 /// The output for a text shorter than two vectors has at most as many bytes. The compiler makes stores of so many, and
 /// no call.
-pub const PIECE: usize = 448;
+const ZEROS: usize = 448;
 
 /// Appends the bytes to a vector that has room for them.
 ///
@@ -29,6 +31,18 @@ pub(super) fn push_all<A: Allocator>(dst: &mut Vec<u8, A>, bytes: &[u8])
     };
 }
 
+/// Appends the quotation mark, if the mode has one.
+#[inline(always)]
+pub(super) fn push_quote<const MODE: u8, A: Allocator>(dst: &mut Vec<u8, A>)
+    requires { vec_len dst.old < vec_capacity dst.old }
+    ensures items { dst.new.items ≡ dst.old.items ++ quote_of (mode_numbered MODE) }
+    ensures capacity { vec_capacity dst.old ≤ vec_capacity dst.new }
+{
+    if MODE != HTML_MODE {
+        dst.push_reserved(b'"');
+    }
+}
+
 /// Makes the vector `len` bytes long or longer by zeros, where it is shorter. It has room for `len`.
 #[inline(always)]
 pub(super) fn fill<A: Allocator>(dst: &mut Vec<u8, A>, len: usize)
@@ -37,8 +51,8 @@ pub(super) fn fill<A: Allocator>(dst: &mut Vec<u8, A>, len: usize)
     ensures filled { (vec_len dst.old ≤ vec_len dst.new) × (len ≤ vec_len dst.new) }
     ensures capacity { vec_capacity dst.old ≤ vec_capacity dst.new }
 {
-    'zeros: while dst.len() < len && PIECE <= dst.capacity() - dst.len() {
-        push_all(dst, &[0; PIECE]);
+    'zeros: while dst.len() < len && ZEROS <= dst.capacity() - dst.len() {
+        push_all(dst, &[0; ZEROS]);
     }
     if dst.len() < len {
         let Ok(()) = dst.resize(len, 0) else {

@@ -11,13 +11,13 @@ returns-then-all_zero g c =
     let front = one-lanes (mode_numbered g.row.MODE) 32 text lanes _ _ (bits_of 64 c.clear_high_bits-flags.result) (omega arith) few c.load_last-v.result.are_bytes.full c.load_last-v.ensures c.flags.ensures.lanes c.bits.ensures c.clear_high_bits-flags.ensures in
     let here : c.len-len.result ≡ length old = omega (arith, c.len-len.ensures) in
     let pushed = c.push_all.ensures.items ∙ ap (λ xs. old ++ xs) c.lanes.ensures in
-    marked (mode_numbered g.row.MODE) text old c.truncate.new.self.items c.push_all-then-all_zero.new.dst.items
+    marked (mode_numbered g.row.MODE) text old c.truncate.new.self.items c.push_quote.new.dst.items
     (c.truncate.ensures.items
     ∙ ap (take (c.len-len.result + length text)) pushed
     ∙ ap (λ k. take (k + length text) (old ++ lanes)) here
     ∙ take-append-add old lanes (length text)
     ∙ ap (λ xs. old ++ xs) (front ∙ sym none))
-    (c.push_all-then-all_zero.ensures.items ∙ ap (λ xs. c.truncate.new.self.items ++ xs) (c.as_bytes.ensures.value ∙ c.quote.ensures))
+    c.push_quote.ensures.items
 
 pub returns-then-none : goal.returns-then-none
 returns-then-none g c =
@@ -26,10 +26,10 @@ returns-then-none g c =
     let all : last + 32 ≡ length text = omega (arith, c.if-count-lt-N.false) in
     let itself = two-none mode text 32 (omega (arith, c.if-count-lt-N.false)) (omega (arith, c.requires.few)) _ _ _ (c.flags-flags1.ensures.lanes ∙ ap (map (needs_escape mode)) c.load-v1.ensures) (c.flags-flags2.ensures.lanes ∙ ap (map (needs_escape mode)) c.load-v2.ensures) c.join.ensures (sym c.none.ensures ∙ c.if-none.true) in
     let first = c.push_all-then-none.ensures.items ∙ ap (λ xs. old ++ xs) (c.lanes-then-none.ensures ∙ c.load-v1.ensures) in
-    marked mode text old c.push_all-then-none-2.new.dst.items c.push_all-then-none-3.new.dst.items
+    marked mode text old c.push_all-then-none-2.new.dst.items c.push_quote-then-none.new.dst.items
     (c.push_all-then-none-2.ensures.items
     ∙ ap (λ xs. c.truncate-then-none.new.self.items ++ xs) (c.lanes-then-none-2.ensures ∙ c.load-v2.ensures)
     ∙ ap (λ xs. xs ++ take 32 (drop last text)) c.truncate-then-none.ensures.items
     ∙ vector-over old text c.push_all-then-none.new.dst.items len last 32 32 (omega (arith, c.len-len.ensures)) (omega (arith, c.requires.few)) first
     ∙ ap (λ xs. old ++ xs) (take_all (last + 32) text (omega (arith, all)) ∙ sym itself))
-    (c.push_all-then-none-3.ensures.items ∙ ap (λ xs. c.push_all-then-none-2.new.dst.items ++ xs) (c.as_bytes-then-none.ensures.value ∙ c.quote-then-none.ensures))
+    c.push_quote-then-none.ensures.items

@@ -6,17 +6,9 @@ use Rattle.escape_simd.proofs.output.clean.clean_end.Goals as goal
 
 pub chunks-preserved : goal.chunks-preserved
 chunks-preserved g c =
-    let i = c.chunks.invariant.front.inside in
-    record {
-      front = front-more (mode_numbered g.row.MODE) c.args.src.now c.args.at c.chunks.end 128 c.chunks.invariant.front (omega (arith, i, c.chunks-test.true)) (c.is_clean_chunk.ensures.clean c.if-not-is_clean_chunk.false);
-      left = λ some. omega (arith, i, c.chunks-test.true);
-    }
+    front-more (mode_numbered g.row.MODE) c.args.src.now c.args.at c.chunks.end 128 c.chunks.invariant (omega (arith, c.chunks.invariant.inside, c.chunks-test.true)) (c.is_clean_chunk.ensures.clean c.if-not-is_clean_chunk.false)
 
 pub vectors-preserved : goal.vectors-preserved
 vectors-preserved g c =
-    let i = c.vectors.invariant.front.inside in
     let clean = held-none (mode_numbered g.row.MODE) c.args.src.now c.vectors.end 32 c.vectors.end (bits_of 64 c.mask_at.result) c.mask_at.ensures (omega arith) (sym c.all_zero.ensures ∙ c.if-not-all_zero.false) in
-    record {
-      front = front-more (mode_numbered g.row.MODE) c.args.src.now c.args.at c.vectors.end 32 c.vectors.invariant.front (omega (arith, i, c.vectors-test.true)) clean;
-      left = λ some. omega (arith, i, c.vectors-test.true);
-    }
+    front-more (mode_numbered g.row.MODE) c.args.src.now c.args.at c.vectors.end 32 c.vectors.invariant (omega (arith, c.vectors.invariant.inside, c.vectors-test.true)) clean

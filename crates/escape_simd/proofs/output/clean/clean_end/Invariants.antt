@@ -1,20 +1,14 @@
-use Rattle.escape_simd.proofs.Words.{◌+◌, ◌-◌, ◌≤◌, length, mode_numbered, IsFront}
+use Rattle.escape_simd.proofs.Words.{◌-◌, length, mode_numbered, IsFront}
 use Rattle.escape_simd.proofs.output.clean.clean_end.Given as goal
 
 abbrev pub invariant-chunks : goal.invariant-chunks
-invariant-chunks g l = record {
-  front : IsFront (mode_numbered g.row.MODE) l.src l.fn.at l.end;
-  left : l.fn.at + 32 ≤ length l.src → l.end + 32 ≤ length l.src;
-}
+invariant-chunks g l = IsFront (mode_numbered g.row.MODE) l.src l.fn.at l.end
 
 abbrev pub decreases-chunks : goal.decreases-chunks
 decreases-chunks g l = length l.src - l.end
 
 abbrev pub invariant-vectors : goal.invariant-vectors
-invariant-vectors g l = record {
-  front : IsFront (mode_numbered g.row.MODE) l.src l.fn.at l.end;
-  left : l.fn.at + 32 ≤ length l.src → l.end + 32 ≤ length l.src;
-}
+invariant-vectors g l = IsFront (mode_numbered g.row.MODE) l.src l.fn.at l.end
 
 abbrev pub decreases-vectors : goal.decreases-vectors
 decreases-vectors g l = length l.src - l.end

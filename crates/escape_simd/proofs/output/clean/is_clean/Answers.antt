@@ -8,7 +8,7 @@ pub returns-then-not-is_clean_part-clause-itself :
     goal.returns-then-not-is_clean_part-clause-itself
 returns-then-not-is_clean_part-clause-itself g c =
     let mode = mode_numbered g.row.MODE in
-    let grown = part-grown mode c.args.value.now c.as_bytes-src.result.now c.parts.at c.clean_end-end.result c.as_bytes-src.ensures.value c.clean_end-end.ensures.front c.parts.invariant.counted (c.is_clean_part.ensures.grown c.if-not-is_clean_part.true) in
+    let grown = part-grown mode c.args.value.now c.as_bytes-src.result.now c.parts.at c.clean_end-end.result c.as_bytes-src.ensures.value c.clean_end-end.ensures c.parts.invariant.counted (c.is_clean_part.ensures.grown c.if-not-is_clean_part.true) in
     (λ clean. absurd (true≢false (sym clean)), λ same. absurd (omega (arith, grown, ap length same)))
 
 pub returns-then-not-is_clean_part-clause-flagged :
@@ -16,11 +16,11 @@ pub returns-then-not-is_clean_part-clause-flagged :
 returns-then-not-is_clean_part-clause-flagged g c = λ told.
     let mode = mode_numbered g.row.MODE in
     grown-flagged mode c.args.value.now
-    (part-grown mode c.args.value.now c.as_bytes-src.result.now c.parts.at c.clean_end-end.result c.as_bytes-src.ensures.value c.clean_end-end.ensures.front c.parts.invariant.counted (c.is_clean_part.ensures.grown c.if-not-is_clean_part.true))
+    (part-grown mode c.args.value.now c.as_bytes-src.result.now c.parts.at c.clean_end-end.result c.as_bytes-src.ensures.value c.clean_end-end.ensures c.parts.invariant.counted (c.is_clean_part.ensures.grown c.if-not-is_clean_part.true))
 
 pub parts-preserved : goal.parts-preserved
 parts-preserved g c =
-    let mode = mode_numbered g.row.MODE in let src : List ℕ = c.as_bytes-src.result.now in let front = c.clean_end-end.ensures.front in
+    let mode = mode_numbered g.row.MODE in let src : List ℕ = c.as_bytes-src.result.now in let front = c.clean_end-end.ensures in
     let rest = clean_rest mode src c.parts.at c.clean_end-end.result front.forward front.clean front.inside in
     let part = c.is_clean_part.ensures.clean c.if-not-is_clean_part.false in
     record {

@@ -6,7 +6,7 @@ ghost use Rattle.escape_simd.specs.Modes.{mode_numbered};
 ghost use Rattle.escape_simd.specs.Output.{inner, quote_of};
 
 use crate::output::clean::mask_at;
-use crate::output::in_place::append_in_place;
+use crate::output::in_place::{append_in_place, append_rest};
 use crate::output::push::{lanes, push_all, push_quote};
 use crate::output::{N, V};
 use crate::simd::{load, load_last};
@@ -50,7 +50,7 @@ pub(super) fn append_last<const MODE: u8, A: Allocator>(text: &[u8], dst: &mut V
             return push_quote::<MODE, A>(dst);
         }
     }
-    append_in_place::<MODE, A>(text, dst);
+    append_rest::<MODE, A>(text, dst);
 }
 
 /// Appends what stands for a text of two vectors or more: the vectors of its clean front from registers, and the rest

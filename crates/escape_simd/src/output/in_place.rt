@@ -11,7 +11,21 @@ use std::alloc::Allocator;
 /// How many bytes the output for a chunk of four vectors may have, and a vector more.
 const CHUNK_ROOM: usize = 25 * N;
 
-/// Appends what stands for the text's bytes, and the last quotation mark.
+/// Appends what stands for the text's bytes, and the last quotation mark. The vector is filled for all of it at once.
+#[inline(never)]
+pub(super) fn append_rest<const MODE: u8, A: Allocator>(text: &[u8], dst: &mut Vec<u8, A>)
+    requires { vec_len dst.old + 6 * length text.now + N ≤ vec_capacity dst.old }
+    ensures { dst.new.items ≡ dst.old.items
+        ++ (inner (mode_numbered MODE) text.now ++ quote_of (mode_numbered MODE)) }
+{
+    let old = dst.len();
+    fill(dst, old + 6 * text.len() + N);
+    let end = escape_at::<V, MODE, N>(text, dst, old);
+    dst.truncate(end);
+    push_quote::<MODE, A>(dst);
+}
+
+/// As [`append_rest`], where the vector is filled for one chunk at a time.
 #[inline(never)]
 pub(super) fn append_in_place<const MODE: u8, A: Allocator>(src: &[u8], dst: &mut Vec<u8, A>)
     requires { vec_len dst.old + 6 * length src.now + N ≤ vec_capacity dst.old }
@@ -26,8 +40,6 @@ pub(super) fn append_in_place<const MODE: u8, A: Allocator>(src: &[u8], dst: &mu
         left = &left[passed..];
         end = next;
     }
-    fill(dst, end + 6 * left.len() + N);
-    end = escape_at::<V, MODE, N>(left, dst, end);
     dst.truncate(end);
-    push_quote::<MODE, A>(dst);
+    append_rest::<MODE, A>(left, dst);
 }

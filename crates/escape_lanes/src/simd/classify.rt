@@ -1,5 +1,5 @@
 //! The classifiers of a text's bytes: each ticks once, and says for which bytes it answered.
-ghost use Rattle.std.specs.Prelude.{◌≡◌, ◌+◌, ◌-◌, ◌<◌, ◌≤◌, ◌++◌, [], length, take, drop, map, replicate};
+ghost use Rattle.std.specs.Prelude.{◌≡◌, ◌+◌, ◌-◌, ◌≤◌, [], length, take, drop, map};
 ghost use Rattle.escape_lanes.specs.Bits.{bits_of};
 ghost use Rattle.escape_lanes.specs.Classified.{asked_of, Tells};
 ghost use Rattle.escape_lanes.specs.Mode.{mode_numbered};
@@ -61,25 +61,19 @@ pub fn classify<'a, V: Vector<N>, const MODE: u8, const N: usize>(
     )
 }
 
-/// Classifies the text's last `count` bytes, fewer than a vector has, with zeros after them. Ticks once.
+/// Classifies a loaded vector that begins with the bytes of `text`. Ticks once.
 #[inline(always)]
-pub fn classify_last<'a, V: Vector<N>, const MODE: u8, const N: usize>(
+pub fn classify_loaded<'a, V: Vector<N>, const MODE: u8, const N: usize>(
+    v: &V,
     text: &'a [u8],
-    count: usize,
     ticks: &mut Ticks,
 ) -> (V::Flags, Classified<'a>)
-    requires few { count < N }
-    requires inside { count ≤ length text.now }
-    ensures flagged { V.Flags.truths result.0
-        ≡ map (needs_escape (mode_numbered MODE)) (drop (length text.now - count) text.now ++ replicate (N - count) 0) }
-    ensures asked { asked_of result.1 ≡ drop (length text.now - count) text.now }
+    requires { take (length text.now) (V.lanes v.now) ≡ text.now }
+    ensures flagged { V.Flags.truths result.0 ≡ map (needs_escape (mode_numbered MODE)) (V.lanes v.now) }
+    ensures asked { asked_of result.1 ≡ text.now }
     ensures tick { ticks.new ≡ ticks.old + 1 }
 {
-    let bytes = &text[text.len() - count..];
-    (
-        flags::<V, MODE, N>(&V::load_last(text, count), ticks),
-        Classified { bytes },
-    )
+    (flags::<V, MODE, N>(v, ticks), Classified { bytes: text })
 }
 
 /// Classifies the text's bytes from `from` up to `until` by a mask that has their flags: bit `k` is that of byte `k`.

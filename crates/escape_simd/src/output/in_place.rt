@@ -5,7 +5,7 @@ ghost use Rattle.escape_simd.specs.Output.{inner, quote_of};
 
 use crate::output::push::{fill, push_quote};
 use crate::output::{N, V};
-use crate::simd::{escape_at, escape_chunks};
+use crate::simd::{escape_at, escape_chunks, escape_short_at};
 use std::alloc::Allocator;
 
 /// How many bytes the output for a chunk of four vectors may have, and a vector more.
@@ -20,7 +20,11 @@ pub(super) fn append_rest<const MODE: u8, A: Allocator>(text: &[u8], dst: &mut V
 {
     let old = dst.len();
     fill(dst, old + 6 * text.len() + N);
-    let end = escape_at::<V, MODE, N>(text, dst, old);
+    let end = if text.len() < 2 * N {
+        escape_short_at::<V, MODE, N>(text, dst, old)
+    } else {
+        escape_at::<V, MODE, N>(text, dst, old)
+    };
     dst.truncate(end);
     push_quote::<MODE, A>(dst);
 }

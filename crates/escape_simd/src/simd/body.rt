@@ -1,5 +1,5 @@
 //! The body of all kernels: a text's bytes by chunks, by vectors, and the last ones.
-ghost use Rattle.std.specs.Prelude.{◌≡◌, ◌+◌, ◌*◌, ◌/◌, ◌≤◌, true, length};
+ghost use Rattle.std.specs.Prelude.{◌≡◌, ◌+◌, ◌*◌, ◌/◌, ◌<◌, ◌≤◌, true, length};
 ghost use Rattle.escape_lanes.specs.Written.{bytes_of};
 ghost use Rattle.escape_simd.specs.Modes.{mode_numbered};
 ghost use Rattle.escape_simd.specs.Formatted.{IsInnerAt};
@@ -55,6 +55,22 @@ pub(crate) fn escape_chunks<V: Vector<N>, const MODE: u8, const N: usize>(
         (at, end) = chunk::<V, MODE, N>(src, at, &mut target, end, &mut ticks);
     }
     (at, end)
+}
+
+/// As [`escape_tail`] of a whole text, to `dst`, and with no count.
+#[inline(never)]
+pub(crate) fn escape_short_at<V: Vector<N>, const MODE: u8, const N: usize>(
+    src: &[u8],
+    dst: &mut [u8],
+    to: usize,
+) -> usize
+    requires few { length src.now < 2 * N }
+    requires room { to + 6 * length src.now + 32 ≤ length dst.old }
+    ensures { IsInnerAt (mode_numbered MODE) (reach true N) src.now dst.old dst.new to result }
+{
+    let mut target = Target::<N>::new(dst);
+    let mut ticks = Ticks::new();
+    escape_tail::<V, MODE, N>(src, 0, &mut target, to, &mut ticks)
 }
 
 /// As [`escape_bytes`], to `dst`, and with no count.

@@ -10,7 +10,7 @@ ghost use Rattle.escape_simd.specs.Stretch.{AreTail, Escapes, HasTail, HoldsFlag
 use crate::simd::Vector;
 use crate::simd::by_mask::escape_by_mask;
 use crate::simd::store::{load, load_last, store, store_lanes};
-use escape_lanes::simd::classify::{Classified, classify, classify_last};
+use escape_lanes::simd::classify::{Classified, classify, classify_loaded};
 use escape_lanes::simd::lane_bits::shift_lanes;
 use escape_lanes::simd::target::{Target, Ticks};
 use escape_lanes::simd::{BitMask, Flags};
@@ -118,7 +118,8 @@ pub(crate) fn store_clean_tail<'a, V: Vector<N>, const MODE: u8, const N: usize>
 {
     let count = src.len() - at;
     if count < N {
-        let (flags, classified) = classify_last::<V, MODE, N>(src, count, ticks);
+        let v = load_last::<V, N>(src, count);
+        let (flags, classified) = classify_loaded::<V, MODE, N>(&v, &src[at..], ticks);
         let last = flags.bits().clear_high_bits(64 - count);
         if !last.all_zero() {
             return Err(TailFlags {
@@ -128,7 +129,6 @@ pub(crate) fn store_clean_tail<'a, V: Vector<N>, const MODE: u8, const N: usize>
                 last_classified: classified,
             });
         }
-        let v = load_last::<V, N>(src, count);
         store_lanes::<V, N, true>(&v, &src[at..], classified, target, to);
         return Ok(to + count);
     }

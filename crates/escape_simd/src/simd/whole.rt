@@ -9,7 +9,7 @@ ghost use Rattle.escape_simd.specs.Modes.{mode_numbered};
 ghost use Rattle.escape_simd.specs.Output.{bound, quote_of};
 
 use crate::simd::body::{escape_at, escape_bytes};
-use crate::simd::tail::store_clean_tail;
+use crate::simd::tail::{escape_tail, store_clean_tail};
 use crate::simd::{HTML_MODE, JSON_MODE, Vector};
 use escape_lanes::simd::target::{Target, Ticks};
 
@@ -92,6 +92,19 @@ fn format_clean<V: Vector<N>, const MODE: u8, const N: usize>(
     }
 }
 
+/// As [`format_slice`], of a short text, some of whose bytes may need an escape.
+#[inline(never)]
+fn format_short<V: Vector<N>, const MODE: u8, const N: usize>(text: &[u8], dst: &mut [u8]) -> usize
+    requires few { length text.now < 2 * N }
+    requires room { bound (mode_numbered MODE) (length text.now) ≤ length dst.old }
+    ensures { IsWritten N (mode_numbered MODE) text.now dst.old dst.new result }
+{
+    let mut target = Target::<N>::new(dst);
+    let open = quote::<MODE, N>(&mut target, 0);
+    let close = escape_tail::<V, MODE, N>(text, 0, &mut target, open, &mut Ticks::new());
+    quote::<MODE, N>(&mut target, close)
+}
+
 /// As [`format`], with the target made over `dst`. A clean short text needs no frame.
 #[inline(never)]
 pub(crate) fn format_in_mode<V: Vector<N>, const MODE: u8, const N: usize>(
@@ -103,12 +116,14 @@ pub(crate) fn format_in_mode<V: Vector<N>, const MODE: u8, const N: usize>(
     ensures headline { IsOnlyOutput (mode_numbered MODE) (take result dst.new) (chars value.now) }
     ensures equal_texts { IsOfOneText (mode_numbered MODE) value.now (take result dst.new) }
 {
-    if value.len() < 2 * N {
-        if let Some(count) = format_clean::<V, MODE, N>(value.as_bytes(), dst) {
-            return count;
-        }
+    if 2 * N <= value.len() {
+        return format_slice::<V, MODE, N>(value, dst);
     }
-    format_slice::<V, MODE, N>(value, dst)
+    let text = value.as_bytes();
+    match format_clean::<V, MODE, N>(text, dst) {
+        Some(count) => count,
+        None => format_short::<V, MODE, N>(text, dst),
+    }
 }
 
 /// Escapes the text to the front of `dst`, with no quotation marks. Returns how many bytes it became.

@@ -1,4 +1,4 @@
-use Rattle.std.proofs.Common.{◌≡◌, ◌+◌, ◌-◌, ◌∙◌, true, false, ℕ, List, ◌++◌, length, refl, length-append, length-drop, take, drop, replicate, ap, sym, subst, arith}
+use Rattle.std.proofs.Common.{◌≡◌, ◌≤◌, ◌+◌, ◌-◌, ◌∙◌, true, false, ℕ, List, ◌++◌, length, refl, length-append, length-drop, take, drop, replicate, ap, sym, subst, arith}
 use Rattle.escape_simd.proofs.Words.{length-replicate, take-append-le, take_all, bits_of, none_set, mode_numbered, Escapes, HoldsFlags, reach}
 use Rattle.escape_simd.proofs.Lanes.{CleanFrom, held-none, none_set-joined, within-all}
 use Rattle.escape_simd.proofs.Last.{last-long_text, last-mask, last-short, one-begun, rest-escaped, two-begun, two-clean}
@@ -11,11 +11,9 @@ returns-then-not-all_zero-clause-flagged g c =
     let text : List ℕ = take (length src - at) (drop at src) in let count = length-drop at src in
     let is : text ≡ drop at src = take_all (length src - at) (drop at src) (omega (arith, count)) in
     let bits = bits_of 64 c.clear_high_bits-last.result in
-    let lanes : List ℕ = drop (length src - (length src - at)) src ++ replicate (n - (length src - at)) 0 in
-    let long : length lanes ≡ n = omega (arith, length-append (drop (length src - (length src - at)) src) (replicate (n - (length src - at)) 0), length-drop (length src - (length src - at)) src, length-replicate {A = ℕ} (n - (length src - at)) 0, r.inside, c.if-count.true) in
-    let held = last-mask mode n src lanes at (t c.classify_last-flags.result.0) (bits_of 64 c.bits.result) bits g.met.V.Vector.most r.inside (omega (arith, c.if-count.true)) long
-    refl c.classify_last-flags.ensures.flagged (c.bits.ensures ∙ ap (λ m. t c.classify_last-flags.result.0 ++ replicate (64 - m) false) g.met.V.Vector.flag_count) c.clear_high_bits-last.ensures in
-    last-short mode n src (drop at src) at (bits_of 64 0) bits _ _ refl r.inside c.if-count.true held c.classify_last-flags.ensures.asked
+    let held = last-mask mode n src (g.V.LoadStore.lanes c.load_last-v.result) at (t c.classify_loaded-flags.result.0) (bits_of 64 c.bits.result) bits g.met.V.Vector.most r.inside (omega (arith, c.if-count.true)) (g.met.V.LoadStore.width c.load_last-v.result ∙ g.met.V.Vector.lane_count)
+    c.load_last-v.ensures c.classify_loaded-flags.ensures.flagged (c.bits.ensures ∙ ap (λ m. t c.classify_loaded-flags.result.0 ++ replicate (64 - m) false) g.met.V.Vector.flag_count) c.clear_high_bits-last.ensures in
+    last-short mode n src (drop at src) at (bits_of 64 0) bits _ _ refl r.inside c.if-count.true held (c.classify_loaded-flags.ensures.asked ∙ is ∙ ap (λ k. drop k src) (omega (arith, r.inside)))
 
 pub returns-then-count-clause-clean : goal.returns-then-count-clause-clean
 returns-then-count-clause-clean g c =
@@ -23,14 +21,12 @@ returns-then-count-clause-clean g c =
     let text : List ℕ = take (length src - at) (drop at src) in let count = length-drop at src in
     let is : text ≡ drop at src = take_all (length src - at) (drop at src) (omega (arith, count)) in
     let bits = bits_of 64 c.clear_high_bits-last.result in
-    let lanes : List ℕ = drop (length src - (length src - at)) src ++ replicate (n - (length src - at)) 0 in
-    let long : length lanes ≡ n = omega (arith, length-append (drop (length src - (length src - at)) src) (replicate (n - (length src - at)) 0), length-drop (length src - (length src - at)) src, length-replicate {A = ℕ} (n - (length src - at)) 0, r.inside, c.if-count.true) in
-    let held = last-mask mode n src lanes at (t c.classify_last-flags.result.0) (bits_of 64 c.bits.result) bits g.met.V.Vector.most r.inside (omega (arith, c.if-count.true)) long
-    refl c.classify_last-flags.ensures.flagged (c.bits.ensures ∙ ap (λ m. t c.classify_last-flags.result.0 ++ replicate (64 - m) false) g.met.V.Vector.flag_count) c.clear_high_bits-last.ensures in
+    let held = last-mask mode n src (g.V.LoadStore.lanes c.load_last-v.result) at (t c.classify_loaded-flags.result.0) (bits_of 64 c.bits.result) bits g.met.V.Vector.most r.inside (omega (arith, c.if-count.true)) (g.met.V.LoadStore.width c.load_last-v.result ∙ g.met.V.Vector.lane_count)
+    c.load_last-v.ensures c.classify_loaded-flags.ensures.flagged (c.bits.ensures ∙ ap (λ m. t c.classify_loaded-flags.result.0 ++ replicate (64 - m) false) g.met.V.Vector.flag_count) c.clear_high_bits-last.ensures in
     let all : length src - at ≡ length text = sym (ap length is ∙ count) in
     let clean = held-none mode text 0 (length text) 0 bits (subst (λ k. HoldsFlags mode text 0 k 0 bits) all (subst (λ xs. HoldsFlags mode xs 0 (length src - at) 0 bits) (sym is) held)) (omega arith) (sym c.all_zero.ensures ∙ c.if-not-all_zero.false) in
-    let e = vector-clean mode (reach true n) text c.args.target.now c.store_lanes.new.target 0 (length text) c.args.to c.classify_last-flags.new.ticks (omega arith) clean c.store_lanes.ensures in
-    rest-escaped src text at n c.args.ticks.now is r.inside (one-begun n (length src - at) c.if-count.true) c.classify_last-flags.ensures.tick (escapes-ended (omega arith) (omega arith) (omega (arith, all)) e)
+    let e = vector-clean mode (reach true n) text c.args.target.now c.store_lanes.new.target 0 (length text) c.args.to c.classify_loaded-flags.new.ticks (omega arith) clean c.store_lanes.ensures in
+    rest-escaped src text at n c.args.ticks.now is r.inside (one-begun n (length src - at) c.if-count.true) c.classify_loaded-flags.ensures.tick (escapes-ended (omega arith) (omega arith) (omega (arith, all)) e)
 
 pub returns-then-not-none-clause-flagged : goal.returns-then-not-none-clause-flagged
 returns-then-not-none-clause-flagged g c =
@@ -57,16 +53,26 @@ returns-clause-clean g c =
     c.store.ensures c.store-2.ensures (omega (arith, c.classify-flags1.ensures.tick, c.classify-flags2.ensures.tick)) in
     subst (λ v. Escapes mode (reach true n) (length src) v 0 src c.args.target.now c.store-2.new.target at (length src) c.args.to (c.args.to + (length src - at)) c.args.ticks.now c.classify-flags2.new.ticks) (two-begun n (length src - at) c.if-count.false (omega (arith, r.few))) e
 
+-- the loaded vector begins with the last bytes
+begins : (src lanes : List ℕ) (at n : ℕ) → at ≤ length src → lanes ≡ drop (length src - (length src - at)) src ++ replicate (n - (length src - at)) 0
+    → take (length (take (length src - at) (drop at src))) lanes ≡ take (length src - at) (drop at src)
+begins src lanes at n inside loaded =
+    let count = length-drop at src in
+    let is : take (length src - at) (drop at src) ≡ drop at src = take_all (length src - at) (drop at src) (omega (arith, count)) in
+    let there : length src - (length src - at) ≡ at = omega (arith, inside) in
+    let text : List ℕ = take (length src - at) (drop at src) in
+    let start : drop (length src - (length src - at)) src ≡ text = ap (λ k. drop k src) there ∙ sym is in
+    ap (take (length text)) (loaded ∙ ap (λ xs. xs ++ replicate (n - (length src - at)) 0) start) ∙ take-append-le (length text) text (replicate (n - (length src - at)) 0) (omega arith) ∙ take_all (length text) text (omega arith)
+
+pub classify_loaded-flags-requires : goal.classify_loaded-flags-requires
+classify_loaded-flags-requires g c = begins c.args.src.now (g.V.LoadStore.lanes c.load_last-v.result) c.args.at g.row.N c.requires.inside c.load_last-v.ensures
+
 pub store_lanes-requires : goal.store_lanes-requires
 store_lanes-requires g c =
-    let src : List ℕ = c.args.src.now in let at : ℕ = c.args.at in let n : ℕ = g.row.N in let count = length-drop at src in
+    let src : List ℕ = c.args.src.now in let at : ℕ = c.args.at in let count = length-drop at src in
     let is : take (length src - at) (drop at src) ≡ drop at src = take_all (length src - at) (drop at src) (omega (arith, count)) in
-    let there : length src - (length src - at) ≡ at = omega (arith, c.requires.inside) in
-    let within = within-all (take (length src - at) (drop at src)) _ (c.classify_last-flags.ensures.asked ∙ ap (λ k. drop k src) there ∙ sym is) in
     let all : length (take (length src - at) (drop at src)) ≡ length src - at = ap length is ∙ count in
-    let start : drop (length src - (length src - at)) src ≡ take (length src - at) (drop at src) = ap (λ k. drop k src) there ∙ sym is in
-    let loaded = ap (take (length (take (length src - at) (drop at src)))) (c.load_last-v.ensures ∙ ap (λ xs. xs ++ replicate (n - (length src - at)) 0) start) ∙ take-append-le (length (take (length src - at) (drop at src))) (take (length src - at) (drop at src)) (replicate (n - (length src - at)) 0) (omega arith) ∙ take_all (length (take (length src - at) (drop at src))) (take (length src - at) (drop at src)) (omega arith) in
-    (omega arith, (omega (arith, all, c.if-count.true), (loaded, (within, omega (arith, all, c.requires.room)))))
+    (omega arith, (omega (arith, all, c.if-count.true), (begins src (g.V.LoadStore.lanes c.load_last-v.result) at g.row.N c.requires.inside c.load_last-v.ensures, (within-all _ _ c.classify_loaded-flags.ensures.asked, omega (arith, all, c.requires.room)))))
 
 pub store-requires : goal.store-requires
 store-requires g c = (omega arith, (within-all _ _ c.classify-flags1.ensures.asked, grind (arith, c.requires, c.if-count.false)))

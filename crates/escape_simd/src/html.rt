@@ -50,9 +50,9 @@ pub fn html_capacity(len: usize) -> Result<usize, InputTooLarge>
 /// Returns the text as HTML: `"`, `&`, `'`, `/`, `<` and `>` are written as entities.
 ///
 /// The output is safe between tags, and in an attribute value between quotation marks. It has none of `"`, `'`, `/`,
-/// `<` and `>`, and each `&` in it begins an entity. No other output without these bytes reads as the text. An `&`
-/// that begins an entity in the text is escaped too: `&amp;` becomes `&amp;amp;`. For a text of `n` bytes the output
-/// has `n` to `6 * n` bytes. The call makes one allocation, of `6 * n + 32` bytes.
+/// `<` and `>`, and each `&` in it begins an entity. Among outputs without these bytes that use only these six entities,
+/// no other reads as the text. An `&` that begins an entity in the text is escaped too: `&amp;` becomes `&amp;amp;`.
+/// For a text of `n` bytes the output has `n` to `6 * n` bytes. The call makes one allocation, of `6 * n + 32` bytes.
 ///
 /// # Errors
 ///

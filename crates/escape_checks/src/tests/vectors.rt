@@ -2,7 +2,7 @@
 ghost use Rattle.std.specs.Prelude.{◌<◌, ◌≤◌, length};
 
 use crate::tests::texts::all_are;
-use escape_lanes::simd::{BitMask, LoadLast, Mask, Simd, avx2, avx512, neon, sse2, v128};
+use escape_lanes::simd::{BitMask, Mask, Simd, Vector, avx2, avx512, neon, sse2, v128};
 use std::process::Abort;
 
 fn any_of<M: Mask>(a: M, b: M, c: M) -> M::BitMask {
@@ -85,35 +85,35 @@ fn rising<const N: usize>() -> [u8; N] {
 }
 
 /// Whether a vector of the last bytes has these bytes, and then zeros.
-fn has_last<S: LoadLast>(src: &[u8], count: usize) -> bool
-    requires few { count < S.LANES }
+fn has_last<const N: usize, V: Vector<N>>(src: &[u8], count: usize) -> bool
+    requires few { count < N }
     requires inside { count ≤ length src.now }
 {
     let mut lanes = [0xee; 64];
-    S::load_last(src, count).storeu(&mut lanes);
-    lanes.starts_with(&src[src.len() - count..]) && all_are(&lanes[count..S::LANES], 0)
+    V::load_last(src, count).put(&mut lanes);
+    lanes.starts_with(&src[src.len() - count..]) && all_are(&lanes[count..N], 0)
 }
 
 /// A vector has the last bytes of a text, of each count.
-fn has_each_last<S: LoadLast>(rt: &impl Abort, text: &[u8]) {
-    for count in 0..S::LANES.min(text.len().saturating_add(1)) {
-        assert!(rt; has_last::<S>(text, count), "{count} of {}", text.len());
+fn has_each_last<const N: usize, V: Vector<N>>(rt: &impl Abort, text: &[u8]) {
+    for count in 0..N.min(text.len().saturating_add(1)) {
+        assert!(rt; has_last::<N, V>(text, count), "{count} of {}", text.len());
     }
 }
 
 /// A vector has the last bytes of a text, of each length and of each count.
-fn have_last<S: LoadLast>(rt: &impl Abort, text: &[u8; 80]) {
+fn have_last<const N: usize, V: Vector<N>>(rt: &impl Abort, text: &[u8; 80]) {
     for len in 0..=80usize {
-        has_each_last::<S>(rt, &text[..len]);
+        has_each_last::<N, V>(rt, &text[..len]);
     }
 }
 
 #[test]
 fn last_bytes_of_texts_of_every_length(rt: HostRuntime) {
     let text = rising();
-    have_last::<v128::Simd128u>(&rt, &text);
-    have_last::<sse2::Simd128u>(&rt, &text);
-    have_last::<neon::Simd128u>(&rt, &text);
-    have_last::<avx2::Simd256u>(&rt, &text);
-    have_last::<avx512::Simd512u>(&rt, &text);
+    have_last::<16, v128::Simd128u>(&rt, &text);
+    have_last::<16, sse2::Simd128u>(&rt, &text);
+    have_last::<16, neon::Simd128u>(&rt, &text);
+    have_last::<32, avx2::Simd256u>(&rt, &text);
+    have_last::<64, avx512::Simd512u>(&rt, &text);
 }

@@ -66,7 +66,7 @@ fn escape_before_last<V: Vector<N>, const MODE: u8, const N: usize>(
 
 /// Escapes a text of fewer bytes than two vectors have, for which a classifier answered. Returns the place after it.
 #[inline(always)]
-fn escape_flagged_tail<V: Vector<N>, const MODE: u8, const N: usize>(
+pub(crate) fn escape_flagged_tail<V: Vector<N>, const MODE: u8, const N: usize>(
     text: &[u8],
     flags: TailFlags<'_>,
     target: &mut Target<'_, N>,

@@ -1,5 +1,7 @@
 //! A whole text: its bytes between quotation marks.
-ghost use Rattle.std.specs.Prelude.{◌≡◌, ◌+◌, ◌*◌, ◌<◌, ◌≤◌, length, take, drop, chars, IfSome, IfNone};
+ghost use Rattle.std.specs.Prelude.{◌≡◌, ◌+◌, ◌*◌, ◌<◌, ◌≤◌, length, take, drop, chars, IfOk, IfErr, OnErr};
+ghost use Rattle.escape_lanes.specs.Bits.{bits_of};
+ghost use Rattle.escape_lanes.specs.Classified.{asked_of};
 ghost use Rattle.escape_lanes.specs.Mode.{mode_of};
 ghost use Rattle.escape_lanes.specs.Written.{bytes_of};
 ghost use Rattle.escape_simd.specs.Formatted.{IsFormatted, IsInnerWritten, IsQuoted, IsWritten};
@@ -7,9 +9,10 @@ ghost use Rattle.escape_simd.specs.Headline.{IsOnlyOutput};
 ghost use Rattle.escape_simd.specs.Laws.{IsOfOneText};
 ghost use Rattle.escape_simd.specs.Modes.{mode_numbered};
 ghost use Rattle.escape_simd.specs.Output.{bound, quote_of};
+ghost use Rattle.escape_simd.specs.Stretch.{AreTail};
 
 use crate::simd::body::{escape_at, escape_bytes};
-use crate::simd::tail::{escape_tail, store_clean_tail};
+use crate::simd::tail::{TailFlags, escape_flagged_tail, store_clean_tail};
 use crate::simd::{HTML_MODE, JSON_MODE, Vector};
 use escape_lanes::simd::target::{Target, Ticks};
 
@@ -73,35 +76,41 @@ fn format_slice<V: Vector<N>, const MODE: u8, const N: usize>(value: &str, dst: 
 }
 
 /// As [`format_slice`], of a short text, if none of its bytes needs an escape. Else it writes at most the first
-/// quotation mark, and returns `None`.
+/// quotation mark, and returns what a classifier answered.
 #[inline(always)]
-fn format_clean<V: Vector<N>, const MODE: u8, const N: usize>(
-    text: &[u8],
+fn format_clean<'a, V: Vector<N>, const MODE: u8, const N: usize>(
+    text: &'a [u8],
     dst: &mut [u8],
-) -> Option<usize>
+) -> Result<usize, TailFlags<'a>>
     requires few { length text.now < 2 * N }
     requires room { bound (mode_numbered MODE) (length text.now) ≤ length dst.old }
-    ensures clean { IfSome result (λ count. IsWritten N (mode_numbered MODE) text.now dst.old dst.new count) }
-    ensures flagged { IfNone result (drop 1 dst.new ≡ drop 1 dst.old) }
+    ensures clean { IfOk result (λ count. IsWritten N (mode_numbered MODE) text.now dst.old dst.new count) }
+    ensures flagged { IfErr result (λ flags. AreTail (mode_numbered MODE) N text.now (bits_of 64 flags.first) (bits_of 64 flags.last) (asked_of flags.first_classified) (asked_of flags.last_classified)) }
+    ensures kept { OnErr result (drop 1 dst.new ≡ drop 1 dst.old) }
 {
     let mut target = Target::<N>::new(dst);
     let open = quote::<MODE, N>(&mut target, 0);
     match store_clean_tail::<V, MODE, N>(text, 0, &mut target, open, &mut Ticks::new()) {
-        Ok(close) => Some(quote::<MODE, N>(&mut target, close)),
-        Err(_) => None,
+        Ok(close) => Ok(quote::<MODE, N>(&mut target, close)),
+        Err(flags) => Err(flags),
     }
 }
 
-/// As [`format_slice`], of a short text, some of whose bytes may need an escape.
+/// As [`format_slice`], of a short text for which a classifier answered.
 #[inline(never)]
-fn format_short<V: Vector<N>, const MODE: u8, const N: usize>(text: &[u8], dst: &mut [u8]) -> usize
-    requires few { length text.now < 2 * N }
+fn format_flagged<V: Vector<N>, const MODE: u8, const N: usize>(
+    text: &[u8],
+    flags: TailFlags<'_>,
+    dst: &mut [u8],
+) -> usize
+    requires flagged { AreTail (mode_numbered MODE) N text.now (bits_of 64 flags.first) (bits_of 64 flags.last) (asked_of flags.first_classified) (asked_of flags.last_classified) }
     requires room { bound (mode_numbered MODE) (length text.now) ≤ length dst.old }
     ensures { IsWritten N (mode_numbered MODE) text.now dst.old dst.new result }
 {
     let mut target = Target::<N>::new(dst);
+    let mut ticks = Ticks::new();
     let open = quote::<MODE, N>(&mut target, 0);
-    let close = escape_tail::<V, MODE, N>(text, 0, &mut target, open, &mut Ticks::new());
+    let close = escape_flagged_tail::<V, MODE, N>(text, flags, &mut target, open, &mut ticks);
     quote::<MODE, N>(&mut target, close)
 }
 
@@ -121,8 +130,8 @@ pub(crate) fn format_in_mode<V: Vector<N>, const MODE: u8, const N: usize>(
     }
     let text = value.as_bytes();
     match format_clean::<V, MODE, N>(text, dst) {
-        Some(count) => count,
-        None => format_short::<V, MODE, N>(text, dst),
+        Ok(count) => count,
+        Err(flags) => format_flagged::<V, MODE, N>(text, flags, dst),
     }
 }
 

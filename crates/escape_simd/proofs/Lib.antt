@@ -10,7 +10,6 @@ pub mod Shortened
 pub mod PutApart
 pub mod Stretches
 pub mod Lanes
-pub mod Run
 pub mod Pasted
 pub mod Turns
 pub mod Vectors

@@ -1,11 +1,11 @@
 -- How far the turns of a vector have come.
-use Rattle.std.proofs.Common.{◌≡◌, ℕ, ◌+◌, ◌-◌, ◌*◌, ◌<◌, ◌≤◌, Bool, true, false, List, length, take, drop, get_or, refl, sym, arith, append_assoc}
-use Rattle.escape_simd.proofs.Words.{take-take, take-add, bytes_of, first_set, none_set, Mode, needs_escape, stored_of, Target, run_count, run_count_after, Stretch, BeginsRun, CanStore, Escapes, HoldsFlags, IsFinished, IsFlaggedAt, IsRun, IsStored, IsVectorAt, IsVectorEnd, Passed}
+use Rattle.std.proofs.Common.{◌≡◌, ℕ, zero, suc, ◌+◌, ◌-◌, ◌*◌, ◌<◌, ◌≤◌, Bool, true, false, true≢false, List, length, take, drop, get_or, refl, sym, ◌∙◌, arith, append_assoc}
+use Rattle.escape_simd.proofs.Words.{false_from_ne_true, take-take, take-add, bytes_of, first_set, none_set, clear_first, Mode, needs_escape, stored_of, Target, run_count, run_count_after, Stretch, CanStore, Escaped, Escapes, HoldsFlags, IsFinished, IsFlaggedAt, IsStored, IsVectorAt, IsVectorEnd}
 use Rattle.escape_simd.proofs.Escapes.{passed-after, reach-few}
-use Rattle.escape_simd.proofs.Texts.{one≤passed, runs_after-≤, runs_stop-here}
+use Rattle.escape_simd.proofs.Texts.{first-here, next-here, one≤passed, runs_after-≤, runs_stop-here}
 use Rattle.escape_simd.proofs.Stretches.{onward_to, standing, stored_ahead, stretch-on}
 use Rattle.escape_simd.proofs.RestSteps.{clean_escaped, clean_inner, clean_rest, clean_runs}
-use Rattle.escape_simd.proofs.Lanes.{CleanFrom, first-set, first_set-here, first_set-least, held-first, held-none}
+use Rattle.escape_simd.proofs.Lanes.{CleanFrom, cleared-later, first-set, first_set-here, first_set-least, held-cleared, held-first, held-further, held-none, none-before, some_from_set}
 
 -- The bytes of a vector from `next` on are left, with what is written at `to`. The mask has their flags alone.
 pub record IsLeftAt (mode : Mode) (N slack : ℕ) (src : List ℕ) (at valid next to size : ℕ) (bits : List Bool) : Type 0 where
@@ -40,6 +40,11 @@ ahead-front mode src target from border to left whole same count within clean =
     let few : count ≤ left = omega arith in
     rw (← take-take count left _ few, ← take-take count left (drop from src) few, same) refl
 
+-- where a byte needs an escape, no clean byte follows that place
+pub ahead-flagged : {N : ℕ} (mode : Mode) (src : List ℕ) (target : Target N) (from border to : ℕ) → needs_escape mode (get_or src from 0) ≡ true → CleanAhead mode src target from border to
+ahead-flagged mode src target from border to needed zero within clean = refl
+ahead-flagged mode src target from border to needed (suc count) within clean = absurd (true≢false (sym needed ∙ clean from (omega arith) (omega arith)))
+
 -- what clean bytes that stand in a target are passed as
 pub ahead-passed : {N : ℕ} (mode : Mode) (slack : ℕ) (src : List ℕ) (target : Target N) (from border next to : ℕ) → CleanAhead mode src target from border to → from ≤ next → next ≤ border → border ≤ length src → CleanFrom mode src from next
     → Stretch mode slack src target target from next to (to + (next - from))
@@ -64,90 +69,90 @@ first-left : {N : ℕ} {mode : Mode} {slack : ℕ} {src : List ℕ} {valid next 
     → IsFlaggedAt mode src flagged × (next ≤ flagged) × (flagged < valid) × CleanFrom mode src next flagged
 first-left l some is = grind (arith, first-set, first_set-here, held-first)
 
--- one turn: the first run of those left is escaped
+-- one turn: the first byte that is flagged is escaped
 module _ {N : ℕ} {mode : Mode} {slack : ℕ} {src : List ℕ} {old mid : Target N} {valid next to end flagged : ℕ} {bits : List Bool} {ticks_old ticks_new : ℕ}
     (so_far : TurnsSoFar mode slack src old mid valid next to end bits ticks_old ticks_new) (is : flagged ≡ first_set bits) where
-  -- it begins with one of those left
+  -- it is one of those left
   pub turn-place : IsFlaggedAt mode src flagged × (next ≤ flagged) × (flagged < valid) × CleanFrom mode src next flagged
   turn-place = first-left so_far.left so_far.some is
 
-  -- there is room for it
-  pub turn-begins : BeginsRun mode src flagged (end + (flagged - next)) (length (bytes_of mid)) bits
-  turn-begins = record {
-    first = rw (sym is) at (first_set-here bits so_far.some);
-    lanes = λ k s.
-        let f = so_far.left.flags.set k s in let there : 0 + k ≡ k = omega arith in
-        (omega (arith, is, first_set-least bits k s), record { inside = omega (arith, f.0, so_far.left.inside); needed = rw there at f.1 }, omega (arith, turn-place, f.0, is, first_set-least bits k s, so_far.left.room, so_far.eight));
-  }
+  -- there is room for its entry
+  pub turn-room : end + (flagged - next) + 8 ≤ length (bytes_of mid)
+  turn-room = omega (arith, turn-place, so_far.left.room, so_far.eight)
 
-  module _ {new : Target N} {after reached : ℕ} {rest : List Bool} (done : IsRun mode src mid new flagged after (end + (flagged - next)) reached bits rest) where
-    -- it is not empty
-    pub turn-after : (flagged < after) × (after ≤ valid + 2)
-    turn-after = omega (arith, done.some, done.after, one≤passed mode (drop done.last src), (so_far.left.flags.set done.last done.flagged).0)
+  module _ {new : Target N} {after reached : ℕ} (done : Escaped mode src mid new flagged after (end + (flagged - next)) reached) where
+    -- the place after it
+    pub turn-after : (flagged < after) × (after ≤ flagged + 3)
+    turn-after = grind (arith, one≤passed)
 
-    -- what goes past the vector with it is clean
-    turn-over : valid ≤ after → Passed mode src valid after
-    turn-over over = record {
-      whole = over;
-      near = turn-after.1;
-      exact = λ bytewise. omega (arith, over, done.after, bytewise (drop done.last src), (so_far.left.flags.set done.last done.flagged).0);
-      clean = λ p late early. passed-after mode src done.last after p done.after (omega (arith, late, (so_far.left.flags.set done.last done.flagged).0)) early;
-    }
+    -- what was passed with it is clean
+    turn-between : CleanFrom mode src (flagged + 1) after
+    turn-between p late before = passed-after mode src flagged after p done.place (omega arith) before
 
     -- all that was passed up to here
     turn-stretch : Stretch mode (valid - after + slack) src old new 0 after to reached
     turn-stretch =
-        let p = turn-place in let s = done.stretch in let on = stretch-on s in let few = reach-few mode in let u = turn-after in
+        let p = turn-place in let on = stretch-on done.stretch in let few = reach-few mode in let u = turn-after in
         let clean = ahead-passed mode (valid - flagged + slack) src mid next valid flagged end so_far.ahead p.1 (omega arith) (omega (arith, so_far.left.inside)) p.3 in
-        onward_to (valid - after + slack) (onward_to (valid - flagged + slack) so_far.stretch clean (omega arith) (omega arith)) s (omega arith) (omega arith)
+        onward_to (valid - after + slack) (onward_to (valid - flagged + slack) so_far.stretch clean (omega arith) (omega arith)) done.stretch (omega arith) (omega arith)
 
-    -- it was one run
+    -- its run goes on
     turn-runs : run_count_after mode true (drop after src) + 1 ≡ run_count mode (drop next src)
-    turn-runs = omega (arith, done.one, ahead-runs mode src next flagged turn-place.1 turn-place.3)
+    turn-runs = rw done.place (omega (arith, first-here mode src flagged turn-place.0.inside turn-place.0.needed, ahead-runs mode src next flagged turn-place.1 turn-place.3))
 
-    -- the mask that is left has the flags from there on
-    pub turn-flags : HoldsFlags mode src 0 valid after rest
-    turn-flags = record {
-      set = λ k s. so_far.left.flags.set k (done.set k s).1;
-      unset = λ k none later few. so_far.left.flags.unset k (done.unset k none (omega (arith, later))) (omega (arith, later, turn-place.1, turn-after.0)) few;
-    }
+    -- the mask that is left
+    module _ {rest : List Bool} (cut : rest ≡ clear_first (first_set bits + 1) bits) where
+      -- has the flags from there on
+      pub turn-flags : HoldsFlags mode src 0 valid after rest
+      turn-flags = grind (arith, turn-after, turn-place, held-cleared, held-further)
 
-    -- the next byte is clean
-    turn-stops : after < valid → needs_escape mode (get_or src after 0) ≡ false
-    turn-stops before = let there : 0 + after ≡ after = omega arith in rw there at (turn-flags.unset after done.ended (omega arith) before)
+      -- and none before
+      turn-cleared : (k : ℕ) → get_or rest k false ≡ true → after ≤ 0 + k
+      turn-cleared = grind (arith, none-before, cleared-later, turn-flags, turn-between)
 
-    -- where the mask has no flag, the last clean bytes are left
-    pub turn-end : none_set rest ≡ true → IsVectorEnd mode N slack src valid after reached (length (bytes_of new))
-    turn-end none =
-        let clean = held-none mode src 0 valid after rest turn-flags (omega arith) none in
-        grind (arith, turn-place, turn-after, turn-over, stretch-on done.stretch, so_far.left)
+      -- where it has some, bytes are left
+      pub turn-left : none_set rest ≡ false → IsLeftAt mode N slack src 0 valid after reached (length (bytes_of new)) rest
+      turn-left some =
+          let p = turn-place in let u = turn-after in let on = stretch-on done.stretch in let flags = turn-flags in let none = turn-cleared in
+          let f = (first-set mode src 0 valid after rest turn-flags some).0 in let c = turn-cleared (first_set rest) (first_set-here rest some) in
+          let w = so_far.left in grind arith
+
+      -- where it has none, the last clean ones are
+      pub turn-end : none_set rest ≡ true → IsVectorEnd mode N slack src valid after reached (length (bytes_of new))
+      turn-end none = grind (arith, turn-place, turn-after, stretch-on done.stretch, held-none mode src 0 valid after rest turn-flags (omega arith) none, turn-between, so_far.left)
+
+      -- where the run goes on, so do the turns
+      pub turn-goes-on : none_set rest ≡ false → after ≡ first_set rest → TurnsSoFar mode slack src old new valid after to reached rest ticks_old ticks_new
+      turn-goes-on some is_next =
+          let runs = turn-runs in let l = turn-left some in let f = (first-left l some is_next).0 in
+          let ahead = ahead-flagged mode src new after valid reached f.needed in let here = next-here mode src after f.inside f.needed in let first = first-here mode src after f.inside f.needed in let s = turn-stretch in grind arith
+
+      -- where it has ended
+      module _ (some : none_set rest ≡ false) (other : first_set rest ≡ after → ⊥) where
+        -- the vector that begins there can be stored
+        pub turn-stores : (after ≤ valid) × CanStore N slack src after (valid - after) reached (length (bytes_of new))
+        turn-stores = let l = turn-left some in (omega (arith, l.before), record { few = omega (arith, l.few); inside = omega (arith, l.inside, l.before); room = omega (arith, l.room, l.before) })
+
+        -- the next byte is clean
+        turn-stops : needs_escape mode (get_or src after 0) ≡ false
+        turn-stops =
+            let there : 0 + after ≡ after = omega arith in let l = turn-left some in
+            let unset = false_from_ne_true (get_or rest after false) (λ set. other (omega (arith, first_set-least rest after set, turn-cleared (first_set rest) (first_set-here rest some)))) in
+            rw there at (turn-flags.unset after unset (omega arith) (omega (arith, l.before)))
+
+        -- it was stored, and the turns go on
+        pub turn-stored : {later : Target N} {ticks : ℕ} → IsStored slack src new later after (valid - after) reached → ticks ≡ ticks_new + 1 → TurnsSoFar mode slack src old later valid after to reached rest ticks_old ticks
+        turn-stored {later = later} s tick =
+            let l = turn-left some in let runs = turn-runs in
+            let ahead = ahead-front mode src later after valid reached (valid - after) (omega arith) s.ahead in
+            let stored = stored_ahead mode slack src new later after (valid - after) reached s (omega (arith, l.before, l.inside)) in
+            let on = onward_to (valid - after + slack) turn-stretch stored (omega arith) (omega arith) in
+            let stop = runs_stop-here mode src after (omega (arith, l.before, l.inside)) turn-stops in
+            grind arith
 
     -- these were passed: so was the vector
     pub turn-finished : {last : Target N} {past close ticks : ℕ} → IsFinished mode slack src new last valid after past reached close ticks_new ticks → Escapes mode slack valid 1 1 src old last 0 past to close ticks_old ticks
     turn-finished f = let s = onward_to slack turn-stretch f.stretch (omega (arith, stretch-on f.stretch, f.passed.whole)) (omega arith) in grind (arith, turn-runs)
-
-    -- where it has some
-    module _ (some : none_set rest ≡ false) where
-      -- bytes are left
-      pub turn-left : IsLeftAt mode N slack src 0 valid after reached (length (bytes_of new)) rest
-      turn-left =
-          let p = turn-place in let u = turn-after in let on = stretch-on done.stretch in let flags = turn-flags in
-          let f = (first-set mode src 0 valid after rest turn-flags some).0 in let c = (done.set (first_set rest) (first_set-here rest some)).0 in
-          let w = so_far.left in let none = λ (k : ℕ) (s : get_or rest k false ≡ true). (done.set k s).0 in grind arith
-
-      -- the vector that begins there is stored
-      pub turn-stores : (after ≤ valid) × CanStore N slack src after (valid - after) reached (length (bytes_of new))
-      turn-stores = let l = turn-left in (omega (arith, l.before), record { few = omega (arith, l.few); inside = omega (arith, l.inside, l.before); room = omega (arith, l.room, l.before) })
-
-      -- and the next turn begins
-      pub turn-next : {later : Target N} {ticks : ℕ} → IsStored slack src new later after (valid - after) reached → ticks ≡ ticks_new + 1 → TurnsSoFar mode slack src old later valid after to reached rest ticks_old ticks
-      turn-next {later = later} s tick =
-          let l = turn-left in let runs = turn-runs in
-          let ahead = ahead-front mode src later after valid reached (valid - after) (omega arith) s.ahead in
-          let stored = stored_ahead mode slack src new later after (valid - after) reached s (omega (arith, l.before, l.inside)) in
-          let on = onward_to (valid - after + slack) turn-stretch stored (omega arith) (omega arith) in
-          let stop = runs_stop-here mode src after (omega (arith, l.before, l.inside)) (turn-stops (omega (arith, l.before))) in
-          grind arith
 
 -- after the last escape of a vector, its last clean bytes were stored
 pub finished-stored : {N : ℕ} {mode : Mode} {slack : ℕ} {src : List ℕ} {old new : Target N} {border from to size ticks_old ticks_new : ℕ} → from < border → IsVectorEnd mode N slack src border from to size

@@ -85,29 +85,6 @@ pub record Escaped {N : ℕ} (mode : Mode) (src : List ℕ) (old new : Target N)
   pub place : next ≡ at + passed mode (drop at src)
   pub stored : stored_of new ≡ stored_of old
 
--- A mask has the lane of the byte at `at`, and none before it. Each of its lanes is a byte of the text that needs an escape, and
--- there is room for its entry after what those from `at` on become.
-pub record BeginsRun (mode : Mode) (src : List ℕ) (at to size : ℕ) (bits : List Bool) : Type 0 where
-  pub first : slice_index_or bits at false ≡ true
-  pub lanes : (k : ℕ) → slice_index_or bits k false ≡ true → (at ≤ k) × IsFlaggedAt mode src k × (to + 6 * (k - at) + 8 ≤ size)
-
--- The run of bytes at `at` whose lanes a mask has was escaped: up to `next`, with `last` the last flagged one of them. No vector was
--- stored. The mask that is left has the lanes after them, and not that of the next byte.
-pub record IsRun {N : ℕ} (mode : Mode) (src : List ℕ) (old new : Target N) (at next to end : ℕ) (bits left : List Bool) : Type 0 where
-  pub stretch : Stretch mode (run_reach mode) src old new at next to end
-  pub one : run_count mode (drop at src) ≡ run_count_after mode true (drop next src) + 1
-  pub stored : stored_of new ≡ stored_of old
-  -- where what stands for a byte is told by that byte alone, each of them is one escape
-  pub place : IsByteWise mode → run_end mode src next ≡ run_end mode src at
-  pub escaped : IsByteWise mode → escaped_of new ≡ escaped_of old + (next - at)
-  pub last : ℕ
-  pub some : at ≤ last
-  pub flagged : slice_index_or bits last false ≡ true
-  pub after : next ≡ last + passed mode (drop last src)
-  pub set : (k : ℕ) → slice_index_or left k false ≡ true → (next ≤ k) × (slice_index_or bits k false ≡ true)
-  pub unset : (k : ℕ) → slice_index_or left k false ≡ false → next ≤ k → slice_index_or bits k false ≡ false
-  pub ended : slice_index_or left next false ≡ false
-
 -- A mask has the flags of `valid` bytes of a text from `at` on, at most a vector of N. A vector can be loaded from each place from
 -- `at` to their end, and there is room for what they become and for what their stores reach past it.
 pub record IsVectorAt (mode : Mode) (N slack : ℕ) (src : List ℕ) (at valid to size : ℕ) (bits : List Bool) : Type 0 where

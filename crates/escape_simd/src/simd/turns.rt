@@ -1,4 +1,4 @@
-//! The runs of escapes of a vector in turn, by its mask.
+//! The escapes of a vector in turn, by its mask.
 ghost use Rattle.std.specs.Prelude.{◌≡◌, ◌+◌, ◌-◌, ◌≤◌, false, length, take};
 ghost use Rattle.escape_lanes.specs.Bits.{bits_of, none_set};
 ghost use Rattle.escape_lanes.specs.Classified.{asked_of, IsWithin, Tells};
@@ -8,9 +8,10 @@ ghost use Rattle.escape_simd.specs.Stretch.{CanStore, Escapes, IsFinished, IsSto
 
 use crate::simd::Vector;
 use crate::simd::store::store;
-use crate::simd::util::escape_run;
+use crate::simd::util::escape;
 use escape_lanes::simd::BitMask;
 use escape_lanes::simd::classify::{Classified, classify_by_mask};
+use escape_lanes::simd::lane_bits::clear_first_lane;
 use escape_lanes::simd::target::{Target, Ticks};
 
 /// Stores the text's bytes from `from` on, where a run of escapes has ended, up to the vector's `border`. The mask has
@@ -61,9 +62,9 @@ fn finish_vector<V: Vector<N>, const MODE: u8, const N: usize, const LAST: bool>
 /// Escapes the first `valid` bytes of the text's first vector, some of which are flagged. Returns the places
 /// after them.
 ///
-/// The vector is stored. Then each turn passes the clean bytes before the next run of escapes, writes that run, and
-/// stores the vector that begins where it ended. The loop ends in the middle of a turn: so the compiler peels the first
-/// turn, and a vector with one run takes no branch of the loop.
+/// The vector is stored. Then each turn passes the clean bytes before the next flagged one, writes what stands for that
+/// one, and where no flagged byte follows it stores the vector that begins there. The loop ends in the middle of a turn:
+/// so the compiler peels the first turn, and a vector with one escape takes no branch of the loop.
 #[inline(always)]
 pub(crate) fn escape_by_turns<V: Vector<N>, const MODE: u8, const N: usize, const LAST: bool>(
     text: &[u8],
@@ -85,15 +86,18 @@ pub(crate) fn escape_by_turns<V: Vector<N>, const MODE: u8, const N: usize, cons
     let mut end = to;
     'turns: loop {
         let flagged = left.first_offset();
-        let run = escape_run::<MODE, N>(text, flagged, left, target, end + (flagged - next));
-        if run.mask.all_zero() {
+        let (after, reached) =
+            escape::<MODE, N>(text, flagged, target, end + (flagged - next));
+        left = clear_first_lane(left);
+        if left.all_zero() {
             return finish_vector::<V, MODE, N, LAST>(
-                text, valid, run.next, run.mask, target, run.end, ticks,
+                text, valid, after, left, target, reached, ticks,
             );
         }
-        store_tail::<V, MODE, N, LAST>(text, valid, run.next, run.mask, target, run.end, ticks);
-        left = run.mask;
-        next = run.next;
-        end = run.end;
+        if left.first_offset() != after {
+            store_tail::<V, MODE, N, LAST>(text, valid, after, left, target, reached, ticks);
+        }
+        next = after;
+        end = reached;
     }
 }

@@ -1,20 +1,17 @@
 //! What stands for a byte that needs an escape, the run of escapes, and its form in blocks.
-ghost use Rattle.std.specs.Prelude.{min, ◌≡◌, ℕ, ◌+◌, ◌-◌, ◌*◌, ◌<◌, ◌≤◌, ◌++◌, true, IsTrue, length, take, drop, slice_index, slice_range};
-ghost use Rattle.escape_lanes.specs.Bits.{bits_of};
+ghost use Rattle.std.specs.Prelude.{◌≡◌, ℕ, ◌+◌, ◌-◌, ◌*◌, ◌<◌, ◌≤◌, ◌++◌, true, IsTrue, length, take, drop, slice_index, slice_range};
 ghost use Rattle.escape_lanes.specs.Mode.{mode_of};
 ghost use Rattle.escape_lanes.specs.Replacement.{needs_escape};
 ghost use Rattle.escape_lanes.specs.Written.{bytes_of, stored_of, escaped_of, quotes_of, writes_of, IsSameSlice};
 ghost use Rattle.escape_simd.specs.Modes.{mode_numbered};
 ghost use Rattle.escape_simd.specs.Output.{inner};
-ghost use Rattle.escape_simd.specs.Stretch.{BeginsRun, Escaped, HoldsFlags, IsFlaggedAt, IsRun, Stretch, run_end, run_reach};
+ghost use Rattle.escape_simd.specs.Stretch.{Escaped, IsFlaggedAt, Stretch, run_end, run_reach};
 
 mod blocks;
 
 use crate::simd::entry::{entry, is_separator, separator_entry};
 use crate::simd::{HTML_MODE, JSON_MODE, SCRIPT_MODE};
 pub(crate) use blocks::{are_paid, are_short, escape_blocks};
-use escape_lanes::simd::BitMask;
-use escape_lanes::simd::lane_bits::clear_first_lane;
 use escape_lanes::simd::target::Target;
 
 /// Writes what stands for the byte at `at`, which needs an escape, or for the separator that begins
@@ -41,90 +38,30 @@ pub(crate) fn escape<const MODE: u8, const N: usize>(
     (at + 1, end)
 }
 
-/// Where a run of escapes ended, in the text and in the target, and the flags of the bytes after it.
-#[derive(Drop)]
-pub(crate) struct Run {
-    pub next: usize,
-    pub end: usize,
-    pub mask: u64,
-}
-
-/// Escapes the run of flagged bytes at `at`, whose lanes `mask` has: up to the first byte that has none.
+/// Escapes the run of bytes at `at` that need an escape, up to the first byte that needs none or the end. Returns that
+/// place, and the place in the target after the last replacement.
 #[inline(always)]
-pub(crate) fn escape_run<const MODE: u8, const N: usize>(
-    text: &[u8],
-    at: usize,
-    mask: u64,
-    target: &mut Target<'_, N>,
-    to: usize,
-) -> Run
-    requires { BeginsRun (mode_numbered MODE) text.now at to (length (bytes_of target.old)) (bits_of 64 mask) }
-    ensures { IsRun (mode_numbered MODE) text.now target.old target.new at result.next to result.end (bits_of 64 mask) (bits_of 64 result.mask) }
-{
-    let mut next = at;
-    let mut end = to;
-    let mut left = mask;
-    'run: loop {
-        (next, end) = escape::<MODE, N>(text, next, target, end);
-        left = clear_first_lane(left);
-        // Asked apart from the next question: the caller asks it again, and the compiler joins both.
-        if left.all_zero() {
-            return Run {
-                next,
-                end,
-                mask: left,
-            };
-        }
-        if left.first_offset() != next {
-            return Run {
-                next,
-                end,
-                mask: left,
-            };
-        }
-    }
-}
-
-/// Returns the flags of the first bytes, at most 64.
-fn mask_of<const MODE: u8>(text: &[u8]) -> u64
-    ensures { HoldsFlags (mode_numbered MODE) text.now 0 (min (length text.now) 64) 0 (bits_of 64 result) }
-{
-    let mut mask = 0;
-    let mut at = text.len().min(64);
-    'lanes: while 0 < at {
-        at -= 1;
-        mask = 2 * mask + (entry::<MODE>(text[at]).0 != 0) as u64;
-    }
-    mask
-}
-
-/// Escapes the run of bytes at `at` that need an escape, as often as it fills a mask. Returns its end, and the place in
-/// the target after the last replacement.
-#[inline(always)]
-fn escape_long_run<const MODE: u8, const N: usize>(
+fn escape_run<const MODE: u8, const N: usize>(
     src: &[u8],
     at: usize,
     target: &mut Target<'_, N>,
     to: usize,
 ) -> (usize, usize)
     requires bytewise { MODE < 2 }
-    requires flagged { IsFlaggedAt (mode_numbered MODE) src.now at }
+    requires inside { at ≤ length src.now }
     requires room { to + 6 * (length src.now - at) + 2 ≤ length (bytes_of target.old) }
     ensures stretch { Stretch (mode_numbered MODE) (run_reach (mode_numbered MODE)) src.now target.old target.new at result.0 to result.1 }
-    ensures stored { stored_of target.new ≡ stored_of target.old }
     ensures place { result.0 ≡ run_end (mode_numbered MODE) src.now at }
     ensures escaped { escaped_of target.new ≡ escaped_of target.old + (result.0 - at) }
+    ensures stored { stored_of target.new ≡ stored_of target.old }
 {
     let mut next = at;
     let mut end = to;
-    'runs: while next < src.len() {
+    'run: while next < src.len() {
         if entry::<MODE>(src[next]).0 == 0 {
             return (next, end);
         }
-        let text = &src[next..];
-        let run = escape_run::<MODE, N>(text, 0, mask_of::<MODE>(text), target, end);
-        next += run.next;
-        end = run.end;
+        (next, end) = escape::<MODE, N>(src, next, target, end);
     }
     (next, end)
 }
@@ -160,7 +97,7 @@ pub fn escape_unchecked<const HTML: bool, const N: usize>(
     ensures writes { writes_of target.new ≤ writes_of target.old + (result.0 - at) }
 {
     if HTML {
-        return escape_long_run::<{ HTML_MODE }, N>(src, at, target, to);
+        return escape_run::<{ HTML_MODE }, N>(src, at, target, to);
     }
-    escape_long_run::<{ JSON_MODE }, N>(src, at, target, to)
+    escape_run::<{ JSON_MODE }, N>(src, at, target, to)
 }

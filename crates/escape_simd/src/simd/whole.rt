@@ -14,6 +14,7 @@ ghost use Rattle.escape_simd.specs.Stretch.{AreTail};
 use crate::simd::body::{escape_at, escape_bytes};
 use crate::simd::tail::{TailFlags, escape_flagged_tail, store_clean_tail};
 use crate::simd::{HTML_MODE, JSON_MODE, Vector};
+use escape_lanes::simd::classify::Classified;
 use escape_lanes::simd::target::{Target, Ticks};
 
 /// Writes a quotation mark in JSON, also in script mode, and nothing in HTML. Returns the place after it.
@@ -97,16 +98,27 @@ fn format_clean<'a, V: Vector<N>, const MODE: u8, const N: usize>(
 }
 
 /// As [`format_slice`], of a short text for which a classifier answered.
+///
+/// The parts of [`TailFlags`] are arguments of their own, so that they are passed in registers.
 #[inline(never)]
 fn format_flagged<V: Vector<N>, const MODE: u8, const N: usize>(
     text: &[u8],
-    flags: TailFlags<'_>,
+    first: u64,
+    first_classified: Classified<'_>,
+    last: u64,
+    last_classified: Classified<'_>,
     dst: &mut [u8],
 ) -> usize
-    requires flagged { AreTail (mode_numbered MODE) N text.now (bits_of 64 flags.first) (bits_of 64 flags.last) (asked_of flags.first_classified) (asked_of flags.last_classified) }
+    requires flagged { AreTail (mode_numbered MODE) N text.now (bits_of 64 first) (bits_of 64 last) (asked_of first_classified) (asked_of last_classified) }
     requires room { bound (mode_numbered MODE) (length text.now) ≤ length dst.old }
     ensures { IsWritten N (mode_numbered MODE) text.now dst.old dst.new result }
 {
+    let flags = TailFlags {
+        first,
+        first_classified,
+        last,
+        last_classified,
+    };
     let mut target = Target::<N>::new(dst);
     let mut ticks = Ticks::new();
     let open = quote::<MODE, N>(&mut target, 0);
@@ -131,7 +143,14 @@ pub(crate) fn format_in_mode<V: Vector<N>, const MODE: u8, const N: usize>(
     let text = value.as_bytes();
     match format_clean::<V, MODE, N>(text, dst) {
         Ok(count) => count,
-        Err(flags) => format_flagged::<V, MODE, N>(text, flags, dst),
+        Err(flags) => format_flagged::<V, MODE, N>(
+            text,
+            flags.first,
+            flags.first_classified,
+            flags.last,
+            flags.last_classified,
+            dst,
+        ),
     }
 }
 

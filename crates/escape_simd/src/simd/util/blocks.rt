@@ -1,5 +1,5 @@
 //! The escapes of a vector in blocks of eight bytes, with no branch on a single byte.
-ghost use Rattle.std.specs.Prelude.{◌≡◌, ◌+◌, ◌-◌, ◌*◌, ◌/◌, ◌≤◌, ◌&&◌, ◌||◌, true, false, not, length, map, take, drop, nat_le, if◌then◌else◌};
+ghost use Rattle.std.specs.Prelude.{◌≡◌, ◌+◌, ◌-◌, ◌*◌, ◌/◌, ◌≤◌, ◌&&◌, ◌||◌, true, false, not, length, map, take, drop, if◌then◌else◌};
 ghost use Rattle.escape_lanes.specs.Bits.{bits_of, gaps, none_set};
 ghost use Rattle.escape_lanes.specs.Classified.{asked_of, IsWithin, Tells};
 ghost use Rattle.escape_lanes.specs.Short.{shortened};
@@ -14,17 +14,22 @@ use escape_lanes::simd::lane_bits::{count_flagged_blocks, count_gaps, eight_lane
 use escape_lanes::simd::short::{has_long, shorten};
 use escape_lanes::simd::target::{Target, Ticks};
 
-/// Returns whether the blocks of eight that a vector's first `valid` bytes take count as no more stored vectors than its turns
-/// would. A block without an escape counts as one. The vector itself pays for one of them, and each run that ends in it for
-/// another one.
-///
-/// Up to 16 bytes take two blocks, one of which has an escape, and then there is no branch on the flags.
+/// With fewer flags than these single escapes are faster.
+const FEWEST_FLAGS: u32 = 3;
+
+/// Returns whether the flags are many, and the blocks of eight that a vector's first `valid` bytes take count as no more
+/// stored vectors than its turns would. A block without an escape counts as one. The vector itself pays for one of them,
+/// and each run that ends in it for another one.
 #[inline(always)]
 pub(crate) fn are_paid(flags: u64, valid: usize) -> bool
     requires some { none_set (bits_of 64 flags) ≡ false }
     requires few { valid ≤ 64 }
-    ensures { result ≡ nat_le ((valid + 7) / 8) (flagged_blocks 8 (bits_of 64 flags) + gaps false (take valid (bits_of 64 flags)) + 1) }
+    ensures { result ≡ true → (valid + 7) / 8 ≤ flagged_blocks 8 (bits_of 64 flags) + gaps false (take valid (bits_of 64 flags)) + 1 }
 {
+    if flags.count_ones() < FEWEST_FLAGS {
+        return false;
+    }
+    // Up to 16 bytes take two blocks, one of which has an escape.
     valid <= 16 || (valid + 7) / 8 <= count_flagged_blocks(flags) + count_gaps(flags, valid) + 1
 }
 

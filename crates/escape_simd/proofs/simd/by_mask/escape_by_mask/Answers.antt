@@ -1,14 +1,9 @@
-use Rattle.std.proofs.Common.{Bool, nat_le}
-use Rattle.escape_simd.proofs.Words.{◌≡◌, ◌≤◌, ◌+◌, ◌-◌, ◌∙◌, ℕ, true, nat_tests, not, nat_eq, List, length, length-drop, take, drop, sym, subst, arith, take_all, bits_of, bytes_of, mode_numbered, asked_of, Escapes, IsWithin, reach}
+use Rattle.escape_simd.proofs.Words.{◌≡◌, ◌≤◌, ◌+◌, ◌-◌, ◌∙◌, ℕ, not, nat_eq, List, length, length-drop, take, drop, sym, subst, arith, take_all, bits_of, bytes_of, mode_numbered, asked_of, Escapes, IsWithin, reach}
 use denote.Param.{number, value_of}
 use Rattle.escape_simd.proofs.Lanes.{held-none}
 use Rattle.escape_simd.proofs.Stretches.{reach-bounds}
 use Rattle.escape_simd.proofs.Vectors.{escapes-later, vector-blocks, vector-clean, vector-later}
 use Rattle.escape_simd.proofs.simd.by_mask.escape_by_mask.Goals as goal
-
--- a test that holds
-paid : (b : Bool) (m n : ℕ) → b ≡ nat_le m n → b ≡ true → m ≤ n
-paid b m n is holds = let e : nat_le m n ≡ true = sym is ∙ holds in grind (arith, nat_tests, e)
 
 pub returns-then-all_zero : goal.returns-then-all_zero
 returns-then-all_zero g c =
@@ -20,7 +15,7 @@ pub returns-then-are_short : goal.returns-then-are_short
 returns-then-are_short g c =
     let last = not (nat_eq (value_of (number g.row.LAST)) 0) in let far = reach-bounds last g.row.N g.met.V.Vector.several in
     vector-blocks (mode_numbered g.row.MODE) (reach last g.row.N) c.args.src.now c.args.target.now c.escape_blocks-end.new.target c.args.at c.args.valid c.args.to c.escape_blocks-end.result (length (bytes_of c.args.target.now)) c.args.mask c.args.ticks.now c.escape_blocks-end.new.ticks
-    c.requires.vector (c.are_short.ensures c.if-are_short.true) g.met.V.Vector.most (omega (arith, far)) (paid c.are_paid.result _ _ c.are_paid.ensures c.if-are_paid.true) c.escape_blocks-end.ensures.stretch c.escape_blocks-end.ensures.stored c.escape_blocks-end.ensures.ticks
+    c.requires.vector (c.are_short.ensures c.if-are_short.true) g.met.V.Vector.most (omega (arith, far)) (c.are_paid.ensures c.if-are_paid.true) c.escape_blocks-end.ensures.stretch c.escape_blocks-end.ensures.stored c.escape_blocks-end.ensures.ticks
 
 pub escape_by_turns-passed-requires : goal.escape_by_turns-passed-requires
 escape_by_turns-passed-requires g c =

@@ -1,9 +1,9 @@
 -- The last bytes of a text, held with zeros behind them.
-use Rattle.std.proofs.Common.{min, ◌≡◌, ℕ, ◌+◌, ◌-◌, ◌*◌, ◌/◌, ◌<◌, ◌≤◌, Bool, false, List, [], ◌++◌, length, take, drop, replicate, map, refl, sym, ap, subst, ◌∙◌, arith, append_assoc, append-nil, length-append, length-drop}
+use Rattle.std.proofs.Common.{min, ◌≡◌, ℕ, ◌+◌, ◌-◌, ◌*◌, ◌/◌, ◌<◌, ◌≤◌, Bool, true, false, List, [], ◌++◌, length, take, drop, replicate, map, refl, sym, ap, subst, ◌∙◌, arith, append_assoc, append-nil, length-append, length-drop}
 use Rattle.std.proofs.Math.Nat.{div-eq_of_lt, div-eq_of_lt-le}
-use Rattle.escape_simd.proofs.Words.{append_cancel_right, drop_all, drop_at, get_or_past, length-replicate, replicate-append-replicate, drop-append-le, drop-drop, take_all, take-append-le, clear_last, Mode, script, needs_escape, bytes_of, Target, inner, escaped_count, run_count, AreTail, IsWithin, Escapes, HoldsFlags, IsStored, IsVectorAt, Passed}
+use Rattle.escape_simd.proofs.Words.{append_cancel_right, drop_all, drop_at, get_or-drop, get_or_past, none_set, length-replicate, replicate-append-replicate, drop-append-le, drop-drop, take_all, take-append-le, clear_last, Mode, script, needs_escape, bytes_of, Target, inner, escaped_count, run_count, AreTail, IsWithin, Escapes, HoldsFlags, IsStored, IsVectorAt, Passed}
 use Rattle.escape_simd.proofs.Behind.{inner-behind, escaped-behind, get_or-behind, runs-behind}
-use Rattle.escape_simd.proofs.Lanes.{CleanFrom, get_or-clear_last, get_or-cleared_last, held-cut}
+use Rattle.escape_simd.proofs.Lanes.{CleanFrom, get_or-clear_last, get_or-cleared_last, held-cut, held-none}
 use Rattle.escape_simd.proofs.ReplacementLemmas.{inner-nil}
 use Rattle.escape_simd.proofs.RestSteps.{rest-is}
 use Rattle.escape_simd.proofs.Stretches.{ended, onward_to, stored_ahead}
@@ -78,10 +78,10 @@ module _ (mode : Mode) (text : List ℕ) (k : ℕ) where
       }
 
 -- two clean vectors that may have some of the same bytes
-pub two-clean : {N : ℕ} (mode : Mode) (slack n : ℕ) (src : List ℕ) (old mid new : Target N) (at to t0 t1 : ℕ) → at + n ≤ length src → length src < at + 2 * n → CleanFrom mode src at (at + n) → CleanFrom mode src (length src - n) (length src)
-    → IsStored slack src old mid at n to → IsStored slack src mid new (length src - n) n (to + (length src - at - n)) → t1 ≡ t0 + 2
-    → Escapes mode slack (length src) 2 0 src old new at (length src) to (to + (length src - at)) t0 t1
-two-clean mode slack n src old mid new at to t0 t1 inside few clean1 clean2 s1 s2 ticks =
+pub two-clean : {N : ℕ} (mode : Mode) (slack n : ℕ) (src : List ℕ) (old mid new : Target N) (at to t : ℕ) → at + n ≤ length src → length src < at + 2 * n → CleanFrom mode src at (at + n) → CleanFrom mode src (length src - n) (length src)
+    → IsStored slack src old mid at n to → IsStored slack src mid new (length src - n) n (to + (length src - at - n))
+    → Escapes mode slack (length src) 2 2 src old new at (length src) to (to + (length src - at)) t t
+two-clean mode slack n src old mid new at to t inside few clean1 clean2 s1 s2 =
     let shared : ℕ = length src - at - n in
     let p = ahead-passed mode slack src mid at (at + n) (length src - n) to (ahead-front mode src mid at (at + n) to n (omega arith) s1.ahead) (omega (arith, inside)) (omega (arith, few, inside)) inside (λ p late early. clean1 p late (omega (arith, early, few, inside))) in
     let first = onward_to (n - shared + slack) (stored_ahead mode slack src old mid at n to s1 (omega (arith, inside))) (ended p refl (omega (arith, inside))) (omega (arith, few, inside)) (omega arith) in
@@ -90,7 +90,7 @@ two-clean mode slack n src old mid new at to t0 t1 inside few clean1 clean2 s1 s
     record {
       stretch = onward_to slack first (ended rest (omega (arith, inside)) (omega (arith, inside))) (omega (arith, few, inside)) (omega arith);
       passed = passed-to mode src (length src);
-      cost = record { stored = omega (arith, s1.stored, s2.stored, same); covered = omega (arith, s1.stored, s2.stored, ticks); classified = omega (arith, same, ticks) };
+      cost = record { stored = omega (arith, s1.stored, s2.stored, same); covered = omega (arith, s1.stored, s2.stored); classified = omega (arith, same) };
     }
 
 -- A short text by its masks
@@ -179,6 +179,21 @@ within-tail text rows whole border next k is asked after inside =
     let there : border + (next - border) ≡ next = omega (arith, after) in
     let cut : drop (next - border) whole ≡ drop next text = ap (drop (next - border)) asked ∙ drop-drop (next - border) border text ∙ ap (λ i. drop i text) there in
     record { at = next - border; same = rw (part, cut) (take_all (length (drop next text)) (drop next text) (omega arith)) }
+
+-- A short text of which no byte is flagged, behind other bytes
+module _ {mode : Mode} {n : ℕ} {first last : List Bool} {first_asked last_asked : List ℕ} (src : List ℕ) (at : ℕ) (inside : at ≤ length src) (t : AreTail mode n (drop at src) first last first_asked last_asked) where
+  -- its last vector is clean, which may be all of it
+  pub tail-clean_back : none_set last ≡ true → CleanFrom mode src (at + (length src - at - n)) (length src)
+  tail-clean_back none p late early =
+      let count = length-drop at src in
+      let clean = held-none mode (drop at src) (length (drop at src) - n) (min (length (drop at src)) n) (length (drop at src) - n) last t.back (omega arith) none (p - at) (omega (arith, late, count)) (omega (arith, late, early, count)) in
+      let there : at + (p - at) ≡ p = omega (arith, late) in rw (get_or-drop at src (p - at) 0, there) at clean
+
+  -- and its first one
+  pub tail-clean_front : n ≤ length src - at → none_set first ≡ true → CleanFrom mode src at (at + n)
+  tail-clean_front some none p late early =
+      let clean = held-none mode (drop at src) 0 n 0 first (t.front (omega (arith, some, length-drop at src))) (omega arith) none (p - at) (omega arith) (omega (arith, late, early)) in
+      let there : at + (p - at) ≡ p = omega (arith, late) in rw (get_or-drop at src (p - at) 0, there) at clean
 
 -- as they were escaped, so was the rest of the text
 pub rest-escaped : {N : ℕ} {mode : Mode} {slack vectors : ℕ} {old new : Target N} {to end t1 t2 : ℕ} (src text : List ℕ) (at n t0 : ℕ) → text ≡ drop at src → at ≤ length src → vectors ≡ (length src - at) / n + 1 → t1 ≡ t0 + vectors

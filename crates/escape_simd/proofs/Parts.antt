@@ -8,17 +8,17 @@ use Rattle.std.proofs.lemmas.Bool.Decides.{nat_tests}
 use Rattle.std.proofs.lemmas.List.{append-nil, length-map, take-append-drop, take-take, take_all}
 use Rattle.std.proofs.lemmas.List.Sums.{get_or-le-sum_by}
 use Rattle.std.proofs.lemmas.Simd.{length-zip2}
-use Rattle.escape_lanes.specs.Bits.{clear_last, none_set}
+use Rattle.escape_lanes.specs.Bits.{none_set}
 use Rattle.escape_lanes.specs.Mode.{Mode}
 use Rattle.escape_lanes.specs.Replacement.{needs_escape}
 use Rattle.escape_lanes.specs.Written.{bytes_of}
 use Rattle.escape_lanes.specs.declared.simd.target.Target.{Target}
 use Rattle.escape_simd.specs.Output.{inner, quote_of}
 use Rattle.escape_simd.specs.Parts.{IsAnswer, IsFront, IsPartAt}
-use Rattle.escape_simd.specs.Stretch.{HoldsFlags, reach}
+use Rattle.escape_simd.specs.Stretch.{AreTail, reach}
 use Rattle.escape_simd.proofs.Costs.{BodySoFar}
-use Rattle.escape_simd.proofs.Lanes.{CleanFrom, clean-list, held-none, none_set-joined}
-use Rattle.escape_simd.proofs.Last.{last-mask}
+use Rattle.escape_simd.proofs.Lanes.{CleanFrom, clean-list, none_set-joined}
+use Rattle.escape_simd.proofs.Last.{tail-clean_back, tail-clean_front}
 use Rattle.escape_simd.proofs.ReplacementLemmas.{inner-nil}
 use Rattle.escape_simd.proofs.RestSteps.{rest-is}
 use Rattle.escape_simd.proofs.Stretches.{stretch-on}
@@ -70,18 +70,20 @@ marked mode text old new last written quoted = grind (arith, append_assoc)
 
 -- Short texts
 
--- a text shorter than a vector, and its mask
-module _ (mode : Mode) (n : ℕ) (text lanes : List ℕ) (truths whole bits : List Bool) (narrow : n ≤ 64) (few : length text < n) (long : length lanes ≡ n) (loaded : lanes ≡ drop (length text - length text) text ++ replicate (n - length text) 0)
-    (flagged : truths ≡ map (needs_escape mode) lanes) (all : whole ≡ truths ++ replicate (64 - n) false) (cut : bits ≡ clear_last (64 - length text) whole) where
-  held-one : HoldsFlags mode text 0 (length text) 0 bits
-  held-one = let h = last-mask mode n text lanes 0 truths whole bits in grind arith
+-- a short text of which no byte is flagged stands for itself
+pub tail-itself : {first last : List Bool} {first_asked last_asked : List ℕ} (mode : Mode) (n : ℕ) (text : List ℕ) → AreTail mode n (drop 0 text) first last first_asked last_asked → none_set first ≡ true → none_set last ≡ true → inner mode text ≡ text
+tail-itself mode n text t none1 none2 =
+    itself mode text (λ p late early.
+    let few = t.few in let back = tail-clean_back text 0 (omega arith) t none2 p in
+    let front = λ (some : n ≤ length text - 0). tail-clean_front text 0 (omega arith) t some none1 p in grind (arith, few, back, front))
 
-  -- where it is empty, the text stands for itself, and the first lanes are the text
-  pub one-itself : none_set bits ≡ true → inner mode text ≡ text
-  one-itself none = itself mode text (λ k after before. held-none mode text 0 (length text) 0 bits held-one (omega arith) none k after (omega (arith, before)))
+-- the first lanes of a vector that was loaded with a text are the text
+pub lanes-front : (n : ℕ) (text lanes : List ℕ) → lanes ≡ drop (length text - length text) text ++ replicate (n - length text) 0 → take (length text) lanes ≡ text
+lanes-front n text lanes loaded = grind (arith, take-append_seam)
 
-  pub one-lanes : take (length text) lanes ≡ text
-  one-lanes = grind (arith, take-append_seam)
+-- and so they are after other bytes
+pub vector-front : (old text lanes : List ℕ) (n len : ℕ) → len ≡ length old → lanes ≡ drop (length text - length text) text ++ replicate (n - length text) 0 → take (len + length text) (old ++ lanes) ≡ old ++ text
+vector-front old text lanes n len is loaded = let t = take-append-add old lanes (length text) in let f = lanes-front n text lanes loaded in grind (arith, t, f)
 
 -- Whether a text stands for itself
 
@@ -124,15 +126,6 @@ answer-joined mode src at mid i to a b all same on is p q = record {
 -- as many flags as a vector has lanes
 flags-long : (mode : Mode) (n : ℕ) (src : List ℕ) (at : ℕ) (truths : List Bool) → at + n ≤ length src → truths ≡ map (needs_escape mode) (take n (drop at src)) → length truths ≡ n
 flags-long mode n src at truths inside is = grind (arith, length-map, length-take-le {A = ℕ}, length-drop {A = ℕ})
-
--- two vectors that overlap have all bytes of a text: where neither is flagged, it stands for itself
-pub two-none : (mode : Mode) (text : List ℕ) (n : ℕ) → n ≤ length text → length text < 2 * n → (a b all : List Bool) → a ≡ map (needs_escape mode) (take n (drop 0 text)) → b ≡ map (needs_escape mode) (take n (drop (length text - n) text))
-    → all ≡ zip2 ◌||◌ a b → none_set all ≡ true → inner mode text ≡ text
-two-none mode text n some few a b all ea eb e none =
-    let la = flags-long mode n text 0 a (omega (arith, some)) ea in let lb = flags-long mode n text (length text - n) b (omega (arith, some)) eb in
-    let va = vector-answer mode text 0 n (omega (arith, some)) a ea in let vb = vector-answer mode text (length text - n) n (omega (arith, some)) b eb in
-    let v = answer-joined mode text 0 (0 + n) (length text - n) (length text - n + n) a b all (la ∙ sym lb) (omega (arith, few)) e va vb in
-    itself mode text (λ k after before. v.clean none k after (omega (arith, before, some)))
 
 -- the answer for four vectors
 pub chunk-answer : (mode : Mode) (src : List ℕ) (at n : ℕ) → at + 4 * n ≤ length src → (a b c d ab cd all : List Bool)

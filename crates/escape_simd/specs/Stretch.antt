@@ -148,11 +148,6 @@ pub record AreTail (mode : Mode) (N : ℕ) (text : List ℕ) (first last : List 
   pub front_asked : N ≤ length text → first_asked ≡ take N text
   pub back_asked : last_asked ≡ drop (length text - N) text
 
--- so many bytes of a text were classified, by vectors of N, and nothing was written
-pub record IsAsked {n : ℕ} (N count : ℕ) (old new : Target n) (ticks_old ticks_new : ℕ) : Type 0 where
-  pub target : new ≡ old
-  pub ticks : ticks_new ≡ ticks_old + (count / N + 1)
-
 -- what stands for each flagged byte of n that needs an escape is two bytes: a reverse solidus, and a letter or the byte itself
 abbrev pub AreShort : Mode → ℕ → List ℕ → ℕ → List Bool → Type 0
 AreShort mode n src at bits =

@@ -15,8 +15,9 @@ pub mod util;
 pub mod v128;
 pub(crate) mod whole;
 
-pub(crate) use body::{escape_at, escape_chunks, escape_short_at};
+pub(crate) use body::{escape_at, escape_chunks};
 pub(crate) use chunk::flags_at;
 pub use escape_lanes::simd::vector::{HTML_MODE, JSON_MODE, SCRIPT_MODE};
 pub use escape_lanes::simd::{BitMask, Flags, LoadLast, Mask, Simd, Vector, bits, target};
 pub(crate) use store::{load, load_last};
+pub(crate) use tail::{TailFlags, classify_tail, escape_flagged_at};

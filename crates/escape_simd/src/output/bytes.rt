@@ -6,16 +6,15 @@ ghost use Rattle.escape_simd.specs.Modes.{mode_numbered};
 ghost use Rattle.escape_simd.specs.Output.{inner, quote_of};
 
 use crate::output::clean::mask_at;
-use crate::output::in_place::{append_in_place, append_rest};
+use crate::output::in_place::{append_flagged, append_in_place};
 use crate::output::push::{lanes, push_all, push_quote};
 use crate::output::{N, V};
-use crate::simd::{load, load_last};
-use escape_lanes::simd::classify::flags;
+use crate::simd::{classify_tail, load, load_last};
+use escape_lanes::simd::BitMask;
 use escape_lanes::simd::target::Ticks;
-use escape_lanes::simd::{BitMask, Flags};
 use std::alloc::Allocator;
 
-/// Appends what stands for a text of fewer than two vectors: from registers if nothing in it needs an escape.
+/// Appends what stands for a text of fewer bytes than two vectors have: from registers if no byte is flagged.
 #[inline(always)]
 pub(super) fn append_last<const MODE: u8, A: Allocator>(text: &[u8], dst: &mut Vec<u8, A>)
     requires few { length text.now < 2 * N }
@@ -23,34 +22,28 @@ pub(super) fn append_last<const MODE: u8, A: Allocator>(text: &[u8], dst: &mut V
     ensures { dst.new.items ≡ dst.old.items
         ++ (inner (mode_numbered MODE) text.now ++ quote_of (mode_numbered MODE)) }
 {
-    let count = text.len();
-    let len = dst.len();
-    let mut ticks = Ticks::new();
-    if count < N {
-        let v = load_last::<V, N>(text, count);
-        let flags = flags::<V, MODE, N>(&v, &mut ticks)
-            .bits()
-            .clear_high_bits(64 - count);
-        if flags.all_zero() {
-            push_all(dst, &lanes(&v));
-            dst.truncate(len + count);
-            return push_quote::<MODE, A>(dst);
-        }
-    } else {
-        let last = count - N;
-        let v1 = load::<V, N>(text, 0);
-        let v2 = load::<V, N>(text, last);
-        let flags1 = flags::<V, MODE, N>(&v1, &mut ticks);
-        let flags2 = flags::<V, MODE, N>(&v2, &mut ticks);
-        if flags1.join(&flags2).none() {
-            // The last vector overlaps the first one.
-            push_all(dst, &lanes(&v1));
-            dst.truncate(len + last);
-            push_all(dst, &lanes(&v2));
-            return push_quote::<MODE, A>(dst);
-        }
+    let flags = classify_tail::<V, MODE, N>(text, 0, &mut Ticks::new());
+    if !flags.none() {
+        return append_flagged::<MODE, A>(
+            text,
+            flags.first,
+            flags.first_classified,
+            flags.last,
+            flags.last_classified,
+            dst,
+        );
     }
-    append_rest::<MODE, A>(text, dst);
+    let (count, len) = (text.len(), dst.len());
+    if count < N {
+        push_all(dst, &lanes(&load_last::<V, N>(text, count)));
+        dst.truncate(len + count);
+    } else {
+        push_all(dst, &lanes(&load::<V, N>(text, 0)));
+        dst.truncate(len + (count - N));
+        // The last vector overlaps the first one.
+        push_all(dst, &lanes(&load::<V, N>(text, count - N)));
+    }
+    push_quote::<MODE, A>(dst);
 }
 
 /// Appends what stands for a text of two vectors or more: the vectors of its clean front from registers, and the rest

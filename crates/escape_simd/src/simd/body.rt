@@ -57,22 +57,6 @@ pub(crate) fn escape_chunks<V: Vector<N>, const MODE: u8, const N: usize>(
     (at, end)
 }
 
-/// As [`escape_tail`] of a whole text, to `dst`, and with no count.
-#[inline(never)]
-pub(crate) fn escape_short_at<V: Vector<N>, const MODE: u8, const N: usize>(
-    src: &[u8],
-    dst: &mut [u8],
-    to: usize,
-) -> usize
-    requires few { length src.now < 2 * N }
-    requires room { to + 6 * length src.now + 32 ≤ length dst.old }
-    ensures { IsInnerAt (mode_numbered MODE) (reach true N) src.now dst.old dst.new to result }
-{
-    let mut target = Target::<N>::new(dst);
-    let mut ticks = Ticks::new();
-    escape_tail::<V, MODE, N>(src, 0, &mut target, to, &mut ticks)
-}
-
 /// As [`escape_bytes`], to `dst`, and with no count.
 #[inline(never)]
 pub(crate) fn escape_at<V: Vector<N>, const MODE: u8, const N: usize>(

@@ -1,11 +1,12 @@
 //! The last bytes of a text, fewer than two vectors have, and with them every short text.
-ghost use Rattle.std.specs.Prelude.{min, ◌≡◌, ◌+◌, ◌-◌, ◌*◌, ◌/◌, ◌<◌, ◌≤◌, ◌++◌, true, length, take, drop, replicate, IfOk, IfErr, OnErr};
+ghost use Rattle.std.specs.Prelude.{min, ◌≡◌, ◌+◌, ◌-◌, ◌*◌, ◌/◌, ◌<◌, ◌≤◌, ◌++◌, true, length, take, drop, replicate};
 ghost use Rattle.std.specs.List.{flat_map};
-ghost use Rattle.escape_lanes.specs.Bits.{bits_of};
+ghost use Rattle.escape_lanes.specs.Bits.{bits_of, none_set};
 ghost use Rattle.escape_lanes.specs.Classified.{asked_of};
 ghost use Rattle.escape_lanes.specs.Written.{bytes_of};
+ghost use Rattle.escape_simd.specs.Formatted.{IsInnerAt};
 ghost use Rattle.escape_simd.specs.Modes.{mode_numbered};
-ghost use Rattle.escape_simd.specs.Stretch.{AreTail, Escapes, HasTail, HoldsFlags, IsAsked, reach};
+ghost use Rattle.escape_simd.specs.Stretch.{AreTail, Escapes, HasTail, HoldsFlags, reach};
 
 use crate::simd::Vector;
 use crate::simd::by_mask::escape_by_mask;
@@ -23,6 +24,49 @@ pub(crate) struct TailFlags<'a> {
     pub first_classified: Classified<'a>,
     pub last: u64,
     pub last_classified: Classified<'a>,
+}
+
+impl TailFlags<'_> {
+    /// Returns whether no byte is flagged.
+    #[inline(always)]
+    pub(crate) fn none(&self) -> bool
+        ensures { result ≡ true → (none_set (bits_of 64 self.now.first) ≡ true) × (none_set (bits_of 64 self.now.last) ≡ true) }
+    {
+        self.first.all_zero() && self.last.all_zero()
+    }
+}
+
+/// Classifies the text's bytes from `at` on, fewer than two vectors have.
+#[inline(always)]
+pub(crate) fn classify_tail<'a, V: Vector<N>, const MODE: u8, const N: usize>(
+    src: &'a [u8],
+    at: usize,
+    ticks: &mut Ticks,
+) -> TailFlags<'a>
+    requires inside { at ≤ length src.now }
+    requires few { length src.now < at + 2 * N }
+    ensures flagged { AreTail (mode_numbered MODE) N (drop at src.now) (bits_of 64 result.first) (bits_of 64 result.last) (asked_of result.first_classified) (asked_of result.last_classified) }
+    ensures ticks { ticks.new ≡ ticks.old + ((length src.now - at) / N + 1) }
+{
+    let count = src.len() - at;
+    if count < N {
+        let v = load_last::<V, N>(src, count);
+        let (flags, classified) = classify_loaded::<V, MODE, N>(&v, &src[at..], ticks);
+        return TailFlags {
+            first: 0,
+            first_classified: Classified::none(),
+            last: flags.bits().clear_high_bits(64 - count),
+            last_classified: classified,
+        };
+    }
+    let (flags1, classified1) = classify::<V, MODE, N>(src, at, ticks);
+    let (flags2, classified2) = classify::<V, MODE, N>(src, src.len() - N, ticks);
+    TailFlags {
+        first: flags1.bits(),
+        first_classified: classified1,
+        last: flags2.bits(),
+        last_classified: classified2,
+    }
 }
 
 /// Returns the last vector of a text, with zeros after it, so that a vector can be loaded from each of its bytes on.
@@ -101,51 +145,39 @@ pub(crate) fn escape_flagged_tail<V: Vector<N>, const MODE: u8, const N: usize>(
     .1
 }
 
-/// Stores the text's bytes from `at` on, fewer than two vectors have, if none of them needs an escape. Returns the
-/// place after them, and else their flags.
+/// Stores the text's bytes from `at` on, fewer than two vectors have, of which none is flagged. Returns the place after
+/// them.
 #[inline(always)]
-pub(crate) fn store_clean_tail<'a, V: Vector<N>, const MODE: u8, const N: usize>(
-    src: &'a [u8],
+pub(crate) fn store_clean_tail<V: Vector<N>, const MODE: u8, const N: usize>(
+    src: &[u8],
     at: usize,
+    flags: TailFlags<'_>,
     target: &mut Target<'_, N>,
     to: usize,
-    ticks: &mut Ticks,
-) -> Result<usize, TailFlags<'a>>
-    requires { HasTail N src.now at to (length (bytes_of target.old)) }
-    ensures clean { IfOk result (λ end. Escapes (mode_numbered MODE) (reach true N) (length src.now) ((length src.now - at) / N + 1) 0 src.now target.old target.new at (length src.now) to end ticks.old ticks.new) }
-    ensures flagged { IfErr result (λ flags. AreTail (mode_numbered MODE) N (drop at src.now) (bits_of 64 flags.first) (bits_of 64 flags.last) (asked_of flags.first_classified) (asked_of flags.last_classified)) }
-    ensures unchanged { OnErr result (IsAsked N (length src.now - at) target.old target.new ticks.old ticks.new) }
+) -> usize
+    requires room { HasTail N src.now at to (length (bytes_of target.old)) }
+    requires flagged { AreTail (mode_numbered MODE) N (drop at src.now) (bits_of 64 flags.first) (bits_of 64 flags.last) (asked_of flags.first_classified) (asked_of flags.last_classified) }
+    requires clean { (none_set (bits_of 64 flags.first) ≡ true) × (none_set (bits_of 64 flags.last) ≡ true) }
+    ensures { Escapes (mode_numbered MODE) (reach true N) (length src.now) ((length src.now - at) / N + 1) ((length src.now - at) / N + 1) src.now target.old target.new at (length src.now) to result 0 0 }
 {
     let count = src.len() - at;
     if count < N {
         let v = load_last::<V, N>(src, count);
-        let (flags, classified) = classify_loaded::<V, MODE, N>(&v, &src[at..], ticks);
-        let last = flags.bits().clear_high_bits(64 - count);
-        if !last.all_zero() {
-            return Err(TailFlags {
-                first: 0,
-                first_classified: Classified::none(),
-                last,
-                last_classified: classified,
-            });
-        }
-        store_lanes::<V, N, true>(&v, &src[at..], classified, target, to);
-        return Ok(to + count);
+        store_lanes::<V, N, true>(&v, &src[at..], flags.last_classified, target, to);
+        return to + count;
     }
     let last = src.len() - N;
-    let (flags1, classified1) = classify::<V, MODE, N>(src, at, ticks);
-    let (flags2, classified2) = classify::<V, MODE, N>(src, last, ticks);
-    if !flags1.join(&flags2).none() {
-        return Err(TailFlags {
-            first: flags1.bits(),
-            first_classified: classified1,
-            last: flags2.bits(),
-            last_classified: classified2,
-        });
-    }
-    store::<V, N, true>(src, at, N, classified1, target, to);
-    store::<V, N, true>(src, last, N, classified2, target, to + (count - N));
-    Ok(to + count)
+    store::<V, N, true>(src, at, N, flags.first_classified, target, to);
+    // It overlaps the first one.
+    store::<V, N, true>(
+        src,
+        last,
+        N,
+        flags.last_classified,
+        target,
+        to + (count - N),
+    );
+    to + count
 }
 
 /// Escapes the text's bytes from `at` on, fewer than two vectors have. Returns the place after them.
@@ -160,8 +192,26 @@ pub(crate) fn escape_tail<V: Vector<N>, const MODE: u8, const N: usize>(
     requires { HasTail N src.now at to (length (bytes_of target.old)) }
     ensures { Escapes (mode_numbered MODE) (reach true N) (length src.now) ((length src.now - at) / N + 1) 0 src.now target.old target.new at (length src.now) to result ticks.old ticks.new }
 {
-    match store_clean_tail::<V, MODE, N>(src, at, target, to, ticks) {
-        Ok(end) => end,
-        Err(flags) => { escape_flagged_tail::<V, MODE, N>(&src[at..], flags, target, to, ticks) }
+    let flags = classify_tail::<V, MODE, N>(src, at, ticks);
+    if flags.none() {
+        return store_clean_tail::<V, MODE, N>(src, at, flags, target, to);
     }
+    escape_flagged_tail::<V, MODE, N>(&src[at..], flags, target, to, ticks)
+}
+
+/// As [`escape_flagged_tail`], to `dst`, and with no count.
+#[inline(always)]
+pub(crate) fn escape_flagged_at<V: Vector<N>, const MODE: u8, const N: usize>(
+    text: &[u8],
+    flags: TailFlags<'_>,
+    dst: &mut [u8],
+    to: usize,
+) -> usize
+    requires flagged { AreTail (mode_numbered MODE) N text.now (bits_of 64 flags.first) (bits_of 64 flags.last) (asked_of flags.first_classified) (asked_of flags.last_classified) }
+    requires room { to + 6 * length text.now + 32 ≤ length dst.old }
+    ensures { IsInnerAt (mode_numbered MODE) (reach true N) text.now dst.old dst.new to result }
+{
+    let mut target = Target::<N>::new(dst);
+    let mut ticks = Ticks::new();
+    escape_flagged_tail::<V, MODE, N>(text, flags, &mut target, to, &mut ticks)
 }

@@ -86,8 +86,7 @@ pub(crate) fn escape_by_turns<V: Vector<N>, const MODE: u8, const N: usize, cons
     let mut end = to;
     'turns: loop {
         let flagged = left.first_offset();
-        let (after, reached) =
-            escape::<MODE, N>(text, flagged, target, end + (flagged - next));
+        let (after, reached) = escape::<MODE, N>(text, flagged, target, end + (flagged - next));
         left = clear_first_lane(left);
         if left.all_zero() {
             return finish_vector::<V, MODE, N, LAST>(

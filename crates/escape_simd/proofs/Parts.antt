@@ -78,12 +78,12 @@ tail-itself mode n text t none1 none2 =
     let front = λ (some : n ≤ length text - 0). tail-clean_front text 0 (omega arith) t some none1 p in grind (arith, few, back, front))
 
 -- the first lanes of a vector that was loaded with a text are the text
-pub lanes-front : (n : ℕ) (text lanes : List ℕ) → lanes ≡ drop (length text - length text) text ++ replicate (n - length text) 0 → take (length text) lanes ≡ text
+pub lanes-front : (n : ℕ) (text lanes : List ℕ) → lanes ≡ drop 0 text ++ replicate (n - length text) 0 → take (length text) lanes ≡ text
 lanes-front n text lanes loaded = grind (arith, take-append_seam)
 
 -- and so they are after other bytes
-pub vector-front : (old text lanes : List ℕ) (n len : ℕ) → len ≡ length old → lanes ≡ drop (length text - length text) text ++ replicate (n - length text) 0 → take (len + length text) (old ++ lanes) ≡ old ++ text
-vector-front old text lanes n len is loaded = let t = take-append-add old lanes (length text) in let f = lanes-front n text lanes loaded in grind (arith, t, f)
+pub vector-front : (old text lanes : List ℕ) (n len : ℕ) → len ≡ length old → lanes ≡ drop 0 text ++ replicate (n - (length text - 0)) 0 → take (len + length text) (old ++ lanes) ≡ old ++ text
+vector-front old text lanes n len is loaded = let t = take-append-add old lanes (length text) in let none : length text - 0 ≡ length text = omega arith in let f = lanes-front n text lanes (rw none at loaded) in grind (arith, t, f)
 
 -- Whether a text stands for itself
 

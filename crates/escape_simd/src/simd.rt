@@ -20,4 +20,4 @@ pub(crate) use chunk::flags_at;
 pub use escape_lanes::simd::vector::{HTML_MODE, JSON_MODE, SCRIPT_MODE};
 pub use escape_lanes::simd::{BitMask, Flags, LoadLast, Mask, Simd, Vector, bits, target};
 pub(crate) use store::{load, load_last};
-pub(crate) use tail::{TailFlags, classify_tail, escape_flagged_at};
+pub(crate) use tail::{TailFlags, classify_pair, classify_short, escape_flagged_at};

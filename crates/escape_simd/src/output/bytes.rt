@@ -9,7 +9,7 @@ use crate::output::clean::mask_at;
 use crate::output::in_place::{append_flagged, append_in_place};
 use crate::output::push::{lanes, push_all, push_quote};
 use crate::output::{N, V};
-use crate::simd::{classify_tail, load, load_last};
+use crate::simd::{classify_pair, classify_short, load};
 use escape_lanes::simd::BitMask;
 use escape_lanes::simd::target::Ticks;
 use std::alloc::Allocator;
@@ -22,28 +22,34 @@ pub(super) fn append_last<const MODE: u8, A: Allocator>(text: &[u8], dst: &mut V
     ensures { dst.new.items ≡ dst.old.items
         ++ (inner (mode_numbered MODE) text.now ++ quote_of (mode_numbered MODE)) }
 {
-    let flags = classify_tail::<V, MODE, N>(text, 0, &mut Ticks::new());
-    if !flags.none() {
-        return append_flagged::<MODE, A>(
-            text,
-            flags.first,
-            flags.first_classified,
-            flags.last,
-            flags.last_classified,
-            dst,
-        );
-    }
     let (count, len) = (text.len(), dst.len());
-    if count < N {
-        push_all(dst, &lanes(&load_last::<V, N>(text, count)));
-        dst.truncate(len + count);
+    let flags = if count < N {
+        let (v, flags) = classify_short::<V, MODE, N>(text, 0, &mut Ticks::new());
+        if flags.none() {
+            push_all(dst, &lanes(&v));
+            dst.truncate(len + count);
+            return push_quote::<MODE, A>(dst);
+        }
+        flags
     } else {
-        push_all(dst, &lanes(&load::<V, N>(text, 0)));
-        dst.truncate(len + (count - N));
-        // The last vector overlaps the first one.
-        push_all(dst, &lanes(&load::<V, N>(text, count - N)));
-    }
-    push_quote::<MODE, A>(dst);
+        let flags = classify_pair::<V, MODE, N>(text, 0, &mut Ticks::new());
+        if flags.none() {
+            push_all(dst, &lanes(&load::<V, N>(text, 0)));
+            // The last vector overlaps the first one.
+            dst.truncate(len + (count - N));
+            push_all(dst, &lanes(&load::<V, N>(text, count - N)));
+            return push_quote::<MODE, A>(dst);
+        }
+        flags
+    };
+    append_flagged::<MODE, A>(
+        text,
+        flags.first,
+        flags.first_classified,
+        flags.last,
+        flags.last_classified,
+        dst,
+    );
 }
 
 /// Appends what stands for a text of two vectors or more: the vectors of its clean front from registers, and the rest

@@ -1,5 +1,5 @@
 //! The last bytes of a text, fewer than two vectors have, and with them every short text.
-ghost use Rattle.std.specs.Prelude.{min, ◌≡◌, ◌+◌, ◌-◌, ◌*◌, ◌/◌, ◌<◌, ◌≤◌, ◌++◌, true, length, take, drop, replicate};
+ghost use Rattle.std.specs.Prelude.{min, ◌≡◌, ◌+◌, ◌-◌, ◌*◌, ◌/◌, ◌<◌, ◌≤◌, ◌++◌, true, length, take, drop, replicate, IfOk, IfErr, OnErr};
 ghost use Rattle.std.specs.List.{flat_map};
 ghost use Rattle.escape_lanes.specs.Bits.{bits_of, none_set};
 ghost use Rattle.escape_lanes.specs.Classified.{asked_of};
@@ -36,36 +36,54 @@ impl TailFlags<'_> {
     }
 }
 
-/// Classifies the text's bytes from `at` on, fewer than two vectors have.
+/// Loads the text's bytes from `at` on, fewer than a vector has, and classifies them.
 #[inline(always)]
-pub(crate) fn classify_tail<'a, V: Vector<N>, const MODE: u8, const N: usize>(
+pub(crate) fn classify_short<'a, V: Vector<N>, const MODE: u8, const N: usize>(
+    src: &'a [u8],
+    at: usize,
+    ticks: &mut Ticks,
+) -> (V, TailFlags<'a>)
+    requires inside { at ≤ length src.now }
+    requires few { length src.now < at + N }
+    ensures loaded { V.lanes result.0 ≡ drop at src.now ++ replicate (N - (length src.now - at)) 0 }
+    ensures flagged { AreTail (mode_numbered MODE) N (drop at src.now) (bits_of 64 result.1.first) (bits_of 64 result.1.last) (asked_of result.1.first_classified) (asked_of result.1.last_classified) }
+    ensures tick { ticks.new ≡ ticks.old + 1 }
+{
+    let count = src.len() - at;
+    let v = load_last::<V, N>(src, count);
+    let (flags, last_classified) = classify_loaded::<V, MODE, N>(&v, &src[at..], ticks);
+    let last = flags.bits().clear_high_bits(64 - count);
+    let first_classified = Classified::none();
+    (
+        v,
+        TailFlags {
+            first: 0,
+            first_classified,
+            last,
+            last_classified,
+        },
+    )
+}
+
+/// Classifies the text's bytes from `at` on, as many as a vector has or more, and fewer than two have.
+#[inline(always)]
+pub(crate) fn classify_pair<'a, V: Vector<N>, const MODE: u8, const N: usize>(
     src: &'a [u8],
     at: usize,
     ticks: &mut Ticks,
 ) -> TailFlags<'a>
-    requires inside { at ≤ length src.now }
+    requires several { at + N ≤ length src.now }
     requires few { length src.now < at + 2 * N }
     ensures flagged { AreTail (mode_numbered MODE) N (drop at src.now) (bits_of 64 result.first) (bits_of 64 result.last) (asked_of result.first_classified) (asked_of result.last_classified) }
-    ensures ticks { ticks.new ≡ ticks.old + ((length src.now - at) / N + 1) }
+    ensures ticks { ticks.new ≡ ticks.old + 2 }
 {
-    let count = src.len() - at;
-    if count < N {
-        let v = load_last::<V, N>(src, count);
-        let (flags, classified) = classify_loaded::<V, MODE, N>(&v, &src[at..], ticks);
-        return TailFlags {
-            first: 0,
-            first_classified: Classified::none(),
-            last: flags.bits().clear_high_bits(64 - count),
-            last_classified: classified,
-        };
-    }
-    let (flags1, classified1) = classify::<V, MODE, N>(src, at, ticks);
-    let (flags2, classified2) = classify::<V, MODE, N>(src, src.len() - N, ticks);
+    let (flags1, first_classified) = classify::<V, MODE, N>(src, at, ticks);
+    let (flags2, last_classified) = classify::<V, MODE, N>(src, src.len() - N, ticks);
     TailFlags {
         first: flags1.bits(),
-        first_classified: classified1,
+        first_classified,
         last: flags2.bits(),
-        last_classified: classified2,
+        last_classified,
     }
 }
 
@@ -145,30 +163,38 @@ pub(crate) fn escape_flagged_tail<V: Vector<N>, const MODE: u8, const N: usize>(
     .1
 }
 
-/// Stores the text's bytes from `at` on, fewer than two vectors have, of which none is flagged. Returns the place after
-/// them.
+/// Stores the text's bytes from `at` on, fewer than two vectors have, if none of them is flagged. Returns the place after
+/// them, and else their flags.
 #[inline(always)]
-pub(crate) fn store_clean_tail<V: Vector<N>, const MODE: u8, const N: usize>(
-    src: &[u8],
+pub(crate) fn store_clean_tail<'a, V: Vector<N>, const MODE: u8, const N: usize>(
+    src: &'a [u8],
     at: usize,
-    flags: TailFlags<'_>,
     target: &mut Target<'_, N>,
     to: usize,
-) -> usize
-    requires room { HasTail N src.now at to (length (bytes_of target.old)) }
-    requires flagged { AreTail (mode_numbered MODE) N (drop at src.now) (bits_of 64 flags.first) (bits_of 64 flags.last) (asked_of flags.first_classified) (asked_of flags.last_classified) }
-    requires clean { (none_set (bits_of 64 flags.first) ≡ true) × (none_set (bits_of 64 flags.last) ≡ true) }
-    ensures { Escapes (mode_numbered MODE) (reach true N) (length src.now) ((length src.now - at) / N + 1) ((length src.now - at) / N + 1) src.now target.old target.new at (length src.now) to result 0 0 }
+    ticks: &mut Ticks,
+) -> Result<usize, TailFlags<'a>>
+    requires { HasTail N src.now at to (length (bytes_of target.old)) }
+    ensures clean { IfOk result (λ end. Escapes (mode_numbered MODE) (reach true N) (length src.now) ((length src.now - at) / N + 1) 0 src.now target.old target.new at (length src.now) to end ticks.old ticks.new) }
+    ensures flagged { IfErr result (λ flags. AreTail (mode_numbered MODE) N (drop at src.now) (bits_of 64 flags.first) (bits_of 64 flags.last) (asked_of flags.first_classified) (asked_of flags.last_classified)) }
+    ensures unchanged { OnErr result (target.new ≡ target.old) }
+    ensures ticks { OnErr result (ticks.new ≡ ticks.old + ((length src.now - at) / N + 1)) }
 {
     let count = src.len() - at;
     if count < N {
-        let v = load_last::<V, N>(src, count);
+        let (v, flags) = classify_short::<V, MODE, N>(src, at, ticks);
+        if !flags.none() {
+            return Err(flags);
+        }
         store_lanes::<V, N, true>(&v, &src[at..], flags.last_classified, target, to);
-        return to + count;
+        return Ok(to + count);
+    }
+    let flags = classify_pair::<V, MODE, N>(src, at, ticks);
+    if !flags.none() {
+        return Err(flags);
     }
     let last = src.len() - N;
     store::<V, N, true>(src, at, N, flags.first_classified, target, to);
-    // It overlaps the first one.
+    // The last vector overlaps the first one.
     store::<V, N, true>(
         src,
         last,
@@ -177,7 +203,7 @@ pub(crate) fn store_clean_tail<V: Vector<N>, const MODE: u8, const N: usize>(
         target,
         to + (count - N),
     );
-    to + count
+    Ok(to + count)
 }
 
 /// Escapes the text's bytes from `at` on, fewer than two vectors have. Returns the place after them.
@@ -192,11 +218,10 @@ pub(crate) fn escape_tail<V: Vector<N>, const MODE: u8, const N: usize>(
     requires { HasTail N src.now at to (length (bytes_of target.old)) }
     ensures { Escapes (mode_numbered MODE) (reach true N) (length src.now) ((length src.now - at) / N + 1) 0 src.now target.old target.new at (length src.now) to result ticks.old ticks.new }
 {
-    let flags = classify_tail::<V, MODE, N>(src, at, ticks);
-    if flags.none() {
-        return store_clean_tail::<V, MODE, N>(src, at, flags, target, to);
+    match store_clean_tail::<V, MODE, N>(src, at, target, to, ticks) {
+        Ok(end) => end,
+        Err(flags) => { escape_flagged_tail::<V, MODE, N>(&src[at..], flags, target, to, ticks) }
     }
-    escape_flagged_tail::<V, MODE, N>(&src[at..], flags, target, to, ticks)
 }
 
 /// As [`escape_flagged_tail`], to `dst`, and with no count.

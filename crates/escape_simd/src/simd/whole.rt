@@ -1,6 +1,6 @@
 //! A whole text: its bytes between quotation marks.
-ghost use Rattle.std.specs.Prelude.{◌≡◌, ◌+◌, ◌*◌, ◌<◌, ◌≤◌, length, take, chars, true};
-ghost use Rattle.escape_lanes.specs.Bits.{bits_of, none_set};
+ghost use Rattle.std.specs.Prelude.{◌≡◌, ◌+◌, ◌*◌, ◌<◌, ◌≤◌, length, take, drop, chars, IfOk, IfErr, OnErr};
+ghost use Rattle.escape_lanes.specs.Bits.{bits_of};
 ghost use Rattle.escape_lanes.specs.Classified.{asked_of};
 ghost use Rattle.escape_lanes.specs.Mode.{mode_of};
 ghost use Rattle.escape_lanes.specs.Written.{bytes_of};
@@ -12,7 +12,7 @@ ghost use Rattle.escape_simd.specs.Output.{bound, quote_of};
 ghost use Rattle.escape_simd.specs.Stretch.{AreTail};
 
 use crate::simd::body::{escape_at, escape_bytes};
-use crate::simd::tail::{TailFlags, classify_tail, escape_flagged_tail, store_clean_tail};
+use crate::simd::tail::{TailFlags, escape_flagged_tail, store_clean_tail};
 use crate::simd::{HTML_MODE, JSON_MODE, Vector};
 use escape_lanes::simd::classify::Classified;
 use escape_lanes::simd::target::{Target, Ticks};
@@ -76,25 +76,28 @@ fn format_slice<V: Vector<N>, const MODE: u8, const N: usize>(value: &str, dst: 
     format::<V, MODE, N>(value, &mut target, &mut ticks)
 }
 
-/// As [`format_slice`], of a short text in which no byte is flagged.
+/// As [`format_slice`], of a short text, if none of its bytes needs an escape. Else it writes at most the first
+/// quotation mark, and returns what a classifier answered.
 #[inline(always)]
-fn format_clean<V: Vector<N>, const MODE: u8, const N: usize>(
-    text: &[u8],
-    flags: TailFlags<'_>,
+fn format_clean<'a, V: Vector<N>, const MODE: u8, const N: usize>(
+    text: &'a [u8],
     dst: &mut [u8],
-) -> usize
-    requires flagged { AreTail (mode_numbered MODE) N text.now (bits_of 64 flags.first) (bits_of 64 flags.last) (asked_of flags.first_classified) (asked_of flags.last_classified) }
-    requires clean { (none_set (bits_of 64 flags.first) ≡ true) × (none_set (bits_of 64 flags.last) ≡ true) }
+) -> Result<usize, TailFlags<'a>>
+    requires few { length text.now < 2 * N }
     requires room { bound (mode_numbered MODE) (length text.now) ≤ length dst.old }
-    ensures { IsWritten N (mode_numbered MODE) text.now dst.old dst.new result }
+    ensures clean { IfOk result (λ count. IsWritten N (mode_numbered MODE) text.now dst.old dst.new count) }
+    ensures flagged { IfErr result (λ flags. AreTail (mode_numbered MODE) N text.now (bits_of 64 flags.first) (bits_of 64 flags.last) (asked_of flags.first_classified) (asked_of flags.last_classified)) }
+    ensures kept { OnErr result (drop 1 dst.new ≡ drop 1 dst.old) }
 {
     let mut target = Target::<N>::new(dst);
     let open = quote::<MODE, N>(&mut target, 0);
-    let close = store_clean_tail::<V, MODE, N>(text, 0, flags, &mut target, open);
-    quote::<MODE, N>(&mut target, close)
+    match store_clean_tail::<V, MODE, N>(text, 0, &mut target, open, &mut Ticks::new()) {
+        Ok(close) => Ok(quote::<MODE, N>(&mut target, close)),
+        Err(flags) => Err(flags),
+    }
 }
 
-/// As [`format_slice`], of a short text with flagged bytes.
+/// As [`format_slice`], of a short text for which a classifier answered.
 ///
 /// The parts of [`TailFlags`] are arguments of their own, so that they are passed in registers.
 #[inline(never)]
@@ -138,18 +141,17 @@ pub(crate) fn format_in_mode<V: Vector<N>, const MODE: u8, const N: usize>(
         return format_slice::<V, MODE, N>(value, dst);
     }
     let text = value.as_bytes();
-    let flags = classify_tail::<V, MODE, N>(text, 0, &mut Ticks::new());
-    if flags.none() {
-        return format_clean::<V, MODE, N>(text, flags, dst);
+    match format_clean::<V, MODE, N>(text, dst) {
+        Ok(count) => count,
+        Err(flags) => format_flagged::<V, MODE, N>(
+            text,
+            flags.first,
+            flags.first_classified,
+            flags.last,
+            flags.last_classified,
+            dst,
+        ),
     }
-    format_flagged::<V, MODE, N>(
-        text,
-        flags.first,
-        flags.first_classified,
-        flags.last,
-        flags.last_classified,
-        dst,
-    )
 }
 
 /// Escapes the text to the front of `dst`, with no quotation marks. Returns how many bytes it became.

@@ -2,10 +2,12 @@ use Rattle.escape_simd.proofs.Words.{◌≡◌, ◌+◌, ◌-◌, ◌/◌, ◌�
 use Rattle.escape_simd.proofs.Last.{rest-escaped}
 use Rattle.escape_simd.proofs.simd.tail.escape_tail.Goals as goal
 
-pub returns : goal.returns
-returns g c =
+pub returns-in-Err : goal.returns-in-Err
+returns-in-Err g c =
     let mode = mode_numbered g.row.MODE in let n : ℕ = g.row.N in let src : List ℕ = c.args.src.now in let at : ℕ = c.args.at in let r = c.requires in
     let text : List ℕ = take (length src - at) (drop at src) in let count = length-drop at src in
     let is : text ≡ drop at src = take_all (length src - at) (drop at src) (omega (arith, count)) in
-    let e = subst (λ v. Escapes mode (reach true n) (length text) v v text c.args.target.now c.escape_flagged_tail.new.target 0 (length text) c.args.to c.escape_flagged_tail.result c.classify_tail-flags.new.ticks c.escape_flagged_tail.new.ticks) (ap (λ k. k / n + 1) (ap length is ∙ count)) c.escape_flagged_tail.ensures in
-    rest-escaped src text at n c.args.ticks.now is r.inside refl c.classify_tail-flags.ensures.ticks e
+    let asked = c.in-Err.ensures in
+    let e = subst (λ v. Escapes mode (reach true n) (length text) v v text c.store_clean_tail.new.target c.escape_flagged_tail.new.target 0 (length text) c.args.to c.escape_flagged_tail.result c.store_clean_tail.new.ticks c.escape_flagged_tail.new.ticks) (ap (λ k. k / n + 1) (ap length is ∙ count)) c.escape_flagged_tail.ensures in
+    let f = subst (λ t. Escapes mode (reach true n) (length text) ((length src - at) / n + 1) ((length src - at) / n + 1) text t c.escape_flagged_tail.new.target 0 (length text) c.args.to c.escape_flagged_tail.result c.store_clean_tail.new.ticks c.escape_flagged_tail.new.ticks) asked.unchanged e in
+    rest-escaped src text at n c.args.ticks.now is r.inside refl asked.ticks f

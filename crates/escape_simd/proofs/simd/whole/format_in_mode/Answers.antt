@@ -8,14 +8,14 @@ returns-then-value-clause-headline g c = IsOnlyOutput-output _ _ _ c.format_slic
 pub returns-then-value-clause-equal_texts : goal.returns-then-value-clause-equal_texts
 returns-then-value-clause-equal_texts g c = IsOfOneText-output _ _ _ c.format_slice.ensures.exact c.utf8.value
 
-pub returns-then-none-clause-headline : goal.returns-then-none-clause-headline
-returns-then-none-clause-headline g c = IsOnlyOutput-output _ _ _ (c.format_clean.ensures.exact ∙ ap (plain (mode_numbered g.row.MODE)) c.as_bytes-text.ensures.value) c.utf8.value
+pub returns-in-Ok-clause-headline : goal.returns-in-Ok-clause-headline
+returns-in-Ok-clause-headline g c = IsOnlyOutput-output _ _ _ (c.in-Ok.ensures.clean.exact ∙ ap (plain (mode_numbered g.row.MODE)) c.as_bytes-text.ensures.value) c.utf8.value
 
-pub returns-then-none-clause-equal_texts : goal.returns-then-none-clause-equal_texts
-returns-then-none-clause-equal_texts g c = IsOfOneText-output _ _ _ (c.format_clean.ensures.exact ∙ ap (plain (mode_numbered g.row.MODE)) c.as_bytes-text.ensures.value) c.utf8.value
+pub returns-in-Ok-clause-equal_texts : goal.returns-in-Ok-clause-equal_texts
+returns-in-Ok-clause-equal_texts g c = IsOfOneText-output _ _ _ (c.in-Ok.ensures.clean.exact ∙ ap (plain (mode_numbered g.row.MODE)) c.as_bytes-text.ensures.value) c.utf8.value
 
-pub returns-clause-headline : goal.returns-clause-headline
-returns-clause-headline g c = IsOnlyOutput-output _ _ _ (c.format_flagged.ensures.exact ∙ ap (plain (mode_numbered g.row.MODE)) c.as_bytes-text.ensures.value) c.utf8.value
+pub returns-in-Err-clause-headline : goal.returns-in-Err-clause-headline
+returns-in-Err-clause-headline g c = IsOnlyOutput-output _ _ _ (c.format_flagged.ensures.exact ∙ ap (plain (mode_numbered g.row.MODE)) c.as_bytes-text.ensures.value) c.utf8.value
 
-pub returns-clause-equal_texts : goal.returns-clause-equal_texts
-returns-clause-equal_texts g c = IsOfOneText-output _ _ _ (c.format_flagged.ensures.exact ∙ ap (plain (mode_numbered g.row.MODE)) c.as_bytes-text.ensures.value) c.utf8.value
+pub returns-in-Err-clause-equal_texts : goal.returns-in-Err-clause-equal_texts
+returns-in-Err-clause-equal_texts g c = IsOfOneText-output _ _ _ (c.format_flagged.ensures.exact ∙ ap (plain (mode_numbered g.row.MODE)) c.as_bytes-text.ensures.value) c.utf8.value

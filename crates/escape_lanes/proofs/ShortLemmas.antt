@@ -1,13 +1,16 @@
 -- Bytes with a short escape: how a vector of them is shortened, and asked for the others.
-use Rattle.std.proofs.Common.{◌≡◌, ℕ, zero, suc, ◌+◌, ◌-◌, ◌*◌, ◌/◌, ◌%◌, ◌^◌, ◌<◌, ◌≤◌, Bool, true, false, not, cond, ◌&&◌, ◌||◌, List, [], ◌∷◌, ◌++◌, length, take, drop, replicate, map, nat_eq, nat_le, nat_lt, ltb, bit_and, bit_or, bit_xor, get_or, refl, sym, ap, ap₂, ◌∙◌, arith}
+use Rattle.std.proofs.Common.{◌≡◌, ℕ, zero, suc, ◌+◌, ◌-◌, ◌*◌, ◌/◌, ◌%◌, ◌^◌, ◌<◌, ◌≤◌, Bool, true, false, not, cond, ◌&&◌, ◌||◌, List, [], ◌∷◌, ◌++◌, length, take, take_all, drop, replicate, map, nat_eq, nat_le, nat_lt, ltb, bit_and, bit_or, bit_xor, get_or, set, refl, sym, ap, ap₂, subst, ◌∙◌, arith, inl, inr}
+use Rattle.std.proofs.Math.Nat.{lt_irrefl}
 use Rattle.std.proofs.Math.Seq.{take-add}
 use Rattle.std.proofs.lemmas.Bool.{agree_below, agree_below_at, eqb-true}
-use Rattle.std.proofs.lemmas.Bool.Decides.{nat_tests}
-use Rattle.std.proofs.lemmas.List.{get_or-drop, get_or-take, length-drop, length-map, length-take-le, map-append}
+use Rattle.std.proofs.lemmas.Bool.Decides.{leb_tells, nat_tests}
+use Rattle.std.proofs.lemmas.Grind.{get_or-set_at}
+use Rattle.std.proofs.lemmas.List.{get_or-drop, get_or-set_other, get_or-take, length-drop, length-map, length-take-le, map-append}
 use Rattle.std.proofs.lemmas.Nat.{and_le_l, and_le_r}
-use Rattle.std.proofs.lemmas.Simd.{Each1-from_get_or, SwzOk, map-map, mask_l-lt, mask_l-mod, swz_l}
+use Rattle.std.proofs.lemmas.Simd.{Each1-from_get_or, SwzOk, map-map, mask_l-lt, mask_l-mod, pick_l-range_with_len, swz_l}
 use Rattle.std.specs.Int.Bits.{or_add_and}
-use Rattle.std.specs.Simd.Lanes.{mask_l, sel_l, top, zip2}
+use Rattle.std.specs.List.{range_with_len}
+use Rattle.std.specs.Simd.Lanes.{mask_l, pick_l, sel_l, top, zip2}
 use lib.Lanes.{Each1}
 use mir.Syntax.{w8}
 use mir.Val.{zeroes}
@@ -171,3 +174,20 @@ piece-more f text flags next long more moved inside few fits before piece shift 
     (both-more 48 next (map f (take 16 (drop next text))) (drop next (bits_of 64 flags)) (omega (arith, here, l, length-drop next (bits_of 64 flags), few))) in
     let parts = rw front at (both-append (map f (take next text)) (map f (take 16 (drop next text))) (bits_of 64 flags) (omega (arith, front, l, few))) in
     or-zero long (bit_and more moved) ∙ ap₂ ◌&&◌ before both ∙ sym (rw (take-add next 16 text, map-append f (take next text) (take 16 (drop next text))) parts)
+
+-- The pieces of a vector
+
+-- one piece more
+pub pieces-on : (src : List ℕ) (at next : ℕ) (pieces : List (List ℕ)) (v : List ℕ) → next < length pieces → v ≡ map shortened (take 16 (drop (at + 16 * next) src))
+    → ((k : ℕ) → k < next → get_or pieces k [] ≡ map shortened (take 16 (drop (at + 16 * k) src)))
+    → (k : ℕ) → k < next + 1 → get_or (set pieces next v) k [] ≡ map shortened (take 16 (drop (at + 16 * k) src))
+pieces-on src at next pieces v inside is done k h = elim (leb_tells next k) [
+  | inl on ↦ let e : k ≡ next = omega (arith, on, h) in get_or-set_at pieces next k v [] e inside ∙ is ∙ ap (λ j. map shortened (take 16 (drop (at + 16 * j) src))) (sym e)
+  | inr under ↦ get_or-set_other pieces next k v [] (λ e. lt_irrefl next (subst (λ j. j < next) e under.1)) ∙ done k under.1
+]
+
+-- the last half of a piece
+pub last-half : (v : List ℕ) → length v ≡ 16 → take 8 (pick_l 0 (v ++ v) (8 ∷ 9 ∷ 10 ∷ 11 ∷ 12 ∷ 13 ∷ 14 ∷ 15 ∷ 0 ∷ 1 ∷ 2 ∷ 3 ∷ 4 ∷ 5 ∷ 6 ∷ 7 ∷ [])) ≡ take 8 (drop 8 v)
+last-half v full =
+    let is : pick_l 0 v (range_with_len 0 16) ≡ v = pick_l-range_with_len 0 v 0 16 (omega (arith, full)) ∙ take_all 16 v (omega (arith, full)) in
+    subst (λ (w : List ℕ). take 8 (pick_l 0 (w ++ w) (8 ∷ 9 ∷ 10 ∷ 11 ∷ 12 ∷ 13 ∷ 14 ∷ 15 ∷ 0 ∷ 1 ∷ 2 ∷ 3 ∷ 4 ∷ 5 ∷ 6 ∷ 7 ∷ [])) ≡ take 8 (drop 8 w)) is refl

@@ -6,10 +6,10 @@ pub mod Escapes
 pub mod RestSteps
 pub mod Behind
 pub mod Gaps
-pub mod Shortened
 pub mod PutApart
 pub mod Stretches
 pub mod Lanes
+pub mod Shortened
 pub mod Pasted
 pub mod Turns
 pub mod Vectors

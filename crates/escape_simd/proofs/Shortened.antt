@@ -1,6 +1,7 @@
 -- Bytes with a short escape, and what stands for them.
-use Rattle.std.proofs.Common.{◌≡◌, ℕ, ◌<◌, Bool, true, false, not, ◌&&◌, ◌||◌, List, [], ◌∷◌, length, take, drop, map, nat_eq, get_or, refl, sym, ap, ◌∙◌, arith}
-use Rattle.escape_simd.proofs.Words.{agree_below, agree_below_at, nat_tests, Mode, json, html, script, needs_escape, replacement, shortened, passed}
+use Rattle.std.proofs.Common.{◌≡◌, ℕ, ◌+◌, ◌*◌, ◌/◌, ◌%◌, ◌<◌, Bool, true, false, not, ◌&&◌, ◌||◌, List, [], ◌∷◌, length, take, drop, map, nat_eq, get_or, refl, sym, ap, ◌∙◌, arith}
+use Rattle.escape_simd.proofs.Lanes.{part-later}
+use Rattle.escape_simd.proofs.Words.{drop-map, take-map, take-take, agree_below, agree_below_at, nat_tests, Mode, json, html, script, needs_escape, replacement, shortened, passed}
 use Rattle.std.proofs.lemmas.Bool.{eqb-true}
 use Rattle.std.proofs.lemmas.Slice.Eq.{bytes_eq-Decides}
 use Rattle.std.specs.Str.{bytes_eq}
@@ -37,3 +38,12 @@ pub keeps-clean : (mode : Mode) (b : ℕ) → length (replacement mode b) ≡ 2 
 unfolding shortened replacement
 keeps-clean html b two = absurd (grind (arith, nat_tests))
 keeps-clean mode b two = λ x clean. grind (arith, nat_tests)
+
+-- the half of a piece that is the block of that number
+pub block-half : (src : List ℕ) (at block : ℕ) (v half : List ℕ) → v ≡ map shortened (take 16 (drop (at + 16 * (block / 2)) src)) → take 8 half ≡ take 8 (drop (8 * (block % 2)) v)
+    → take 8 half ≡ take 8 (map shortened (take 16 (drop (at + 8 * block) src)))
+block-half src at block v half is e =
+    let k : ℕ = 8 * (block % 2) in let xs : List ℕ = drop (at + 16 * (block / 2)) src in let ys : List ℕ = drop (at + 8 * block) src in
+    let here : at + 16 * (block / 2) + k ≡ at + 8 * block = omega arith in
+    let eight : take 8 (drop k (take 16 xs)) ≡ take 8 ys = part-later src (at + 16 * (block / 2)) 16 k 8 (omega arith) ∙ ap (λ i. take 8 (drop i src)) here in
+    e ∙ ap (λ zs. take 8 (drop k zs)) is ∙ ap (take 8) (drop-map shortened k (take 16 xs)) ∙ take-map shortened 8 (drop k (take 16 xs)) ∙ ap (map shortened) (eight ∙ sym (take-take 8 16 ys (omega arith))) ∙ sym (take-map shortened 8 (take 16 ys))

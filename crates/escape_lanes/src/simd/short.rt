@@ -1,5 +1,5 @@
 //! Short escapes: a reverse solidus, and the byte itself or a control character's letter.
-ghost use Rattle.std.specs.Prelude.{◌≡◌, ◌≢◌, ℕ, ◌+◌, ◌*◌, ◌/◌, ◌≤◌, ◌++◌, ◌&&◌, not, false, length, take, drop, map, replicate};
+ghost use Rattle.std.specs.Prelude.{◌≡◌, ◌≢◌, ℕ, ◌+◌, ◌*◌, ◌/◌, ◌%◌, ◌<◌, ◌≤◌, ◌++◌, ◌&&◌, not, false, [], length, take, drop, map, replicate, slice_index_or};
 ghost use Rattle.std.specs.Simd.Lanes.{zip2};
 ghost use Rattle.escape_lanes.specs.Bits.{bits_of, none_set};
 ghost use Rattle.escape_lanes.specs.Mode.{mode_numbered};
@@ -26,6 +26,42 @@ pub fn shorten(text: &[u8], at: usize) -> u8x16
     let places = bytes.saturating_add(u8x16::splat(0x70)) ^ u8x16::splat(0x70);
     // A letter is more than the byte that it stands for.
     bytes.simd_max(letters.swizzle_dyn(places))
+}
+
+/// Returns the text's `N` bytes from `at` on, shortened, 16 at a time: so all of them are loaded before the first block is
+/// written.
+///
+/// `N` is a multiple of 16, at most 64.
+#[inline(always)]
+pub fn shorten_vector<const N: usize>(text: &[u8], at: usize) -> [u8x16; 4]
+    requires sixteens { N ≡ 16 * (N / 16) }
+    requires most { N ≤ 64 }
+    requires inside { at + N ≤ length text.now }
+    ensures { (k : ℕ) → 16 * k < N → slice_index_or result k [] ≡ map shortened (take 16 (drop (at + 16 * k) text.now)) }
+{
+    let mut pieces = [u8x16::splat(0); 4];
+    let mut next = 0;
+    'pieces: while 16 * next < N {
+        pieces[next] = shorten(text, at + 16 * next);
+        next += 1;
+    }
+    pieces
+}
+
+/// The last eight lanes of a vector, and then the first eight.
+const LAST_HALF: [usize; 16] = [8, 9, 10, 11, 12, 13, 14, 15, 0, 1, 2, 3, 4, 5, 6, 7];
+
+/// Returns the 16 bytes of a piece from its block of that number on: each piece has two, and the even ones are the first.
+#[inline(always)]
+pub fn half(piece: u8x16, block: usize) -> u8x16
+    requires { length piece ≡ 16 }
+    ensures whole { length result ≡ 16 }
+    ensures block { take 8 result ≡ take 8 (drop (8 * (block % 2)) piece) }
+{
+    if block % 2 == 0 {
+        return piece;
+    }
+    piece.shuffle(piece, LAST_HALF)
 }
 
 /// Returns a bit for each of the text's 16 bytes from `at` on: it is set if the byte needs an escape and has no short one.

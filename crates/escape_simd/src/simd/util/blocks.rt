@@ -11,8 +11,9 @@ ghost use Rattle.escape_simd.specs.Stretch.{AreShort, HasBlocks, Stretch};
 use crate::simd::HTML_MODE;
 use escape_lanes::simd::classify::{Classified, classify_by_mask};
 use escape_lanes::simd::lane_bits::{count_flagged_blocks, count_gaps, eight_lanes, is_flagged};
-use escape_lanes::simd::short::{has_long, shorten};
+use escape_lanes::simd::short::{half, has_long, shorten_vector};
 use escape_lanes::simd::target::{Target, Ticks};
+use std::simd::prelude::*;
 
 /// With fewer flags than these single escapes are faster.
 const FEWEST_FLAGS: u32 = 3;
@@ -81,24 +82,26 @@ fn classify_block<'a, const MODE: u8>(
     (own, Classified::none(), true)
 }
 
-/// Escapes the block of eight bytes of the text at `at`, of which `_count` are to be written. One without an escape is stored
-/// by its classification. Returns the place after it.
+/// Escapes the block of eight bytes of the text at `_at`, of which `_count` are to be written: `block` begins with them,
+/// shortened. One without an escape is stored by its classification. Returns the place after it.
 #[inline(always)]
 fn put_block<const N: usize>(
-    src: &[u8],
-    at: usize,
+    _src: &[u8],
+    _at: usize,
     _count: usize,
+    block: u8x16,
     flags: u8,
     _classified: Classified<'_>,
     target: &mut Target<'_, N>,
     to: usize,
 ) -> usize
-    requires inside { at + 16 ≤ length src.now }
-    requires classified { flag_count (bits_of 8 flags) ≡ 0 → IsWithin (take _count (drop at src.now)) (asked_of _classified) }
+    requires whole { length block ≡ 16 }
+    requires shortened { take 8 block ≡ take 8 (map shortened (take 16 (drop _at _src.now))) }
+    requires classified { flag_count (bits_of 8 flags) ≡ 0 → IsWithin (take _count (drop _at _src.now)) (asked_of _classified) }
     requires room { to + 16 ≤ length (bytes_of target.old) }
-    ensures { IsBlock (bits_of 8 flags) (take 8 (map shortened (take 16 (drop at src.now)))) target.old target.new to result }
+    ensures { IsBlock (bits_of 8 flags) (take 8 (map shortened (take 16 (drop _at _src.now)))) target.old target.new to result }
 {
-    target.escape_block(to, shorten(src, at), flags)
+    target.escape_block(to, block, flags)
 }
 
 /// Escapes the text's `valid` bytes at `at` in blocks of eight. Returns the place after them.
@@ -117,11 +120,15 @@ pub(crate) fn escape_blocks<const MODE: u8, const N: usize>(
 ) -> usize
     requires classified { IsWithin (take valid (drop at src.now)) (asked_of classified) }
     requires fits { valid ≤ N }
+    requires width { N ≡ 16 * (N / 16) }
+    requires most { N ≤ 64 }
+    requires inside { at + N ≤ length src.now }
     requires blocks { HasBlocks (mode_numbered MODE) src.now at valid to (length (bytes_of target.old)) (bits_of 64 mask) }
     ensures stretch { Stretch (mode_numbered MODE) 16 src.now target.old target.new at (at + valid) to result }
     ensures stored { stored_of target.new + flagged_blocks 8 (bits_of 64 mask) ≡ stored_of target.old + (valid + 7) / 8 }
     ensures ticks { ticks.new ≡ ticks.old + ((valid + 7) / 8 - (flagged_blocks 8 (bits_of 64 mask) + 1)) }
 {
+    let pieces = shorten_vector::<N>(src, at);
     let mut own = classified;
     let mut used = false;
     let mut end = to;
@@ -145,6 +152,7 @@ pub(crate) fn escape_blocks<const MODE: u8, const N: usize>(
             src,
             at + 8 * block,
             until - 8 * block,
+            half(pieces[block / 2], block),
             flags,
             asked.0,
             target,

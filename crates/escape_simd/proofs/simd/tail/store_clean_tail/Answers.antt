@@ -13,7 +13,7 @@ returns-then-count-clause-clean g c =
     let all : length src - at ≡ length text = sym (ap length is ∙ count) in
     let clean = tail-clean_back src at r.inside c.classify_short-v.ensures.flagged (c.none.ensures c.if-not-none.false).1 in
     let front : CleanFrom mode text 0 (0 + length text) = λ p late early.
-        let here = clean (at + p) (omega (arith, c.if-count.true)) (omega (arith, early, all, r.inside)) in rw (is, get_or-drop at src p 0) here in
+    let here = clean (at + p) (omega (arith, c.if-count.true)) (omega (arith, early, all, r.inside)) in rw (is, get_or-drop at src p 0) here in
     let e = vector-clean mode (reach true n) text c.args.target.now c.store_lanes.new.target 0 (length text) c.args.to c.classify_short-v.new.ticks (omega arith) front c.store_lanes.ensures in
     rest-escaped src text at n c.args.ticks.now is r.inside (one-begun n (length src - at) c.if-count.true) c.classify_short-v.ensures.tick (escapes-ended (omega arith) (omega arith) (omega (arith, all)) e)
 

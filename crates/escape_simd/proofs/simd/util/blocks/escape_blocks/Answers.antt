@@ -1,7 +1,8 @@
-use Rattle.std.proofs.Common.{ℕ, List, Bool, true, false, ◌≡◌, ◌+◌, ◌-◌, ◌*◌, ◌≤◌, min, take, drop, rules, refl, sym, ap, subst, ◌∙◌, length, arith}
-use Rattle.escape_simd.proofs.Words.{asked_of, flag_count, flagged_blocks, bits_of, mode_numbered, IsWithin, Tells}
+use Rattle.std.proofs.Common.{ℕ, List, Bool, true, false, ◌≡◌, ◌+◌, ◌-◌, ◌*◌, ◌/◌, ◌≤◌, min, take, drop, rules, refl, sym, ap, subst, ◌∙◌, length, arith}
+use Rattle.escape_simd.proofs.Words.{length-drop, length-map, length-take-le, shortened, asked_of, flag_count, flagged_blocks, bits_of, mode_numbered, IsWithin, Tells}
 use Rattle.escape_simd.proofs.Lanes.{part-later}
-use Rattle.escape_simd.proofs.Pasted.{block-told, blocks-next, done-stored, done-stretch, done-ticks, first-valid, next-inside, next-room}
+use Rattle.escape_simd.proofs.Pasted.{block-told, blocks-next, done-stored, done-stretch, done-ticks, first-valid, next-room}
+use Rattle.escape_simd.proofs.Shortened.{block-half}
 use Rattle.escape_simd.proofs.simd.util.blocks.escape_blocks.Goals as goal
 use Rattle.escape_simd.proofs.simd.util.blocks.escape_blocks.Goals.{else-blocks-2-test, then-blocks-2-test+then-valid-block}
 
@@ -18,6 +19,12 @@ classify_block-asked-requires-clause-told g c =
     let told = block-told c.args.mask c.requires.blocks (λ (i : ℕ). (c.type_inv.src i).fits) refl c.blocks-2.invariant.so_far.done c.blocks-2.invariant.more in
     λ k later few. rw here (told k later (omega (arith, few, c.min-until.ensures)))
 
+pub half-requires : goal.half-requires
+half-requires g c =
+    let src : List ℕ = c.args.src.now in let from : ℕ = c.args.at + 16 * (c.blocks-2.block / 2) in
+    let piece = c.shorten_vector-pieces.ensures (c.blocks-2.block / 2) (omega (arith, c.blocks-2-test.true)) in
+    ap length piece ∙ length-map (take 16 (drop from src)) shortened ∙ length-take-le 16 (drop from src) (omega (arith, length-drop from src, c.requires.inside, c.requires.width, c.blocks-2-test.true))
+
 pub put_block-end-requires : goal.put_block-end-requires
 put_block-end-requires g c =
     let i = c.blocks-2.invariant in let small = λ (i : ℕ). (c.type_inv.src i).fits in
@@ -26,7 +33,8 @@ put_block-end-requires g c =
     let same = part-later c.args.src.now c.args.at c.args.valid from count (omega (arith, c.min-until.ensures, i.more)) in
     let plain = λ (none : flag_count (bits_of 8 c.eight_lanes-flags.result) ≡ 0).
     subst (λ xs. IsWithin xs (asked_of c.classify_block-asked.result.0)) same (rw here at (c.classify_block-asked.ensures.classified (rw none at c.is_flagged.ensures))) in
-    (omega arith, (next-inside c.args.mask c.requires.blocks small refl i.so_far.done i.more, (plain, next-room c.args.mask c.requires.blocks small refl i.so_far.done i.more)))
+    let piece = c.shorten_vector-pieces.ensures (c.blocks-2.block / 2) (omega (arith, c.blocks-2-test.true)) in
+    (omega arith, (c.half.ensures.whole, (block-half c.args.src.now c.args.at c.blocks-2.block _ c.half.result piece c.half.ensures.block, (plain, next-room c.args.mask c.requires.blocks small refl i.so_far.done i.more))))
 
 pub blocks-2-preserved : goal.blocks-2-preserved
 blocks-2-preserved g c =

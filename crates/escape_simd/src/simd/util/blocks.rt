@@ -9,29 +9,32 @@ ghost use Rattle.escape_simd.specs.Modes.{mode_numbered};
 ghost use Rattle.escape_simd.specs.Stretch.{AreShort, HasBlocks, Stretch};
 
 use crate::simd::HTML_MODE;
+use escape_lanes::simd::BitMask;
 use escape_lanes::simd::classify::{Classified, classify_by_mask};
-use escape_lanes::simd::lane_bits::{count_flagged_blocks, count_gaps, eight_lanes, is_flagged};
+use escape_lanes::simd::lane_bits::{
+    clear_first_lane, count_flagged_blocks, count_gaps, eight_lanes, is_flagged,
+};
 use escape_lanes::simd::short::{half, has_long, shorten_vector};
 use escape_lanes::simd::target::{Target, Ticks};
 use std::simd::prelude::*;
 
-/// With fewer flags than these single escapes are faster.
-const FEWEST_FLAGS: u32 = 3;
-
-/// Returns whether the flags are many, and the blocks of eight that a vector's first `valid` bytes take count as no more
-/// stored vectors than its turns would. A block without an escape counts as one. The vector itself pays for one of them,
-/// and each run that ends in it for another one.
+/// Returns whether a vector's first `valid` bytes have several flags, and their blocks of eight count as no more stored
+/// vectors than its turns would. A block without an escape counts as one. The vector itself pays for one of them, and each
+/// run that ends in it for another one.
 #[inline(always)]
 pub(crate) fn are_paid(flags: u64, valid: usize) -> bool
     requires some { none_set (bits_of 64 flags) ≡ false }
     requires few { valid ≤ 64 }
     ensures { result ≡ true → (valid + 7) / 8 ≤ flagged_blocks 8 (bits_of 64 flags) + gaps false (take valid (bits_of 64 flags)) + 1 }
 {
-    if flags.count_ones() < FEWEST_FLAGS {
+    // A single escape is faster by itself.
+    if clear_first_lane(flags).all_zero() {
         return false;
     }
-    // Up to 16 bytes take two blocks, one of which has an escape.
-    valid <= 16 || (valid + 7) / 8 <= count_flagged_blocks(flags) + count_gaps(flags, valid) + 1
+    let blocks = (valid + 7) / 8;
+    let gaps = count_gaps(flags, valid);
+    // One block at least has an escape, so the blocks are counted only where few runs end.
+    blocks <= gaps + 2 || blocks <= count_flagged_blocks(flags) + gaps + 1
 }
 
 /// Returns whether what stands for each flagged byte of the text's vector at `at` is two bytes.

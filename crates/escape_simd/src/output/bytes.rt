@@ -5,11 +5,11 @@ ghost use Rattle.std.specs.Prelude.{◌≡◌, ◌+◌, ◌*◌, ◌<◌, ◌≤
 ghost use Rattle.escape_simd.specs.Modes.{mode_numbered};
 ghost use Rattle.escape_simd.specs.Output.{inner, quote_of};
 
-use crate::output::clean::mask_at;
+use crate::output::clean::{is_clean_chunk, mask_at};
 use crate::output::in_place::{append_flagged, append_in_place};
-use crate::output::push::{lanes, push_all, push_quote};
+use crate::output::push::{push_all, push_quote};
 use crate::output::{N, V};
-use crate::simd::{classify_pair, classify_short, load};
+use crate::simd::{Simd, classify_pair, classify_short};
 use escape_lanes::simd::BitMask;
 use escape_lanes::simd::target::Ticks;
 use std::alloc::Allocator;
@@ -26,7 +26,9 @@ pub(super) fn append_last<const MODE: u8, A: Allocator>(text: &[u8], dst: &mut V
     let flags = if count < N {
         let (v, flags) = classify_short::<V, MODE, N>(text, 0, &mut Ticks::new());
         if flags.none() {
-            push_all(dst, &lanes(&v));
+            let mut lanes = [0u8; N];
+            v.storeu(&mut lanes);
+            push_all(dst, &lanes);
             dst.truncate(len + count);
             return push_quote::<MODE, A>(dst);
         }
@@ -34,10 +36,11 @@ pub(super) fn append_last<const MODE: u8, A: Allocator>(text: &[u8], dst: &mut V
     } else {
         let flags = classify_pair::<V, MODE, N>(text, 0, &mut Ticks::new());
         if flags.none() {
-            push_all(dst, &lanes(&load::<V, N>(text, 0)));
+            let last = count - N;
+            push_all(dst, &text[..N]);
             // The last vector overlaps the first one.
-            dst.truncate(len + (count - N));
-            push_all(dst, &lanes(&load::<V, N>(text, count - N)));
+            dst.truncate(len + last);
+            push_all(dst, &text[last..last + N]);
             return push_quote::<MODE, A>(dst);
         }
         flags
@@ -52,8 +55,7 @@ pub(super) fn append_last<const MODE: u8, A: Allocator>(text: &[u8], dst: &mut V
     );
 }
 
-/// Appends what stands for a text of two vectors or more: the vectors of its clean front from registers, and the rest
-/// in place.
+/// Appends what stands for a text of two vectors or more: its clean front as it is, and the rest in place.
 #[inline(never)]
 pub(super) fn append_long<const MODE: u8, A: Allocator>(text: &[u8], dst: &mut Vec<u8, A>)
     requires { vec_len dst.old + 6 * length text.now + N ≤ vec_capacity dst.old }
@@ -61,11 +63,18 @@ pub(super) fn append_long<const MODE: u8, A: Allocator>(text: &[u8], dst: &mut V
         ++ (inner (mode_numbered MODE) text.now ++ quote_of (mode_numbered MODE)) }
 {
     let mut at = 0;
-    'front: while 2 * N <= text.len() - at {
+    'chunks: while 5 * N <= text.len() - at {
+        if !is_clean_chunk::<MODE>(text, at) {
+            break;
+        }
+        push_all(dst, &text[at..at + 4 * N]);
+        at += 4 * N;
+    }
+    'vectors: while 2 * N <= text.len() - at {
         if !mask_at::<MODE>(text, at, N).all_zero() {
             return append_in_place::<MODE, A>(&text[at..], dst);
         }
-        push_all(dst, &lanes(&load::<V, N>(text, at)));
+        push_all(dst, &text[at..at + N]);
         at += N;
     }
     append_last::<MODE, A>(&text[at..], dst);

@@ -19,7 +19,7 @@ use escape_lanes::simd::{BitMask, Flags};
 
 /// Returns whether no byte of four vectors of the text from `at` on is flagged.
 #[inline(always)]
-fn is_clean_chunk<const MODE: u8>(src: &[u8], at: usize) -> bool
+pub(super) fn is_clean_chunk<const MODE: u8>(src: &[u8], at: usize) -> bool
     requires { at + 4 * N ≤ length src.now }
     ensures { IsAnswer (mode_numbered MODE) src.now at (at + 4 * N) result }
 {

@@ -3,8 +3,7 @@ ghost use Rattle.std.specs.Prelude.{◌≡◌, ◌+◌, ◌<◌, ◌≤◌, ◌+
 ghost use Rattle.escape_simd.specs.Modes.{mode_numbered};
 ghost use Rattle.escape_simd.specs.Output.{quote_of};
 
-use crate::output::{N, V};
-use crate::simd::{HTML_MODE, Simd};
+use crate::simd::HTML_MODE;
 use std::alloc::Allocator;
 
 /// How many bytes of a vector are filled with zeros at a time, if it has room for them.
@@ -59,14 +58,4 @@ pub(super) fn fill<A: Allocator>(dst: &mut Vec<u8, A>, len: usize)
             unreachable!()
         };
     }
-}
-
-/// Returns the vector's lanes.
-#[inline(always)]
-pub(super) fn lanes(v: &V) -> [u8; N]
-    ensures { result ≡ ⟦<V as Simd>⟧.lanes v.now }
-{
-    let mut lanes = [0u8; N];
-    v.storeu(&mut lanes);
-    lanes
 }

@@ -5,7 +5,7 @@ use Rattle.std.proofs.lemmas.Nat.{le-div}
 use Rattle.escape_lanes.specs.Mode.{Mode}
 use Rattle.escape_lanes.specs.Written.{bytes_of}
 use Rattle.escape_lanes.specs.declared.simd.target.Target.{Target}
-use Rattle.escape_simd.specs.Stretch.{Cost, Escapes, HasTail, HasVectors, Stretch, reach, rest_length}
+use Rattle.escape_simd.specs.Stretch.{Cost, Escapes, HasTail, HasVectors, Stretch, reach, rest_length, state}
 use Rattle.escape_simd.proofs.RestSteps.{rest-bounds}
 use Rattle.escape_simd.proofs.Stretches.{onward_to, reach-bounds, standing, stretch-on}
 use Rattle.escape_simd.proofs.Vectors.{passed-to}
@@ -50,7 +50,7 @@ module _ {N : ℕ} (mode : Mode) (src : List ℕ) (old mid new : Target N) (at t
       record { inside = i; few = few; room = omega (arith, room, sized, on, i) }
 
   -- so many vectors were passed
-  pub body-on : (vectors next close t2 : ℕ) → at + (vectors + 1) * N ≤ length src → at + (vectors + 1) * N ≡ at + vectors * N + N → (at / N + vectors) * N ≡ at / N * N + vectors * N → Escapes mode N (at + vectors * N) vectors 0 src mid new at next end close t1 t2 → BodySoFar mode src old new next to close t0 t2
+  pub body-on : (vectors next close t2 : ℕ) → at + (vectors + 1) * N ≤ length src → at + (vectors + 1) * N ≡ at + vectors * N + N → (at / N + vectors) * N ≡ at / N * N + vectors * N → Escapes mode N (at + vectors * N) vectors 0 src (state mid at end t1) (state new next close t2) → BodySoFar mode src old new next to close t0 t2
   body-on vectors next close t2 inside more whole e =
       let r = rest-bounds mode src next in let far = (reach-bounds true N several).0 in let l = e.stretch.limit in let p = e.passed in
       let w = div-mul-le_self at N in
@@ -60,8 +60,8 @@ module _ {N : ℕ} (mode : Mode) (src : List ℕ) (old mid new : Target N) (at t
       }
 
   -- all of it
-  pub body-all : (close t2 : ℕ) → Escapes mode (reach true N) (length src) ((length src - at) / N + 1) 0 src mid new at (length src) end close t1 t2
-      → Escapes mode (reach true N) (length src) (length src / N + 1) 0 src old new 0 (length src) to close t0 t2
+  pub body-all : (close t2 : ℕ) → Escapes mode (reach true N) (length src) ((length src - at) / N + 1) 0 src (state mid at end t1) (state new (length src) close t2)
+      → Escapes mode (reach true N) (length src) (length src / N + 1) 0 src (state old 0 to t0) (state new (length src) close t2)
   body-all close t2 e =
       let i = so_far.stretch.inside in let l = e.stretch.limit in let none = (rest-bounds mode src (length src)).1 in
       let p = div-mul-le_self at N in let q = div-mul-le_self (length src - at) N in

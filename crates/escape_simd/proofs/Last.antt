@@ -1,7 +1,7 @@
 -- The last bytes of a text, held with zeros behind them.
 use Rattle.std.proofs.Common.{min, ◌≡◌, ℕ, ◌+◌, ◌-◌, ◌*◌, ◌/◌, ◌<◌, ◌≤◌, Bool, true, false, List, [], ◌++◌, length, take, drop, replicate, map, refl, sym, ap, subst, ◌∙◌, arith, append_assoc, append-nil, length-append, length-drop}
 use Rattle.std.proofs.Math.Nat.{div-eq_of_lt, div-eq_of_lt-le}
-use Rattle.escape_simd.proofs.Words.{append_cancel_right, drop_all, drop_at, get_or-drop, get_or_past, none_set, length-replicate, replicate-append-replicate, drop-append-le, drop-drop, take_all, take-append-le, clear_last, Mode, script, needs_escape, bytes_of, Target, inner, escaped_count, run_count, AreTail, IsWithin, Escapes, HoldsFlags, IsStored, IsVectorAt, Passed}
+use Rattle.escape_simd.proofs.Words.{append_cancel_right, drop_all, drop_at, get_or-drop, get_or_past, none_set, length-replicate, replicate-append-replicate, drop-append-le, drop-drop, take_all, take-append-le, clear_last, Mode, script, needs_escape, bytes_of, Target, inner, escaped_count, run_count, AreTail, IsWithin, Escapes, HoldsFlags, IsStored, IsVectorAt, Passed, state}
 use Rattle.escape_simd.proofs.Behind.{inner-behind, escaped-behind, get_or-behind, runs-behind}
 use Rattle.escape_simd.proofs.Lanes.{CleanFrom, get_or-clear_last, get_or-cleared_last, held-cut, held-none}
 use Rattle.escape_simd.proofs.ReplacementLemmas.{inner-nil}
@@ -43,8 +43,8 @@ module _ (mode : Mode) (text : List ℕ) (k : ℕ) where
   }
 
   -- what escaped it
-  pub escapes-behind : {N : ℕ} {slack border vectors asked : ℕ} {old new : Target N} {to end t0 t1 : ℕ} → Escapes mode slack border vectors asked held old new 0 (length text) to end t0 t1
-      → Escapes mode slack (length text) vectors asked text old new 0 (length text) to end t0 t1
+  pub escapes-behind : {N : ℕ} {slack border vectors asked : ℕ} {old new : Target N} {to end t0 t1 : ℕ} → Escapes mode slack border vectors asked held (state old 0 to t0) (state new (length text) end t1)
+      → Escapes mode slack (length text) vectors asked text (state old 0 to t0) (state new (length text) end t1)
   escapes-behind {N} {slack} {border} {vectors} {asked} {old} {new} {to} {end} {t0} {t1} e =
       let s = e.stretch in
       let none : drop (length text) text ≡ [] = drop_all (length text) text (omega arith) in
@@ -80,7 +80,7 @@ module _ (mode : Mode) (text : List ℕ) (k : ℕ) where
 -- two clean vectors that may have some of the same bytes
 pub two-clean : {N : ℕ} (mode : Mode) (slack n : ℕ) (src : List ℕ) (old mid new : Target N) (at to t : ℕ) → at + n ≤ length src → length src < at + 2 * n → CleanFrom mode src at (at + n) → CleanFrom mode src (length src - n) (length src)
     → IsStored slack src old mid at n to → IsStored slack src mid new (length src - n) n (to + (length src - at - n))
-    → Escapes mode slack (length src) 2 2 src old new at (length src) to (to + (length src - at)) t t
+    → Escapes mode slack (length src) 2 2 src (state old at to t) (state new (length src) (to + (length src - at)) t)
 two-clean mode slack n src old mid new at to t inside few clean1 clean2 s1 s2 =
     let shared : ℕ = length src - at - n in
     let p = ahead-passed mode slack src mid at (at + n) (length src - n) to (ahead-front mode src mid at (at + n) to n (omega arith) s1.ahead) (omega (arith, inside)) (omega (arith, few, inside)) inside (λ p late early. clean1 p late (omega (arith, early, few, inside))) in
@@ -125,7 +125,7 @@ module _ (mode : Mode) (slack n : ℕ) (text held : List ℕ) (next left k end :
       record { flags = grind (arith, holds-behind, holds-from); few = few; inside = grind (arith, length-held, length-drop {A = ℕ}); room = room }
 
   -- then all are
-  pub last-all : {N : ℕ} (old new : Target N) (past close t0 t1 : ℕ) → Escapes mode slack (0 + left) 1 1 held old new 0 past end close t0 t1 → Escapes mode slack (length text) 1 1 text old new next (length text) end close t0 t1
+  pub last-all : {N : ℕ} (old new : Target N) (past close t0 t1 : ℕ) → Escapes mode slack (0 + left) 1 1 held (state old 0 end t0) (state new past close t1) → Escapes mode slack (length text) 1 1 text (state old next end t0) (state new (length text) close t1)
   last-all old new past close t0 t1 e =
       let count = length-drop next text in
       let stops = zero-stops mode (drop next text) k (0 + left) past (omega (arith, all, count)) (omega (arith, all, count, e.passed.whole)) (rw is at e.passed) in
@@ -197,11 +197,11 @@ module _ {mode : Mode} {n : ℕ} {first last : List Bool} {first_asked last_aske
 
 -- as they were escaped, so was the rest of the text
 pub rest-escaped : {N : ℕ} {mode : Mode} {slack vectors : ℕ} {old new : Target N} {to end t1 t2 : ℕ} (src text : List ℕ) (at n t0 : ℕ) → text ≡ drop at src → at ≤ length src → vectors ≡ (length src - at) / n + 1 → t1 ≡ t0 + vectors
-    → Escapes mode slack (length text) vectors vectors text old new 0 (length text) to end t1 t2 → Escapes mode slack (length src) ((length src - at) / n + 1) 0 src old new at (length src) to end t0 t2
+    → Escapes mode slack (length text) vectors vectors text (state old 0 to t1) (state new (length text) end t2) → Escapes mode slack (length src) ((length src - at) / n + 1) 0 src (state old at to t0) (state new (length src) end t2)
 rest-escaped {N} {mode} {slack} {vectors} {old} {new} {to} {end} {t1} {t2} src text at n t0 is inside count ticks e =
     let whole : at + length text ≡ length src = omega (arith, ap length is, length-drop at src, inside) in
     let f = escapes-ended whole whole refl (escapes-later src text at is inside e) in
-    subst (λ v. Escapes mode slack (length src) v 0 src old new at (length src) to end t0 t2) count (escapes-asked t0 vectors ticks f)
+    subst (λ v. Escapes mode slack (length src) v 0 src (state old at to t0) (state new (length src) end t2)) count (escapes-asked t0 vectors ticks f)
 
 -- how many vectors a short text begins
 pub one-begun : (n count : ℕ) → count < n → 1 ≡ count / n + 1

@@ -1,6 +1,6 @@
 -- How far the turns of a vector have come.
 use Rattle.std.proofs.Common.{◌≡◌, ℕ, zero, suc, ◌+◌, ◌-◌, ◌*◌, ◌<◌, ◌≤◌, Bool, true, false, true≢false, List, length, take, drop, get_or, refl, sym, ◌∙◌, arith, append_assoc}
-use Rattle.escape_simd.proofs.Words.{false_from_ne_true, take-take, take-add, bytes_of, first_set, none_set, clear_first, Mode, needs_escape, stored_of, Target, run_count, run_count_after, Stretch, CanStore, Escaped, Escapes, HoldsFlags, IsFinished, IsFlaggedAt, IsStored, IsVectorAt, IsVectorEnd}
+use Rattle.escape_simd.proofs.Words.{false_from_ne_true, take-take, take-add, bytes_of, first_set, none_set, clear_first, Mode, needs_escape, stored_of, Target, run_count, run_count_after, Stretch, CanStore, Escaped, Escapes, HoldsFlags, IsFinished, IsFlaggedAt, IsStored, IsVectorAt, IsVectorEnd, state}
 use Rattle.escape_simd.proofs.Escapes.{passed-after, reach-few}
 use Rattle.escape_simd.proofs.Texts.{first-here, next-here, one≤passed, runs_after-≤, runs_stop-here}
 use Rattle.escape_simd.proofs.Stretches.{onward_to, standing, stored_ahead, stretch-on}
@@ -151,12 +151,12 @@ module _ {N : ℕ} {mode : Mode} {slack : ℕ} {src : List ℕ} {old mid : Targe
             grind arith
 
     -- these were passed: so was the vector
-    pub turn-finished : {last : Target N} {past close ticks : ℕ} → IsFinished mode slack src new last valid after past reached close ticks_new ticks → Escapes mode slack valid 1 1 src old last 0 past to close ticks_old ticks
+    pub turn-finished : {last : Target N} {past close ticks : ℕ} → IsFinished mode slack src valid (state new after reached ticks_new) (state last past close ticks) → Escapes mode slack valid 1 1 src (state old 0 to ticks_old) (state last past close ticks)
     turn-finished f = let s = onward_to slack turn-stretch f.stretch (omega (arith, stretch-on f.stretch, f.passed.whole)) (omega arith) in grind (arith, turn-runs)
 
 -- after the last escape of a vector, its last clean bytes were stored
 pub finished-stored : {N : ℕ} {mode : Mode} {slack : ℕ} {src : List ℕ} {old new : Target N} {border from to size ticks_old ticks_new : ℕ} → from < border → IsVectorEnd mode N slack src border from to size
-    → IsStored slack src old new from (border - from) to → ticks_new ≡ ticks_old + 1 → IsFinished mode slack src old new border from border to (to + (border - from)) ticks_old ticks_new
+    → IsStored slack src old new from (border - from) to → ticks_new ≡ ticks_old + 1 → IsFinished mode slack src border (state old from to ticks_old) (state new border (to + (border - from)) ticks_new)
 finished-stored {mode = mode} {slack = slack} {src = src} {old = old} {new = new} {border = border} {from = from} {to = to} before v s tick =
     let ahead = ahead-front mode src new from border to (border - from) (omega arith) s.ahead in
     let on = ahead-passed mode slack src new from border border to ahead (omega arith) (omega arith) (omega (arith, v.inside)) v.clean in
@@ -165,5 +165,5 @@ finished-stored {mode = mode} {slack = slack} {src = src} {old = old} {new = new
 
 -- or there were none
 pub finished-over : {N : ℕ} {mode : Mode} {slack : ℕ} {src : List ℕ} {t : Target N} {border from to size ticks : ℕ} → border ≤ from → IsVectorEnd mode N slack src border from to size
-    → IsFinished mode slack src t t border from from to to ticks ticks
+    → IsFinished mode slack src border (state t from to ticks) (state t from to ticks)
 finished-over over v = grind (arith, standing, runs_after-≤)

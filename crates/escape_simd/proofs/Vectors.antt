@@ -1,6 +1,6 @@
 -- A vector of a text as a whole: stored where it is clean, and what blocks cost.
 use Rattle.std.proofs.Common.{◌≡◌, ℕ, ◌+◌, ◌-◌, ◌/◌, ◌<◌, ◌≤◌, Bool, true, false, ◌&&◌, List, ◌++◌, length, length-drop, length-take-le, map, replicate, take, drop, get_or, refl, sym, ap, subst, ◌∙◌, arith}
-use Rattle.escape_simd.proofs.Words.{cases_Bool, drop-drop, get_or-drop, get_or-map, get_or-take, get_or-zip2, length-map, nat_tests, zip2, take-take, bits_of, flagged_blocks, gaps, length-bits_of, none_set, Mode, is_long, script, needs_escape, replacement, stored_of, Target, passed, run_count, AreShort, Escapes, HasVectors, HoldsFlags, IsStored, IsVectorAt, Passed, Stretch}
+use Rattle.escape_simd.proofs.Words.{cases_Bool, drop-drop, get_or-drop, get_or-map, get_or-take, get_or-zip2, length-map, nat_tests, zip2, take-take, bits_of, flagged_blocks, gaps, length-bits_of, none_set, Mode, is_long, script, needs_escape, replacement, stored_of, Target, passed, run_count, AreShort, Escapes, HasVectors, HoldsFlags, IsStored, IsVectorAt, Passed, Stretch, state}
 use Rattle.escape_simd.proofs.Escapes.{other-byte, passed-alone}
 use Rattle.escape_simd.proofs.Gaps.{gaps-paid_mask}
 use Rattle.escape_simd.proofs.Lanes.{CleanFrom, held-shifted, held-whole, none_clean, none_set-at}
@@ -18,7 +18,7 @@ passed-to mode src border = record {
 }
 
 -- no byte of the text
-pub escapes-none : {N : ℕ} (mode : Mode) (slack : ℕ) (src : List ℕ) (t : Target N) (to ticks : ℕ) → Escapes mode slack 0 0 0 src t t 0 0 to to ticks ticks
+pub escapes-none : {N : ℕ} (mode : Mode) (slack : ℕ) (src : List ℕ) (t : Target N) (to ticks : ℕ) → Escapes mode slack 0 0 0 src (state t 0 to ticks) (state t 0 to ticks)
 escapes-none mode slack src t to ticks = record {
   stretch = standing mode slack src t 0 to (omega arith);
   passed = passed-to mode src 0;
@@ -34,7 +34,7 @@ clean-stored mode slack src old new at valid to inside clean s =
 
 -- a clean vector was stored
 pub vector-clean : {N : ℕ} (mode : Mode) (slack : ℕ) (src : List ℕ) (old new : Target N) (at valid to ticks : ℕ) → at + valid ≤ length src → CleanFrom mode src at (at + valid)
-    → IsStored slack src old new at valid to → Escapes mode slack (at + valid) 1 1 src old new at (at + valid) to (to + valid) ticks ticks
+    → IsStored slack src old new at valid to → Escapes mode slack (at + valid) 1 1 src (state old at to ticks) (state new (at + valid) (to + valid) ticks)
 vector-clean mode slack src old new at valid to ticks inside clean s =
     let same = ahead-runs mode src at (at + valid) (omega arith) clean in
     record {
@@ -49,7 +49,7 @@ vector-clean mode slack src old new at valid to ticks inside clean s =
 
 -- one stretch of vectors, and then the next
 pub escapes-onward : {N : ℕ} {mode : Mode} {slack border border2 v1 v2 a1 a2 : ℕ} {src : List ℕ} {old mid new : Target N} {at i next to p end t0 t1 t2 : ℕ}
-    → Escapes mode slack border v1 a1 src old mid at i to p t0 t1 → Escapes mode slack border2 v2 a2 src mid new i next p end t1 t2 → Escapes mode slack border2 (v1 + v2) (a1 + a2) src old new at next to end t0 t2
+    → Escapes mode slack border v1 a1 src (state old at to t0) (state mid i p t1) → Escapes mode slack border2 v2 a2 src (state mid i p t1) (state new next end t2) → Escapes mode slack border2 (v1 + v2) (a1 + a2) src (state old at to t0) (state new next end t2)
 escapes-onward a b = record {
   stretch = onward a.stretch b.stretch;
   passed = b.passed;
@@ -62,22 +62,22 @@ escapes-onward a b = record {
 
 -- the same from, to and past places that are equal
 pub escapes-begun : {N : ℕ} {mode : Mode} {slack border vectors asked : ℕ} {src : List ℕ} {old new : Target N} {at i next to p end t0 t1 : ℕ}
-    → at ≡ i → to ≡ p → Escapes mode slack border vectors asked src old new at next to end t0 t1 → Escapes mode slack border vectors asked src old new i next p end t0 t1
+    → at ≡ i → to ≡ p → Escapes mode slack border vectors asked src (state old at to t0) (state new next end t1) → Escapes mode slack border vectors asked src (state old i p t0) (state new next end t1)
 escapes-begun {N} {mode} {slack} {border} {vectors} {asked} {src} {old} {new} {at} {i} {next} {to} {p} {end} {t0} {t1} e f s =
-    subst (λ k. Escapes mode slack border vectors asked src old new i next k end t0 t1) f (subst (λ k. Escapes mode slack border vectors asked src old new k next to end t0 t1) e s)
+    subst (λ k. Escapes mode slack border vectors asked src (state old i k t0) (state new next end t1)) f (subst (λ k. Escapes mode slack border vectors asked src (state old k to t0) (state new next end t1)) e s)
 
 pub escapes-bordered : {N : ℕ} {mode : Mode} {slack border b vectors asked : ℕ} {src : List ℕ} {old new : Target N} {at next to end t0 t1 : ℕ}
-    → border ≡ b → Escapes mode slack border vectors asked src old new at next to end t0 t1 → Escapes mode slack b vectors asked src old new at next to end t0 t1
-escapes-bordered {N} {mode} {slack} {border} {b} {vectors} {asked} {src} {old} {new} {at} {next} {to} {end} {t0} {t1} e s = subst (λ k. Escapes mode slack k vectors asked src old new at next to end t0 t1) e s
+    → border ≡ b → Escapes mode slack border vectors asked src (state old at to t0) (state new next end t1) → Escapes mode slack b vectors asked src (state old at to t0) (state new next end t1)
+escapes-bordered {N} {mode} {slack} {border} {b} {vectors} {asked} {src} {old} {new} {at} {next} {to} {end} {t0} {t1} e s = subst (λ k. Escapes mode slack k vectors asked src (state old at to t0) (state new next end t1)) e s
 
 pub escapes-ended : {N : ℕ} {mode : Mode} {slack border b vectors asked : ℕ} {src : List ℕ} {old new : Target N} {at next i to end p t0 t1 : ℕ}
-    → border ≡ b → next ≡ i → end ≡ p → Escapes mode slack border vectors asked src old new at next to end t0 t1 → Escapes mode slack b vectors asked src old new at i to p t0 t1
+    → border ≡ b → next ≡ i → end ≡ p → Escapes mode slack border vectors asked src (state old at to t0) (state new next end t1) → Escapes mode slack b vectors asked src (state old at to t0) (state new i p t1)
 escapes-ended {N} {mode} {slack} {border} {b} {vectors} {asked} {src} {old} {new} {at} {next} {i} {to} {end} {p} {t0} {t1} e f h s =
-    subst (λ k. Escapes mode slack b vectors asked src old new at i to k t0 t1) h (subst (λ k. Escapes mode slack b vectors asked src old new at k to end t0 t1) f (escapes-bordered e s))
+    subst (λ k. Escapes mode slack b vectors asked src (state old at to t0) (state new i k t1)) h (subst (λ k. Escapes mode slack b vectors asked src (state old at to t0) (state new k end t1)) f (escapes-bordered e s))
 
 -- the vectors that were classified before, counted with them
 pub escapes-asked : {N : ℕ} {mode : Mode} {slack border vectors : ℕ} {src : List ℕ} {old new : Target N} {at next to end t1 t2 : ℕ} (t0 asked : ℕ)
-    → t1 ≡ t0 + asked → Escapes mode slack border vectors asked src old new at next to end t1 t2 → Escapes mode slack border vectors 0 src old new at next to end t0 t2
+    → t1 ≡ t0 + asked → Escapes mode slack border vectors asked src (state old at to t1) (state new next end t2) → Escapes mode slack border vectors 0 src (state old at to t0) (state new next end t2)
 escapes-asked t0 asked e s = record {
   stretch = s.stretch;
   passed = s.passed;
@@ -90,9 +90,9 @@ escapes-asked t0 asked e s = record {
 
 -- what escaped a text from a place on, as a text of its own
 pub escapes-later : {N : ℕ} {mode : Mode} {slack border vectors asked : ℕ} {old new : Target N} {next to end t0 t1 : ℕ} (src text : List ℕ) (at : ℕ) → text ≡ drop at src → at ≤ length src
-    → Escapes mode slack border vectors asked text old new 0 next to end t0 t1 → Escapes mode slack (at + border) vectors asked src old new at (at + next) to end t0 t1
+    → Escapes mode slack border vectors asked text (state old 0 to t0) (state new next end t1) → Escapes mode slack (at + border) vectors asked src (state old at to t0) (state new (at + next) end t1)
 escapes-later {N} {mode} {slack} {border} {vectors} {asked} {old} {new} {next} {to} {end} {t0} {t1} src text at is inside given =
-    let e = subst (λ xs. Escapes mode slack border vectors asked xs old new 0 next to end t0 t1) is given in
+    let e = subst (λ xs. Escapes mode slack border vectors asked xs (state old 0 to t0) (state new next end t1)) is given in
     let p = e.passed in let u = ap (run_count mode) (drop-drop next at src) in
     record {
       stretch = stretch-later src at inside e.stretch;
@@ -175,7 +175,7 @@ alone-short mode n src at valid bits h short inside few p after before =
 pub vector-blocks : {N : ℕ} (mode : Mode) (slack : ℕ) (src : List ℕ) (old new : Target N) (at valid to end size : ℕ) (flags ticks_old ticks_new : ℕ) → IsVectorAt mode N slack src at valid to size (bits_of 64 flags) → AreShort mode N src at (bits_of 64 flags)
     → N ≤ 64 → 16 ≤ slack → (valid + 7) / 8 ≤ flagged_blocks 8 (bits_of 64 flags) + gaps false (take valid (bits_of 64 flags)) + 1
     → Stretch mode 16 src old new at (at + valid) to end → stored_of new + flagged_blocks 8 (bits_of 64 flags) ≡ stored_of old + (valid + 7) / 8 → ticks_new ≡ ticks_old + ((valid + 7) / 8 - (flagged_blocks 8 (bits_of 64 flags) + 1))
-    → Escapes mode slack (at + valid) 1 1 src old new at (at + valid) to end ticks_old ticks_new
+    → Escapes mode slack (at + valid) 1 1 src (state old at to ticks_old) (state new (at + valid) end ticks_new)
 vector-blocks {N} mode slack src old new at valid to end size flags ticks_old ticks_new v short narrow far paid s stored ticks =
     let bits = bits_of 64 flags in
     let told : (k : ℕ) → k < valid → get_or bits k false ≡ needs_escape mode (get_or src (at + k) 0) = told-held mode src at valid bits v.flags in

@@ -67,12 +67,21 @@ pub record Passed (mode : Mode) (src : List ℕ) (border next : ℕ) : Type 0 wh
   pub exact : IsByteWise mode → next ≡ border
   pub clean : (p : ℕ) → border ≤ p → p < next → needs_escape mode (slice_index src p) ≡ false
 
--- Text from `at` up to `next` was escaped to a target from `to` up to `end`, at this cost: all bytes before `border`, and what of
--- a separator goes past it.
-pub record Escapes {N : ℕ} (mode : Mode) (slack border vectors asked : ℕ) (src : List ℕ) (old new : Target N) (at next to end ticks_old ticks_new : ℕ) : Type 0 where
-  pub stretch : Stretch mode slack src old new at next to end
-  pub passed : Passed mode src border next
-  pub cost : Cost mode src at next vectors asked old new ticks_old ticks_new
+-- How far a text has come: to which target, up to which place of the text and of the target, and after so many classifications
+pub record State (N : ℕ) : Type 0 where
+  pub target : Target N
+  pub at : ℕ
+  pub to : ℕ
+  pub ticks : ℕ
+
+abbrev pub state : {N : ℕ} → Target N → ℕ → ℕ → ℕ → State N
+state target at to ticks = record { target = target; at = at; to = to; ticks = ticks }
+
+-- Text was escaped from one state to another, at this cost: all bytes before `border`, and what of a separator goes past it.
+pub record Escapes {N : ℕ} (mode : Mode) (slack border vectors asked : ℕ) (src : List ℕ) (old new : State N) : Type 0 where
+  pub stretch : Stretch mode slack src old.target new.target old.at new.at old.to new.to
+  pub passed : Passed mode src border new.at
+  pub cost : Cost mode src old.at new.at vectors asked old.target new.target old.ticks new.ticks
 
 -- a byte of the text that needs an escape
 pub record IsFlaggedAt (mode : Mode) (src : List ℕ) (at : ℕ) : Type 0 where
@@ -120,12 +129,12 @@ pub record IsVectorEnd (mode : Mode) (N slack : ℕ) (src : List ℕ) (border fr
   pub over : border ≤ from → Passed mode src border from
   pub room : from < border → to + 6 * (border - from) + slack ≤ size
 
--- These were passed, after a run of escapes that ended at `from`.
-pub record IsFinished {N : ℕ} (mode : Mode) (slack : ℕ) (src : List ℕ) (old new : Target N) (border from next to end ticks_old ticks_new : ℕ) : Type 0 where
-  pub stretch : Stretch mode slack src old new from next to end
-  pub passed : Passed mode src border next
-  pub stored : stored_of new + run_count mode (drop next src) ≤ stored_of old + run_count_after mode true (drop from src) + 1
-  pub classified : ticks_new + stored_of old ≡ ticks_old + stored_of new
+-- These were passed, after a run of escapes.
+pub record IsFinished {N : ℕ} (mode : Mode) (slack : ℕ) (src : List ℕ) (border : ℕ) (old new : State N) : Type 0 where
+  pub stretch : Stretch mode slack src old.target new.target old.at new.at old.to new.to
+  pub passed : Passed mode src border new.at
+  pub stored : stored_of new.target + run_count mode (drop new.at src) ≤ stored_of old.target + run_count_after mode true (drop old.at src) + 1
+  pub classified : new.ticks + stored_of old.target ≡ old.ticks + stored_of new.target
 
 -- Vectors of a text from `at` on are there, and one more behind them. There is room for what their bytes from `from` on become,
 -- and for a vector.

@@ -4,7 +4,7 @@ ghost use Rattle.escape_lanes.specs.Written.{bytes_of};
 ghost use Rattle.escape_simd.specs.Modes.{mode_numbered};
 ghost use Rattle.escape_simd.specs.Formatted.{IsInnerAt};
 ghost use Rattle.escape_simd.specs.Parts.{IsPartAt};
-ghost use Rattle.escape_simd.specs.Stretch.{Escapes, HasVectors, reach};
+ghost use Rattle.escape_simd.specs.Stretch.{Escapes, HasVectors, reach, state};
 
 use crate::simd::Vector;
 use crate::simd::chunk::{chunk, whole_vector};
@@ -20,7 +20,7 @@ pub(crate) fn escape_bytes<V: Vector<N>, const MODE: u8, const N: usize>(
     ticks: &mut Ticks,
 ) -> usize
     requires { to + 6 * length src.now + 32 ≤ length (bytes_of target.old) }
-    ensures { Escapes (mode_numbered MODE) (reach true N) (length src.now) (length src.now / N + 1) 0 src.now target.old target.new 0 (length src.now) to result ticks.old ticks.new }
+    ensures { Escapes (mode_numbered MODE) (reach true N) (length src.now) (length src.now / N + 1) 0 src.now (state target.old 0 to ticks.old) (state target.new (length src.now) result ticks.new) }
 {
     let mut at = 0;
     let mut end = to;

@@ -5,7 +5,7 @@ ghost use Rattle.escape_lanes.specs.Spread.{flagged_blocks};
 ghost use Rattle.escape_lanes.specs.Classified.{asked_of, IsWithin};
 ghost use Rattle.escape_lanes.specs.Written.{bytes_of};
 ghost use Rattle.escape_simd.specs.Modes.{mode_numbered};
-ghost use Rattle.escape_simd.specs.Stretch.{Escapes, IsByteWise, IsVectorAt, reach};
+ghost use Rattle.escape_simd.specs.Stretch.{Escapes, IsByteWise, IsVectorAt, reach, state};
 
 use crate::simd::store::store;
 use crate::simd::turns::escape_by_turns;
@@ -32,7 +32,7 @@ pub(crate) fn escape_by_mask<V: Vector<N>, const MODE: u8, const N: usize, const
 ) -> (usize, usize)
     requires classified { IsWithin (take valid (drop at src.now)) (asked_of classified) }
     requires vector { IsVectorAt (mode_numbered MODE) N (reach LAST N) src.now at valid to (length (bytes_of target.old)) (bits_of 64 mask) }
-    ensures { Escapes (mode_numbered MODE) (reach LAST N) (at + valid) 1 1 src.now target.old target.new at result.0 to result.1 ticks.old ticks.new }
+    ensures { Escapes (mode_numbered MODE) (reach LAST N) (at + valid) 1 1 src.now (state target.old at to ticks.old) (state target.new result.0 result.1 ticks.new) }
 {
     if mask.all_zero() {
         store::<V, N, LAST>(src, at, valid, classified, target, to);

@@ -5,7 +5,7 @@ ghost use Rattle.escape_lanes.specs.Replacement.{needs_escape};
 ghost use Rattle.escape_lanes.specs.Classified.{asked_of};
 ghost use Rattle.escape_lanes.specs.Written.{bytes_of};
 ghost use Rattle.escape_simd.specs.Modes.{mode_numbered};
-ghost use Rattle.escape_simd.specs.Stretch.{Escapes, HasVectors, HoldsFlags, Passed};
+ghost use Rattle.escape_simd.specs.Stretch.{Escapes, HasVectors, HoldsFlags, Passed, state};
 
 use crate::simd::Vector;
 use crate::simd::by_mask::escape_by_mask;
@@ -39,7 +39,7 @@ pub(crate) fn whole_vector<V: Vector<N>, const MODE: u8, const N: usize>(
     ticks: &mut Ticks,
 ) -> (usize, usize)
     requires { HasVectors N 1 src.now at at to (length (bytes_of target.old)) }
-    ensures { Escapes (mode_numbered MODE) N (at + N) 1 0 src.now target.old target.new at result.0 to result.1 ticks.old ticks.new }
+    ensures { Escapes (mode_numbered MODE) N (at + N) 1 0 src.now (state target.old at to ticks.old) (state target.new result.0 result.1 ticks.new) }
 {
     let (flags, classified) = classify::<V, MODE, N>(src, at, ticks);
     escape_by_mask::<V, MODE, N, false>(src, at, N, flags.bits(), classified, target, to, ticks)
@@ -62,7 +62,7 @@ fn vector_from<V: Vector<N>, const MODE: u8, const N: usize>(
     requires flagged { HoldsFlags (mode_numbered MODE) src.now at N at (bits_of 64 mask) }
     requires passed { Passed (mode_numbered MODE) src.now at from }
     requires room { HasVectors N 1 src.now at from to (length (bytes_of target.old)) }
-    ensures { Escapes (mode_numbered MODE) N (at + N) 1 1 src.now target.old target.new from result.0 to result.1 ticks.old ticks.new }
+    ensures { Escapes (mode_numbered MODE) N (at + N) 1 1 src.now (state target.old from to ticks.old) (state target.new result.0 result.1 ticks.new) }
 {
     let passed = from - at;
     let left = shift_lanes(mask, passed);
@@ -80,7 +80,7 @@ pub(crate) fn chunk<V: Vector<N>, const MODE: u8, const N: usize>(
     ticks: &mut Ticks,
 ) -> (usize, usize)
     requires { HasVectors N 4 src.now at at to (length (bytes_of target.old)) }
-    ensures { Escapes (mode_numbered MODE) N (at + 4 * N) 4 0 src.now target.old target.new at result.0 to result.1 ticks.old ticks.new }
+    ensures { Escapes (mode_numbered MODE) N (at + 4 * N) 4 0 src.now (state target.old at to ticks.old) (state target.new result.0 result.1 ticks.new) }
 {
     let (second, third, fourth) = (at + N, at + 2 * N, at + 3 * N);
     let (v1, v2) = (load::<V, N>(src, at), load::<V, N>(src, second));

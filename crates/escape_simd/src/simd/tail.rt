@@ -6,7 +6,7 @@ ghost use Rattle.escape_lanes.specs.Classified.{asked_of};
 ghost use Rattle.escape_lanes.specs.Written.{bytes_of};
 ghost use Rattle.escape_simd.specs.Formatted.{IsInnerAt};
 ghost use Rattle.escape_simd.specs.Modes.{mode_numbered};
-ghost use Rattle.escape_simd.specs.Stretch.{AreTail, Escapes, HasTail, HoldsFlags, reach};
+ghost use Rattle.escape_simd.specs.Stretch.{AreTail, Escapes, HasTail, HoldsFlags, reach, state};
 
 use crate::simd::Vector;
 use crate::simd::by_mask::escape_by_mask;
@@ -116,7 +116,7 @@ fn escape_before_last<V: Vector<N>, const MODE: u8, const N: usize>(
     requires flagged { N ≤ length text.now → HoldsFlags (mode_numbered MODE) text.now 0 N 0 (bits_of 64 first) }
     requires classified { N ≤ length text.now → asked_of classified ≡ take N text.now }
     requires room { to + 6 * length text.now + reach true N ≤ length (bytes_of target.old) }
-    ensures { Escapes (mode_numbered MODE) (reach true N) (length text.now - N) (length text.now / N) (length text.now / N) text.now target.old target.new 0 result.0 to result.1 ticks.old ticks.new }
+    ensures { Escapes (mode_numbered MODE) (reach true N) (length text.now - N) (length text.now / N) (length text.now / N) text.now (state target.old 0 to ticks.old) (state target.new result.0 result.1 ticks.new) }
 {
     if text.len() < N {
         return (0, to);
@@ -137,7 +137,7 @@ pub(crate) fn escape_flagged_tail<V: Vector<N>, const MODE: u8, const N: usize>(
 ) -> usize
     requires flagged { AreTail (mode_numbered MODE) N text.now (bits_of 64 flags.first) (bits_of 64 flags.last) (asked_of flags.first_classified) (asked_of flags.last_classified) }
     requires room { to + 6 * length text.now + reach true N ≤ length (bytes_of target.old) }
-    ensures { Escapes (mode_numbered MODE) (reach true N) (length text.now) (length text.now / N + 1) (length text.now / N + 1) text.now target.old target.new 0 (length text.now) to result ticks.old ticks.new }
+    ensures { Escapes (mode_numbered MODE) (reach true N) (length text.now) (length text.now / N + 1) (length text.now / N + 1) text.now (state target.old 0 to ticks.old) (state target.new (length text.now) result ticks.new) }
 {
     let (next, end) = escape_before_last::<V, MODE, N>(
         text,
@@ -174,7 +174,7 @@ pub(crate) fn store_clean_tail<'a, V: Vector<N>, const MODE: u8, const N: usize>
     ticks: &mut Ticks,
 ) -> Result<usize, TailFlags<'a>>
     requires { HasTail N src.now at to (length (bytes_of target.old)) }
-    ensures clean { IfOk result (λ end. Escapes (mode_numbered MODE) (reach true N) (length src.now) ((length src.now - at) / N + 1) 0 src.now target.old target.new at (length src.now) to end ticks.old ticks.new) }
+    ensures clean { IfOk result (λ end. Escapes (mode_numbered MODE) (reach true N) (length src.now) ((length src.now - at) / N + 1) 0 src.now (state target.old at to ticks.old) (state target.new (length src.now) end ticks.new)) }
     ensures flagged { IfErr result (λ flags. AreTail (mode_numbered MODE) N (drop at src.now) (bits_of 64 flags.first) (bits_of 64 flags.last) (asked_of flags.first_classified) (asked_of flags.last_classified)) }
     ensures unchanged { OnErr result (target.new ≡ target.old) }
     ensures ticks { OnErr result (ticks.new ≡ ticks.old + ((length src.now - at) / N + 1)) }
@@ -216,7 +216,7 @@ pub(crate) fn escape_tail<V: Vector<N>, const MODE: u8, const N: usize>(
     ticks: &mut Ticks,
 ) -> usize
     requires { HasTail N src.now at to (length (bytes_of target.old)) }
-    ensures { Escapes (mode_numbered MODE) (reach true N) (length src.now) ((length src.now - at) / N + 1) 0 src.now target.old target.new at (length src.now) to result ticks.old ticks.new }
+    ensures { Escapes (mode_numbered MODE) (reach true N) (length src.now) ((length src.now - at) / N + 1) 0 src.now (state target.old at to ticks.old) (state target.new (length src.now) result ticks.new) }
 {
     match store_clean_tail::<V, MODE, N>(src, at, target, to, ticks) {
         Ok(end) => end,

@@ -4,7 +4,7 @@ ghost use Rattle.escape_lanes.specs.Bits.{bits_of, none_set};
 ghost use Rattle.escape_lanes.specs.Classified.{asked_of, IsWithin, Tells};
 ghost use Rattle.escape_lanes.specs.Written.{bytes_of};
 ghost use Rattle.escape_simd.specs.Modes.{mode_numbered};
-ghost use Rattle.escape_simd.specs.Stretch.{CanStore, Escapes, IsFinished, IsStored, IsVectorAt, IsVectorEnd, reach};
+ghost use Rattle.escape_simd.specs.Stretch.{CanStore, Escapes, IsFinished, IsStored, IsVectorAt, IsVectorEnd, reach, state};
 
 use crate::simd::Vector;
 use crate::simd::store::store;
@@ -50,7 +50,7 @@ fn finish_vector<V: Vector<N>, const MODE: u8, const N: usize, const LAST: bool>
 ) -> (usize, usize)
     requires told { Tells (mode_numbered MODE) src.now (bits_of 64 mask) from border }
     requires end { IsVectorEnd (mode_numbered MODE) N (reach LAST N) src.now border from to (length (bytes_of target.old)) }
-    ensures { IsFinished (mode_numbered MODE) (reach LAST N) src.now target.old target.new border from result.0 to result.1 ticks.old ticks.new }
+    ensures { IsFinished (mode_numbered MODE) (reach LAST N) src.now border (state target.old from to ticks.old) (state target.new result.0 result.1 ticks.new) }
 {
     if border <= from {
         return (from, to);
@@ -78,7 +78,7 @@ pub(crate) fn escape_by_turns<V: Vector<N>, const MODE: u8, const N: usize, cons
     requires classified { IsWithin (take valid text.now) (asked_of classified) }
     requires vector { IsVectorAt (mode_numbered MODE) N (reach LAST N) text.now 0 valid to (length (bytes_of target.old)) (bits_of 64 mask) }
     requires some { none_set (bits_of 64 mask) ≡ false }
-    ensures { Escapes (mode_numbered MODE) (reach LAST N) valid 1 1 text.now target.old target.new 0 result.0 to result.1 ticks.old ticks.new }
+    ensures { Escapes (mode_numbered MODE) (reach LAST N) valid 1 1 text.now (state target.old 0 to ticks.old) (state target.new result.0 result.1 ticks.new) }
 {
     store::<V, N, LAST>(text, 0, valid, classified, target, to);
     let mut left = mask;

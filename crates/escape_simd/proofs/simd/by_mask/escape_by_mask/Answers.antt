@@ -1,4 +1,4 @@
-use Rattle.escape_simd.proofs.Words.{◌≡◌, ◌≤◌, ◌+◌, ◌-◌, ◌∙◌, ℕ, not, nat_eq, List, length, length-drop, take, drop, sym, subst, arith, take_all, bits_of, bytes_of, mode_numbered, asked_of, Escapes, IsWithin, reach}
+use Rattle.escape_simd.proofs.Words.{◌≡◌, ◌≤◌, ◌+◌, ◌-◌, ◌∙◌, ℕ, not, nat_eq, List, length, length-drop, take, drop, sym, subst, arith, take_all, bits_of, bytes_of, mode_numbered, asked_of, Escapes, IsWithin, reach, state}
 use denote.Param.{number, value_of}
 use Rattle.escape_simd.proofs.Lanes.{held-none}
 use Rattle.escape_simd.proofs.Stretches.{reach-bounds}
@@ -27,5 +27,5 @@ pub returns : goal.returns
 returns g c =
     let mode = mode_numbered g.row.MODE in let src : List ℕ = c.args.src.now in let at : ℕ = c.args.at in let v = c.requires.vector in
     let is = take_all (length src - at) (drop at src) (omega (arith, length-drop at src)) in
-    subst (λ k. Escapes mode (reach (not (nat_eq (value_of (number g.row.LAST)) 0)) g.row.N) (at + c.args.valid) 1 1 src c.args.target.now c.escape_by_turns-passed.new.target at k c.args.to c.escape_by_turns-passed.result.1 c.args.ticks.now c.escape_by_turns-passed.new.ticks) (sym c.past_border.ensures)
+    subst (λ k. Escapes mode (reach (not (nat_eq (value_of (number g.row.LAST)) 0)) g.row.N) (at + c.args.valid) 1 1 src (state c.args.target.now at c.args.to c.args.ticks.now) (state c.escape_by_turns-passed.new.target k c.escape_by_turns-passed.result.1 c.escape_by_turns-passed.new.ticks)) (sym c.past_border.ensures)
     (escapes-later src (take (length src - at) (drop at src)) at is (omega (arith, v.inside)) c.escape_by_turns-passed.ensures)

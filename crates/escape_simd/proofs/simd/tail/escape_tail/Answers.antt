@@ -1,4 +1,4 @@
-use Rattle.escape_simd.proofs.Words.{◌≡◌, ◌+◌, ◌-◌, ◌/◌, ◌∙◌, true, ℕ, List, length, length-drop, take, drop, refl, ap, subst, arith, take_all, mode_numbered, Escapes, reach}
+use Rattle.escape_simd.proofs.Words.{◌≡◌, ◌+◌, ◌-◌, ◌/◌, ◌∙◌, true, ℕ, List, length, length-drop, take, drop, refl, ap, subst, arith, take_all, mode_numbered, Escapes, reach, state}
 use Rattle.escape_simd.proofs.Last.{rest-escaped}
 use Rattle.escape_simd.proofs.simd.tail.escape_tail.Goals as goal
 
@@ -8,6 +8,6 @@ returns-in-Err g c =
     let text : List ℕ = take (length src - at) (drop at src) in let count = length-drop at src in
     let is : text ≡ drop at src = take_all (length src - at) (drop at src) (omega (arith, count)) in
     let asked = c.in-Err.ensures in
-    let e = subst (λ v. Escapes mode (reach true n) (length text) v v text c.store_clean_tail.new.target c.escape_flagged_tail.new.target 0 (length text) c.args.to c.escape_flagged_tail.result c.store_clean_tail.new.ticks c.escape_flagged_tail.new.ticks) (ap (λ k. k / n + 1) (ap length is ∙ count)) c.escape_flagged_tail.ensures in
-    let f = subst (λ t. Escapes mode (reach true n) (length text) ((length src - at) / n + 1) ((length src - at) / n + 1) text t c.escape_flagged_tail.new.target 0 (length text) c.args.to c.escape_flagged_tail.result c.store_clean_tail.new.ticks c.escape_flagged_tail.new.ticks) asked.unchanged e in
+    let e = subst (λ v. Escapes mode (reach true n) (length text) v v text (state c.store_clean_tail.new.target 0 c.args.to c.store_clean_tail.new.ticks) (state c.escape_flagged_tail.new.target (length text) c.escape_flagged_tail.result c.escape_flagged_tail.new.ticks)) (ap (λ k. k / n + 1) (ap length is ∙ count)) c.escape_flagged_tail.ensures in
+    let f = subst (λ t. Escapes mode (reach true n) (length text) ((length src - at) / n + 1) ((length src - at) / n + 1) text (state t 0 c.args.to c.store_clean_tail.new.ticks) (state c.escape_flagged_tail.new.target (length text) c.escape_flagged_tail.result c.escape_flagged_tail.new.ticks)) asked.unchanged e in
     rest-escaped src text at n c.args.ticks.now is r.inside refl asked.ticks f

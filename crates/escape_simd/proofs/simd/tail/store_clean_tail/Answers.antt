@@ -1,5 +1,5 @@
 use Rattle.std.proofs.Common.{◌≡◌, ◌≤◌, ◌<◌, ◌+◌, ◌-◌, ◌/◌, ◌∙◌, true, List, ℕ, length, length-drop, take, drop, ap, sym, subst, arith}
-use Rattle.escape_simd.proofs.Words.{get_or-drop, take_all, mode_numbered, Escapes, reach}
+use Rattle.escape_simd.proofs.Words.{get_or-drop, take_all, mode_numbered, Escapes, reach, state}
 use Rattle.escape_simd.proofs.Lanes.{CleanFrom}
 use Rattle.escape_simd.proofs.Last.{one-begun, rest-escaped, tail-clean_back, tail-clean_front, two-begun, two-clean}
 use Rattle.escape_simd.proofs.Vectors.{escapes-asked, escapes-ended, vector-clean}
@@ -25,4 +25,4 @@ returns-clause-clean g c =
     let clean1 = tail-clean_front src at r.inside flags some none.0 in
     let clean2 = subst (λ k. CleanFrom mode src k (length src)) last (tail-clean_back src at r.inside flags none.1) in
     let e = two-clean mode (reach true n) n src c.args.target.now c.store.new.target c.store-2.new.target at c.args.to t (omega (arith, some, r.inside)) r.few clean1 clean2 c.store.ensures c.store-2.ensures in
-    subst (λ v. Escapes mode (reach true n) (length src) v 0 src c.args.target.now c.store-2.new.target at (length src) c.args.to (c.args.to + (length src - at)) c.args.ticks.now t) (two-begun n (length src - at) some (omega (arith, r.few))) (escapes-asked c.args.ticks.now 2 c.classify_pair-flags.ensures.ticks e)
+    subst (λ v. Escapes mode (reach true n) (length src) v 0 src (state c.args.target.now at c.args.to c.args.ticks.now) (state c.store-2.new.target (length src) (c.args.to + (length src - at)) t)) (two-begun n (length src - at) some (omega (arith, r.few))) (escapes-asked c.args.ticks.now 2 c.classify_pair-flags.ensures.ticks e)

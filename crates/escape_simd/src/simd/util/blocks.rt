@@ -31,14 +31,9 @@ pub(crate) fn are_paid(flags: u64, valid: usize) -> bool
     if clear_first_lane(flags).all_zero() {
         return false;
     }
-    // Up to 16 bytes take two blocks, one of which has an escape.
-    if valid <= 16 {
-        return true;
-    }
     let blocks = (valid + 7) / 8;
-    let paid = count_flagged_blocks(flags) + 1;
-    // The runs that end are counted only if they decide.
-    blocks <= paid || blocks <= paid + count_gaps(flags, valid)
+    // One block at least has an escape, so where runs end the blocks need not be counted.
+    blocks <= count_gaps(flags, valid) + 2 || blocks <= count_flagged_blocks(flags) + 1
 }
 
 /// Returns whether what stands for each flagged byte of the text's vector at `at` is two bytes.

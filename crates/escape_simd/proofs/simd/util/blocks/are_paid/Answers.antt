@@ -10,16 +10,16 @@ use Rattle.escape_simd.proofs.simd.util.blocks.are_paid.Goals as goal
 first-lt : (f : ℕ) → none_set (bits_of 64 f) ≡ false → first_set (bits_of 64 f) < 64
 first-lt f some = let here = first_set-here (bits_of 64 f) some in let l = length-bits_of 64 f in grind (arith, get_or_past, here, l)
 
-pub overflow_add-paid : goal.overflow_add-paid
-overflow_add-paid c = record { fits = omega (arith, c.count_flagged_blocks-paid.ensures, blocks-most 8 (bits_of 64 c.args.flags)) }
+pub overflow_add-count_gaps : goal.overflow_add-count_gaps
+overflow_add-count_gaps c =
+    let bits = bits_of 64 c.args.flags in let long = length-take-le c.args.valid bits (omega (arith, c.requires.few, length-bits_of 64 c.args.flags)) in
+    record { fits = omega (arith, c.count_gaps.ensures, gaps-most false (take c.args.valid bits), long, c.requires.few) }
 
 pub overflow_add-result : goal.overflow_add-result
-overflow_add-result c =
-    let bits = bits_of 64 c.args.flags in let long = length-take-le c.args.valid bits (omega (arith, c.requires.few, length-bits_of 64 c.args.flags)) in
-    record { fits = omega (arith, c.count_flagged_blocks-paid.ensures, blocks-most 8 bits, c.count_gaps.ensures, gaps-most false (take c.args.valid bits), long, c.requires.few) }
+overflow_add-result c = record { fits = omega (arith, c.count_flagged_blocks.ensures, blocks-most 8 (bits_of 64 c.args.flags)) }
 
-pub returns-then-valid-le16 : goal.returns-then-valid-le16
-returns-then-valid-le16 c =
+pub returns-then-blocks-count_gaps : goal.returns-then-blocks-count_gaps
+returns-then-blocks-count_gaps c =
     let bits = bits_of 64 c.args.flags in
     let some = blocks-some 8 (first_set bits) bits (first-lt c.args.flags c.requires.some) (first_set-here bits c.requires.some) in
-    omega (arith, c.if-valid-le16.true, some)
+    λ paid. omega (arith, c.if-blocks-count_gaps.true, c.count_gaps.ensures, some)

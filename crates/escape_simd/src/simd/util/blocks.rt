@@ -9,17 +9,14 @@ ghost use Rattle.escape_simd.specs.Modes.{mode_numbered};
 ghost use Rattle.escape_simd.specs.Stretch.{AreShort, HasBlocks, Stretch};
 
 use crate::simd::HTML_MODE;
-use escape_lanes::simd::BitMask;
 use escape_lanes::simd::classify::{Classified, classify_by_mask};
-use escape_lanes::simd::lane_bits::{
-    clear_first_lane, count_flagged_blocks, count_gaps, eight_lanes, is_flagged,
-};
+use escape_lanes::simd::lane_bits::{count_flagged_blocks, count_gaps, eight_lanes, is_flagged};
 use escape_lanes::simd::short::{half, has_long, shorten_vector};
 use escape_lanes::simd::target::{Target, Ticks};
 use std::simd::prelude::*;
 
-/// Returns whether a vector's first `valid` bytes have several flags, and their blocks of eight count as no more stored
-/// vectors than its turns would. A block without an escape counts as one. The vector itself pays for one of them, and each
+/// Returns whether the blocks of eight that a vector's first `valid` bytes take count as no more stored vectors than its
+/// turns would. A block without an escape counts as one. The vector itself pays for one of them, and each
 /// run that ends in it for another one.
 #[inline(always)]
 pub(crate) fn are_paid(flags: u64, valid: usize) -> bool
@@ -27,10 +24,6 @@ pub(crate) fn are_paid(flags: u64, valid: usize) -> bool
     requires few { valid ≤ 64 }
     ensures { result ≡ true → (valid + 7) / 8 ≤ flagged_blocks 8 (bits_of 64 flags) + gaps false (take valid (bits_of 64 flags)) + 1 }
 {
-    // A single escape is faster by itself.
-    if clear_first_lane(flags).all_zero() {
-        return false;
-    }
     let blocks = (valid + 7) / 8;
     // One block at least has an escape, so where runs end the blocks need not be counted.
     blocks <= count_gaps(flags, valid) + 2 || blocks <= count_flagged_blocks(flags) + 1

@@ -52,7 +52,7 @@ add_counts() {
 # has COMMAND: whether it is there.
 has() { command -v "$1" >/dev/null; }
 
-# set_crates [NAME]: sets crates to that crate and those that it stands on, or to all, lowest first. It starts no
+# set_crates [NAMES]: sets crates to these crates and those that they stand on, or to all, lowest first. It starts no
 # process.
 set_crates() {
   local lines line name number wanted=" ${1-} "

@@ -11,12 +11,12 @@ mod timing;
 
 use calls::each_call;
 use modes::{MODES, Mode};
-use per_byte::table_of;
 use std::env;
+use std::io::read_to_string;
 use std::test::Fail;
 use std::time::Clock;
-use texts::{CORPORA, Corpus, RANGES, pieces, text_of};
-use timing::{COLUMNS, Escaping, LONGEST, PASSES, ROOM, agree, best_of_rounds};
+use texts::{CORPORA, Corpus, RANGES, lines, pieces, text_of};
+use timing::{COLUMNS, Escaping, LONGEST, ROOM, ROUND, agree, best_of_rounds};
 
 /// The bytes of the texts that are compared where nothing is measured.
 const ALWAYS_COMPARED: usize = 8192;
@@ -28,22 +28,39 @@ fn main(rt: HostRuntime) -> Result<(), Fail> {
     if is_word(&word, "calls") {
         return each_call(&rt);
     }
+    if is_word(&word, "lines") {
+        return measure_lines(&rt);
+    }
     let measures = is_word(&word, "measure");
     if measures {
-        println!(rt; "mode corpus   bytes       GB/s    {COLUMNS}")?;
+        println!(rt; "mode corpus   bytes          {COLUMNS}")?;
     }
     for corpus in CORPORA {
         each_mode(&rt, corpus, measures)?;
     }
     if !measures {
         println!(rt; "every kernel and call writes what the loop writes")?;
-        println!(rt; "usage: escape_bench measure|calls")?;
+        println!(rt; "usage: escape_bench measure|calls|lines")?;
     }
     Ok(())
 }
 
 fn is_word(word: &Option<String>, name: &str) -> bool {
     matches!(word, Some(word) if word.as_str() == name)
+}
+
+/// Measures all modes on the lines of standard input.
+fn measure_lines(rt: &(impl Clock + Print + Input + AllocGlobal)) -> Result<(), Fail> {
+    let input = read_to_string(rt.alloc(), rt.reader())?;
+    let texts = lines(rt.alloc(), &input)?;
+    let mut memory = vec![in rt.alloc(); 0u8; ROOM]?;
+    let dst = memory.as_mut_slice();
+    println!(rt; "GB/s\t    {COLUMNS}")?;
+    for mode in MODES {
+        print!(rt; "{mode:?}\t")?;
+        report(rt, &mut Escaping::new(rt.alloc(), mode), &texts, dst)?;
+    }
+    Ok(())
 }
 
 fn longest_of(measures: bool) -> usize
@@ -86,12 +103,7 @@ fn each_range(
     requires wanted_room { ROOM ≤ length wanted.old }
     requires room { ROOM ≤ length dst.old }
 {
-    let mut escaping = Escaping {
-        mode,
-        table: table_of(mode),
-        appended: Vec::new(rt.alloc()),
-        alloc: rt.alloc(),
-    };
+    let mut escaping = Escaping::new(rt.alloc(), mode);
     for range in RANGES {
         let texts = pieces(rt.alloc(), text, range)?;
         if !agree(&mut escaping, &texts, wanted, dst) {
@@ -116,7 +128,7 @@ fn copied_front<'a>(text: &str, len: usize, memory: &'a mut [u8]) -> Option<&'a 
     std::str::from_utf8(copied).ok()
 }
 
-/// Measures the ways, and prints the loop's speed and how many times as fast each is.
+/// Measures the ways, and prints the speed of each in gigabytes of text a second.
 fn report(
     rt: &(impl Clock + Print),
     escaping: &mut Escaping,
@@ -125,13 +137,11 @@ fn report(
 ) -> Result<(), Fail>
     requires { ROOM ≤ length dst.old }
 {
-    let best = best_of_rounds(rt, escaping, texts, dst)?;
     let bytes = u32::try_from(bytes_of(texts))?;
-    let gigabytes = bytes as f64 * PASSES as f64 / best[0] as f64;
-    print!(rt; " {gigabytes:>6.2}")?;
-    for nanos in best {
-        let of_loop = best[0] as f64 / nanos as f64;
-        print!(rt; " {of_loop:>7.2}")?;
+    let passes = 1 + ROUND / bytes.max(1);
+    for nanos in best_of_rounds(rt, passes, escaping, texts, dst)? {
+        let speed = bytes as f64 * passes as f64 / nanos as f64;
+        print!(rt; " {speed:>7.2}")?;
     }
     println!(rt)?;
     Ok(())

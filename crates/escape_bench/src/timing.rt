@@ -2,7 +2,7 @@
 ghost use Rattle.std.specs.Prelude.{◌≤◌, ◌+◌, ◌*◌, length};
 
 use crate::modes::{Mode, answer, append, format_string};
-use crate::per_byte::{Table, per_byte};
+use crate::per_byte::{Table, per_byte, table_of};
 use escape_simd::Kernel;
 use std::alloc::Global;
 use std::test::Fail;
@@ -42,8 +42,8 @@ pub const ROOM: usize = 6 * LONGEST + 35;
 
 const ROUNDS: usize = 50;
 
-/// How often the texts are escaped in a round by each way: a mebibyte together.
-pub const PASSES: usize = 16;
+/// How many bytes each way escapes in a round, at least.
+pub const ROUND: u32 = 1 << 20;
 
 /// A mode, with the table of the loop and what the calls need.
 #[derive(Drop)]
@@ -54,6 +54,17 @@ pub struct Escaping {
     pub appended: Vec<u8>,
     /// Where the answering call takes its memory.
     pub alloc: Global,
+}
+
+impl Escaping {
+    pub fn new(alloc: Global, mode: Mode) -> Escaping {
+        Escaping {
+            mode,
+            table: table_of(mode),
+            appended: Vec::new(alloc),
+            alloc,
+        }
+    }
 }
 
 /// Whether the kernels and the calls write the same bytes as the loop for each text.
@@ -84,9 +95,10 @@ pub fn agree(escaping: &mut Escaping, texts: &[&str], wanted: &mut [u8], dst: &m
     true
 }
 
-/// The nanoseconds that the texts take in the best round, for each way.
+/// The nanoseconds that so many passes over the texts take in the best round, for each way.
 pub fn best_of_rounds(
     rt: &impl Clock,
+    passes: u32,
     escaping: &mut Escaping,
     texts: &[&str],
     dst: &mut [u8],
@@ -97,7 +109,7 @@ pub fn best_of_rounds(
     for _ in 0..ROUNDS {
         for (place, way) in WAYS.iter().enumerate() {
             let start = Instant::now(rt)?;
-            for _ in 0..PASSES {
+            for _ in 0..passes {
                 pass(*way, escaping, texts, dst);
             }
             let nanos = u32::try_from(start.elapsed(rt)?.as_nanos())?;

@@ -23,10 +23,9 @@ use crate::simd::{HTML_MODE, JSON_MODE, SCRIPT_MODE, avx2, avx512, neon, sse2, v
 /// The bytes of `dst` from that index on are unchanged, and so are those that are a vector (16, 32 or 64 bytes) or more
 /// past the end of the output. The bytes between may have changed. All kernels write the same output.
 ///
-/// ```text
+/// ```rust
 /// let mut dst = [0; 38];
-/// format_text(Kernel::Avx2, Mode::Html, "<", &mut dst) == 4
-/// dst.starts_with(b"&lt;")
+/// let len = format_text(Kernel::Avx2, Mode::Html, "<", &mut dst); // 4
 /// ```
 #[inline(always)]
 pub fn format_text(kernel: Kernel, mode: Mode, value: &str, dst: &mut [u8]) -> usize
@@ -53,10 +52,9 @@ pub fn format_text(kernel: Kernel, mode: Mode, value: &str, dst: &mut [u8]) -> u
 /// are unchanged, and so are those that are a vector (16, 32 or 64 bytes) or more past the end of the output. The bytes
 /// between may have changed. All kernels write the same output.
 ///
-/// ```text
+/// ```rust
 /// let mut dst = [0; 38];
-/// format_inner(Kernel::Avx2, Mode::Json, "\"", &mut dst) == 2
-/// dst.starts_with(b"\\\"")
+/// let len = format_inner(Kernel::Avx2, Mode::Json, "\"", &mut dst); // 2
 /// ```
 #[inline(always)]
 pub fn format_inner(kernel: Kernel, mode: Mode, value: &str, dst: &mut [u8]) -> usize
@@ -81,10 +79,9 @@ pub fn format_inner(kernel: Kernel, mode: Mode, value: &str, dst: &mut [u8]) -> 
 /// so are those that are a vector (16, 32 or 64 bytes) or more past the end of the literal. The bytes between may
 /// have changed. All kernels write the same literal.
 ///
-/// ```text
+/// ```rust
 /// let mut dst = [0; 41];
-/// format_json_string(Kernel::Avx2, "x", &mut dst) == 3
-/// dst.starts_with(b"\"x\"")
+/// let len = format_json_string(Kernel::Avx2, "x", &mut dst); // 3
 /// ```
 pub fn format_json_string(kernel: Kernel, value: &str, dst: &mut [u8]) -> usize
     requires has_room { bound json (length value.now) ≤ length dst.old }
@@ -99,9 +96,9 @@ pub fn format_json_string(kernel: Kernel, value: &str, dst: &mut [u8]) -> usize
 ///
 /// For a text of `n` bytes, `dst` must have at least `6 * n + 35` bytes.
 ///
-/// ```text
+/// ```rust
 /// let mut dst = [0; 41];
-/// format_json_str(Kernel::Avx2, "<", &mut dst) == "\"<\""
+/// let literal = format_json_str(Kernel::Avx2, "<", &mut dst); // "<"
 /// ```
 pub fn format_json_str<'a>(kernel: Kernel, value: &str, dst: &'a mut [u8]) -> &'a str
     requires has_room { bound json (length value.now) ≤ length dst.old }
@@ -120,10 +117,9 @@ pub fn format_json_str<'a>(kernel: Kernel, value: &str, dst: &'a mut [u8]) -> &'
 /// so are those that are a vector (16, 32 or 64 bytes) or more past the end of the output. The bytes between may have
 /// changed. All kernels write the same output.
 ///
-/// ```text
+/// ```rust
 /// let mut dst = [0; 38];
-/// format_html_string(Kernel::Avx2, "<", &mut dst) == 4
-/// dst.starts_with(b"&lt;")
+/// let len = format_html_string(Kernel::Avx2, "<", &mut dst); // 4
 /// ```
 pub fn format_html_string(kernel: Kernel, value: &str, dst: &mut [u8]) -> usize
     requires has_room { bound html (length value.now) ≤ length dst.old }
@@ -138,9 +134,9 @@ pub fn format_html_string(kernel: Kernel, value: &str, dst: &mut [u8]) -> usize
 ///
 /// For a text of `n` bytes, `dst` must have at least `6 * n + 32` bytes.
 ///
-/// ```text
+/// ```rust
 /// let mut dst = [0; 38];
-/// format_html_str(Kernel::Avx2, "<", &mut dst) == "&lt;"
+/// let text = format_html_str(Kernel::Avx2, "<", &mut dst); // &lt;
 /// ```
 pub fn format_html_str<'a>(kernel: Kernel, value: &str, dst: &'a mut [u8]) -> &'a str
     requires has_room { bound html (length value.now) ≤ length dst.old }
@@ -160,10 +156,9 @@ pub fn format_html_str<'a>(kernel: Kernel, value: &str, dst: &'a mut [u8]) -> &'
 /// so are those that are a vector (16, 32 or 64 bytes) or more past the end of the literal. The bytes between may
 /// have changed. All kernels write the same literal.
 ///
-/// ```text
+/// ```rust
 /// let mut dst = [0; 41];
-/// format_script_string(Kernel::Avx2, "<", &mut dst) == 8
-/// dst.starts_with(b"\"\\u003c\"")
+/// let len = format_script_string(Kernel::Avx2, "<", &mut dst); // 8
 /// ```
 pub fn format_script_string(kernel: Kernel, value: &str, dst: &mut [u8]) -> usize
     requires has_room { bound script (length value.now) ≤ length dst.old }
@@ -178,9 +173,9 @@ pub fn format_script_string(kernel: Kernel, value: &str, dst: &mut [u8]) -> usiz
 ///
 /// For a text of `n` bytes, `dst` must have at least `6 * n + 35` bytes.
 ///
-/// ```text
+/// ```rust
 /// let mut dst = [0; 41];
-/// format_script_str(Kernel::Avx2, "<", &mut dst) == "\"\\u003c\""
+/// let literal = format_script_str(Kernel::Avx2, "<", &mut dst); // "\u003c"
 /// ```
 pub fn format_script_str<'a>(kernel: Kernel, value: &str, dst: &'a mut [u8]) -> &'a str
     requires has_room { bound script (length value.now) ≤ length dst.old }
@@ -202,10 +197,9 @@ pub fn format_script_str<'a>(kernel: Kernel, value: &str, dst: &'a mut [u8]) -> 
 /// unchanged, and so are those that are a vector (16, 32 or 64 bytes) or more past the end of the output. The bytes
 /// between may have changed. All kernels write the same output.
 ///
-/// ```text
+/// ```rust
 /// let mut dst = [0; 38];
-/// format_json_inner(Kernel::Avx2, "\"", &mut dst) == 2
-/// dst.starts_with(b"\\\"")
+/// let len = format_json_inner(Kernel::Avx2, "\"", &mut dst); // 2
 /// ```
 pub fn format_json_inner(kernel: Kernel, value: &str, dst: &mut [u8]) -> usize
     requires has_room { 6 * length value.now + 32 ≤ length dst.old }
@@ -227,10 +221,9 @@ pub fn format_json_inner(kernel: Kernel, value: &str, dst: &mut [u8]) -> usize
 /// unchanged, and so are those that are a vector (16, 32 or 64 bytes) or more past the end of the output. The bytes
 /// between may have changed. All kernels write the same output.
 ///
-/// ```text
+/// ```rust
 /// let mut dst = [0; 38];
-/// format_script_inner(Kernel::Avx2, "<", &mut dst) == 6
-/// dst.starts_with(b"\\u003c")
+/// let len = format_script_inner(Kernel::Avx2, "<", &mut dst); // 6
 /// ```
 pub fn format_script_inner(kernel: Kernel, value: &str, dst: &mut [u8]) -> usize
     requires has_room { 6 * length value.now + 32 ≤ length dst.old }

@@ -21,9 +21,9 @@ use std::alloc::{Allocator, Global};
 /// For a text of `n` bytes, the slice of [`format_html_string`](crate::format_html_string) needs
 /// `CAPACITY_FACTOR * n + CAPACITY_SLACK` bytes. The two constants give the size of an array:
 ///
-/// ```text
-/// const ROOM: usize = CAPACITY_FACTOR * 80 + CAPACITY_SLACK;
-/// let mut dst = [0; ROOM]; // for a text of up to 80 bytes
+/// ```rust
+/// const ROOM: usize = html::CAPACITY_FACTOR * 80 + html::CAPACITY_SLACK;
+/// let mut dst = [0; ROOM];
 /// ```
 pub const CAPACITY_FACTOR: usize = 6;
 
@@ -36,8 +36,8 @@ pub const CAPACITY_SLACK: usize = 32;
 ///
 /// [`InputTooLarge`] if `6 * len + 32` exceeds `usize::MAX`.
 ///
-/// ```text
-/// html_capacity(10) == Ok(92)
+/// ```rust
+/// let capacity = html_capacity(10)?; // 92
 /// ```
 pub fn html_capacity(len: usize) -> Result<usize, InputTooLarge>
     ensures exact { IfOk result (λ capacity. capacity ≡ bound html len) }
@@ -59,8 +59,8 @@ pub fn html_capacity(len: usize) -> Result<usize, InputTooLarge>
 /// - [`EscapeHtmlError::TooLarge`]: `6 * n + 32` exceeds `usize::MAX`.
 /// - [`EscapeHtmlError::OutOfMemory`]: the allocator refused the memory, or the size exceeds `isize::MAX`.
 ///
-/// ```text
-/// escape_html(alloc, "<a href='/x'>")? == "&lt;a href=&#x27;&#x2f;x&#x27;&gt;"
+/// ```rust
+/// let text = escape_html(rt.alloc(), "<a href='/x'>")?; // &lt;a href=&#x27;&#x2f;x&#x27;&gt;
 /// ```
 pub fn escape_html(alloc: Global, value: &str) -> Result<String, EscapeHtmlError>
     ensures output { IfOk result (λ output. IsEscaping html value.now (string_bytes output)) }
@@ -78,8 +78,8 @@ pub fn escape_html(alloc: Global, value: &str) -> Result<String, EscapeHtmlError
 ///
 /// Those of [`escape_html`].
 ///
-/// ```text
-/// escape_html_in(&arena, "<")? == "&lt;"
+/// ```rust
+/// let text = escape_html_in(&arena, "<")?; // &lt;
 /// ```
 pub fn escape_html_in<A: Allocator>(alloc: A, value: &str) -> Result<String<A>, EscapeHtmlError>
     ensures output { IfOk result (λ output. IsEscaping html value.now (string_bytes output)) }
@@ -99,10 +99,9 @@ pub fn escape_html_in<A: Allocator>(alloc: A, value: &str) -> Result<String<A>, 
 ///
 /// Those of [`escape_html`]. `dst` is then unchanged.
 ///
-/// ```text
-/// let mut dst = vec![in alloc; 0xff]?;
-/// escape_html_into("<", &mut dst)?;
-/// dst.as_slice() == b"\xff&lt;"
+/// ```rust
+/// let mut page = Vec::new(rt.alloc());
+/// escape_html_into("a<b", &mut page)?; // a&lt;b
 /// ```
 pub fn escape_html_into<A: Allocator>(
     value: &str,

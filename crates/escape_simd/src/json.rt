@@ -20,9 +20,9 @@ use std::alloc::{Allocator, Global};
 /// For a text of `n` bytes, the slice of [`format_json_string`](crate::format_json_string) needs
 /// `CAPACITY_FACTOR * n + CAPACITY_SLACK` bytes. The two constants give the size of an array:
 ///
-/// ```text
-/// const ROOM: usize = CAPACITY_FACTOR * 80 + CAPACITY_SLACK;
-/// let mut dst = [0; ROOM]; // for a text of up to 80 bytes
+/// ```rust
+/// const ROOM: usize = json::CAPACITY_FACTOR * 80 + json::CAPACITY_SLACK;
+/// let mut dst = [0; ROOM];
 /// ```
 pub const CAPACITY_FACTOR: usize = 6;
 
@@ -36,8 +36,8 @@ pub const CAPACITY_SLACK: usize = 35;
 ///
 /// [`EscapeError::TooLarge`] if `6 * len + 35` exceeds `usize::MAX`.
 ///
-/// ```text
-/// json_capacity(10) == Ok(95)
+/// ```rust
+/// let capacity = json_capacity(10)?; // 95
 /// ```
 pub fn json_capacity(len: usize) -> Result<usize, EscapeError>
     ensures exact { IfOk result (λ capacity. capacity ≡ bound json len) }
@@ -59,8 +59,8 @@ pub fn json_capacity(len: usize) -> Result<usize, EscapeError>
 /// - [`EscapeError::TooLarge`]: `6 * n + 35` exceeds `usize::MAX`.
 /// - [`EscapeError::OutOfMemory`]: the allocator refused the memory, or the size exceeds `isize::MAX`.
 ///
-/// ```text
-/// escape(alloc, "a\"\n")? == "\"a\\\"\\n\""
+/// ```rust
+/// let literal = escape(rt.alloc(), "a\"\n")?; // "a\"\n"
 /// ```
 pub fn escape(alloc: Global, value: &str) -> Result<String, EscapeError>
     ensures output { IfOk result (λ output. IsEscaping json value.now (string_bytes output)) }
@@ -78,8 +78,8 @@ pub fn escape(alloc: Global, value: &str) -> Result<String, EscapeError>
 ///
 /// Those of [`escape`].
 ///
-/// ```text
-/// escape_in(&arena, "x")? == "\"x\""
+/// ```rust
+/// let literal = escape_in(&arena, "x")?; // "x"
 /// ```
 pub fn escape_in<A: Allocator>(alloc: A, value: &str) -> Result<String<A>, EscapeError>
     ensures output { IfOk result (λ output. IsEscaping json value.now (string_bytes output)) }
@@ -99,10 +99,9 @@ pub fn escape_in<A: Allocator>(alloc: A, value: &str) -> Result<String<A>, Escap
 ///
 /// Those of [`escape`]. `dst` is then unchanged.
 ///
-/// ```text
-/// let mut dst = vec![in alloc; 0xff]?;
-/// escape_into("\t", &mut dst)?;
-/// dst.as_slice() == b"\xff\"\\t\""
+/// ```rust
+/// let mut line = Vec::new(rt.alloc());
+/// escape_into("a\tb", &mut line)?; // "a\tb"
 /// ```
 pub fn escape_into<A: Allocator>(value: &str, dst: &mut Vec<u8, A>) -> Result<(), EscapeError>
     ensures exact { OnOk result (dst.new.items ≡ dst.old.items ++ plain json value.now) }
@@ -130,9 +129,8 @@ pub fn escape_into<A: Allocator>(value: &str, dst: &mut Vec<u8, A>) -> Result<()
 ///
 /// Those of [`escape`].
 ///
-/// ```text
-/// // <script>const user = ...;</script>
-/// escape_script(alloc, "</script>")? == "\"\\u003c/script\\u003e\""
+/// ```rust
+/// let literal = escape_script(rt.alloc(), "</script>")?; // "\u003c/script\u003e"
 /// ```
 pub fn escape_script(alloc: Global, value: &str) -> Result<String, EscapeError>
     ensures output { IfOk result (λ output. IsEscaping script value.now (string_bytes output)) }
@@ -151,8 +149,8 @@ pub fn escape_script(alloc: Global, value: &str) -> Result<String, EscapeError>
 ///
 /// Those of [`escape_script`].
 ///
-/// ```text
-/// escape_script_in(&arena, "a<b")? == "\"a\\u003cb\""
+/// ```rust
+/// let literal = escape_script_in(&arena, "a<b")?; // "a\u003cb"
 /// ```
 pub fn escape_script_in<A: Allocator>(alloc: A, value: &str) -> Result<String<A>, EscapeError>
     ensures output { IfOk result (λ output. IsEscaping script value.now (string_bytes output)) }
@@ -174,12 +172,10 @@ pub fn escape_script_in<A: Allocator>(alloc: A, value: &str) -> Result<String<A>
 ///
 /// Those of [`escape_script`]. `dst` is then unchanged.
 ///
-/// ```text
-/// let mut page = Vec::new(alloc);
+/// ```rust
 /// page.extend_from_slice(b"<script>const user = ")?;
-/// escape_script_into("Ann </script>", &mut page)?;
+/// escape_script_into("Ann </script>", &mut page)?; // "Ann \u003c/script\u003e"
 /// page.extend_from_slice(b";</script>")?;
-/// page.as_slice() == b"<script>const user = \"Ann \\u003c/script\\u003e\";</script>"
 /// ```
 pub fn escape_script_into<A: Allocator>(
     value: &str,

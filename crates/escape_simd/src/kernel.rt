@@ -6,8 +6,8 @@
 /// are classified. It does not tell which instructions run: each kernel is built for every target, and the build's
 /// `--cpu` decides. So each kernel runs on every processor.
 ///
-/// ```text
-/// format_json_string(Kernel::default(), "x", &mut dst)
+/// ```rust
+/// let len = format_json_string(Kernel::default(), "x", &mut dst); // 3
 /// ```
 #[derive(Debug, Clone, Copy, PartialEq, Eq)]
 pub enum Kernel {

@@ -16,10 +16,10 @@
 //! write both JSON and HTML. The crate `escape_text` has adapters for `write!`, and calls for writers, `String`s and
 //! lists. It is built on [`output`], whose functions take the mode as a constant.
 //!
-//! ```text
-//! escape(alloc, "a\n")? == "\"a\\n\""
-//! escape_script(alloc, "a<b")? == "\"a\\u003cb\""
-//! escape_html(alloc, "a < b")? == "a &lt; b"
+//! ```rust
+//! let literal = json::escape(rt.alloc(), "a\n")?; // "a\n"
+//! let script = json::escape_script(rt.alloc(), "a<b")?; // "a\u003cb"
+//! let text = html::escape_html(rt.alloc(), "a < b")?; // a &lt; b
 //! ```
 #![tactic(auto)]
 

@@ -9,8 +9,8 @@ use crate::simd::{HTML_MODE, JSON_MODE};
 
 /// A mode: what is written for a text.
 ///
-/// ```text
-/// format_text(Kernel::default(), Mode::Html, "<", &mut dst)
+/// ```rust
+/// let len = format_text(Kernel::default(), Mode::Html, "<", &mut dst); // 4
 /// ```
 #[derive(Debug, Clone, Copy, PartialEq, Eq)]
 pub enum Mode {
@@ -30,8 +30,8 @@ impl Mode {
     ///
     /// [`Refusal::TooLarge`] if that exceeds `usize::MAX`.
     ///
-    /// ```text
-    /// Mode::Html.capacity(10) == Ok(92)
+    /// ```rust
+    /// let capacity = Mode::Html.capacity(10)?; // 92
     /// ```
     pub fn capacity(self, len: usize) -> Result<usize, Refusal>
         ensures exact { IfOk result (λ capacity. capacity ≡ bound (escaping self) len) }
@@ -48,8 +48,8 @@ impl Mode {
     /// Returns what stands before and after an output: a quotation mark in JSON, also in script mode, and nothing in
     /// HTML.
     ///
-    /// ```text
-    /// Mode::Json.quote() == "\""
+    /// ```rust
+    /// let mark = Mode::Json.quote(); // "
     /// ```
     #[inline(always)]
     pub fn quote(self) -> &'static str

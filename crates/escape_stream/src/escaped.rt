@@ -11,18 +11,16 @@ use escape_simd::{Kernel, Mode, format_inner};
 use std::alloc::Allocator;
 use std::io::Write;
 
-/// How many bytes of a text a run escapes and writes at a time, at most. What they may become,
-/// `6 * PIECE + 32` bytes at most, is all that it holds beside its input.
+/// The largest number of bytes of a text that a run escapes and writes at a time. Beside its input, a run holds an
+/// array of at most `6 * PIECE + 32` bytes.
 pub const PIECE: usize = 64 * 1024;
 
-/// Writes what the kernel makes of the text, and flushes once.
-///
-/// Beside the text it holds what one piece may become.
+/// Writes the output of the text, and flushes once. Beside the text it holds the bound of one piece.
 ///
 /// # Errors
 ///
-/// `TooLarge` exactly where the room that the output may take passes `usize::MAX`, `OutOfMemory` where
-/// room for a piece is refused, and `WriteFailed`, the only one after a write.
+/// `TooLarge` exactly if the bound of the text exceeds `usize::MAX`, `OutOfMemory` if memory for a piece is refused, and
+/// `WriteFailed`, the only one after a write.
 pub(crate) fn write_escaped<A: Allocator, W: Write>(
     alloc: A,
     mode: Mode,
@@ -59,7 +57,7 @@ fn zeros<A: Allocator>(alloc: A, count: usize) -> Result<Vec<u8, A>, ToolFault>
     }
 }
 
-/// Writes the output for the text, whose pieces are escaped in `room`, and flushes once.
+/// Writes the output of the text, whose pieces are escaped in `room`, and flushes once.
 fn write_whole<W: Write>(
     mode: Mode,
     kernel: Kernel,
@@ -80,7 +78,7 @@ fn write_whole<W: Write>(
     flush(output)
 }
 
-/// Writes the quotation mark that a literal begins and ends with, in HTML nothing.
+/// Writes the quotation mark of the mode, in HTML nothing.
 fn write_quote<W: Write>(mode: Mode, output: &mut W) -> Result<(), ToolFault>
     ensures whole { OnOk result
         (Appends (W.contents output.old) (W.contents output.new) (quote_of (escaping mode))) }
@@ -91,9 +89,9 @@ fn write_quote<W: Write>(mode: Mode, output: &mut W) -> Result<(), ToolFault>
     write_all(output, mode.quote().as_bytes())
 }
 
-/// Writes what stands for the text's bytes, piece by piece.
+/// Writes the output of the text without its quotation marks, piece by piece.
 ///
-/// The pieces are texts: what stands for a separator in a script literal stands for all its bytes.
+/// Each piece is a text, so no separator is cut.
 fn write_pieces<W: Write>(
     mode: Mode,
     kernel: Kernel,

@@ -7,16 +7,15 @@ use crate::fault::ToolFault;
 use std::alloc::Allocator;
 use std::io::Read;
 
-/// How many bytes a read is asked for at most, and the least room that a vector with none left grows
-/// by.
+/// The largest number of bytes that a read is asked for, and the least number by which a full vector grows.
 const WINDOW: usize = 64 * 1024;
 
-/// All that the input has left. It is read until a read gives nothing.
+/// Returns all bytes that the input has left. It is read until a read returns 0.
 ///
 /// # Errors
 ///
-/// `ReadFailed` where a read returns an error, of any kind, and `OutOfMemory` where room for
-/// more is refused, whichever comes first.
+/// `ReadFailed` if a read returns an error, of any kind, and `OutOfMemory` if memory for more bytes is refused,
+/// whichever comes first.
 pub(crate) fn read_whole<R: Read, A: Allocator>(
     alloc: A,
     input: &mut R,
@@ -39,10 +38,9 @@ pub(crate) fn read_whole<R: Read, A: Allocator>(
     }
 }
 
-/// Makes the vector longer than `filled` bytes, where it isn't, by zeros for the next read.
+/// Appends zeros for the next read, if the vector has no byte past the first `filled`.
 ///
-/// Its capacity doubles at least where there is no room for them. What is not read into is not filled,
-/// so it stays untouched.
+/// If it has no room for them, its capacity at least doubles. Only these zeros are written, not all of the new room.
 fn make_room<A: Allocator>(bytes: &mut Vec<u8, A>, filled: usize) -> Result<(), ToolFault>
     requires { filled ≤ vec_len bytes.old }
     ensures front { OnOk result (take filled bytes.new.items ≡ take filled bytes.old.items) }
@@ -61,7 +59,7 @@ fn make_room<A: Allocator>(bytes: &mut Vec<u8, A>, filled: usize) -> Result<(), 
     Ok(())
 }
 
-/// Reads once into the bytes past the first `filled` ones, and returns how many bytes the read gave.
+/// Reads once into the bytes past the first `filled` ones, and returns the number of bytes read.
 fn read_after<R: Read>(input: &mut R, bytes: &mut [u8], filled: usize) -> Result<usize, ToolFault>
     requires { filled < length bytes.old }
     ensures front { take filled bytes.new ≡ take filled bytes.old }

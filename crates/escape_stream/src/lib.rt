@@ -1,14 +1,13 @@
-//! Escapes what a reader gives, as a JSON string literal, as HTML or as a literal that is safe inside
-//! a script element, to a writer.
+//! Escapes the bytes of a reader as a JSON string literal, as HTML or as a literal that is safe inside a script
+//! element, and writes the output to a writer.
 //!
-//! [`run`] reads its input to the end, escapes it by the kernel that it is told, and writes the
-//! output. [`choose`] reads the words of a program on this crate. From memory to memory:
+//! [`run`] reads its input to the end, escapes it with the kernel that the caller names, and writes the output.
+//! [`choose`] returns the mode and the kernel that a program's arguments name. From memory to memory:
 //!
-//! ```
+//! ```rust
 //! let mut input = b"<a".as_slice();
-//! let mut output = Vec::new(alloc);
-//! run(alloc, Mode::Html, Kernel::Avx2, &mut input, &mut output)?;
-//! // The output holds `&lt;a`.
+//! let mut out = Vec::new(rt.alloc());
+//! run(rt.alloc(), Mode::Html, Kernel::Avx2, &mut input, &mut out)?; // &lt;a
 //! ```
 #![tactic(auto)]
 

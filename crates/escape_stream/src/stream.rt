@@ -33,9 +33,10 @@ use std::str;
 /// If several apply after the input is read, the first of `NotUtf8`, `TooLarge`, `OutOfMemory`, `WriteFailed` is
 /// returned.
 ///
-/// ```text
+/// ```rust
 /// let mut input = b"<a".as_slice();
-/// run(alloc, Mode::Html, Kernel::default(), &mut input, &mut output)?; // output has &lt;a
+/// let mut out = Vec::new(rt.alloc());
+/// run(rt.alloc(), Mode::Html, Kernel::Avx2, &mut input, &mut out)?; // &lt;a
 /// ```
 pub fn run<R: Read, W: Write>(
     alloc: Global,
@@ -78,8 +79,8 @@ pub fn run<R: Read, W: Write>(
 ///
 /// Those of [`run`].
 ///
-/// ```text
-/// run_in(&arena, Mode::Json, Kernel::default(), &mut input, &mut output)?;
+/// ```rust
+/// run_in(&arena, Mode::Json, Kernel::default(), &mut input, &mut out)?; // "<a"
 /// ```
 pub fn run_in<A: Allocator + Copy, R: Read, W: Write>(
     alloc: A,

@@ -10,7 +10,7 @@ use std::io::Write;
 ///
 /// # Errors
 ///
-/// `WriteFailed` where a write takes nothing, or returns an error, of any kind.
+/// `WriteFailed` if a write takes no bytes, or returns an error, of any kind.
 pub(crate) fn write_all<W: Write>(output: &mut W, bytes: &[u8]) -> Result<(), ToolFault>
     ensures whole { OnOk result
         (Appends (W.contents output.old) (W.contents output.new) bytes.now) }
@@ -32,7 +32,7 @@ pub(crate) fn write_all<W: Write>(output: &mut W, bytes: &[u8]) -> Result<(), To
 ///
 /// # Errors
 ///
-/// `WriteFailed` where that returns an error, of any kind.
+/// `WriteFailed` if that returns an error, of any kind.
 pub(crate) fn flush<W: Write>(output: &mut W) -> Result<(), ToolFault>
     ensures kept { Keeps (W.contents output.old) (W.contents output.new) }
     ensures fault { IfErr result (λ fault. fault ≡ ToolFault.WriteFailed) }

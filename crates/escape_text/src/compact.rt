@@ -1,4 +1,4 @@
-//! The output for a text in a `String` of the output's own length.
+//! The output of a text in a `String` of the output's own length.
 ghost use Rattle.std.specs.Prelude.{◌≤◌, ◌≡◌, ◌<◌, ◌↔◌, length, string_bytes, Err, IfOk};
 ghost use Rattle.escape_simd.specs.Modes.{mode_numbered};
 ghost use Rattle.escape_simd.specs.Output.{plain};
@@ -8,7 +8,7 @@ use escape_simd::Refusal;
 use escape_simd::output::escaped_len;
 use std::alloc::Allocator;
 
-/// Returns the output for the text. One request is made, for the output's own length.
+/// Returns the output of the text. The call makes one allocation, of the output's length.
 pub(crate) fn compact_text<const MODE: u8, A: Allocator>(
     alloc: A,
     value: &str,

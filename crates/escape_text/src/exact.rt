@@ -1,4 +1,4 @@
-//! The output for a text in a slice of the output's own length.
+//! The output of a text in a slice of the output's own length.
 ghost use Rattle.std.specs.Prelude.{◌≡◌, ◌+◌, ◌≤◌, ◌++◌, length, take};
 ghost use Rattle.escape_simd.specs.Modes.{mode_numbered};
 ghost use Rattle.escape_simd.specs.Output.{plain, inner};
@@ -17,8 +17,10 @@ const END_ROOM: usize = 6 * END + 32;
 ///
 /// `dst` must have the length of the output, which [`escaped_len`](escape_simd::output::escaped_len) returns.
 ///
-/// ```text
-/// write_exact::<{ JSON_MODE }>("a\n", &mut dst[..5]) // dst begins with "a\n", with its quotes
+/// ```rust
+/// if escaped_len(text) == Some(dst.len()) {
+///     write_exact::<{ JSON_MODE }>(text, dst);
+/// }
 /// ```
 pub fn write_exact<const MODE: u8>(value: &str, dst: &mut [u8])
     requires mode { MODE ≤ 2 }

@@ -31,8 +31,8 @@ use std::io::{self, Write};
 ///
 /// An error of the formatter, which is returned at once.
 ///
-/// ```text
-/// write!(page, "<p title=\"{}\">", Escaped("a \"b\""))?; // <p title="a &quot;b&quot;">
+/// ```rust
+/// write!(page, "<p title=\"{}\">", html::Escaped("a \"b\""))?; // <p title="a &quot;b&quot;">
 /// ```
 #[derive(Debug, Clone, Copy, PartialEq, Eq)]
 pub struct Escaped<'a>(pub &'a str);
@@ -57,8 +57,8 @@ impl fmt::Display for Escaped<'_> {
 /// The error of the first write that fails, or `WriteZero` if a write takes no bytes. `writer` has then taken a
 /// prefix of the output.
 ///
-/// ```text
-/// escape_html_to_writer("a<b", &mut socket)?; // a&lt;b
+/// ```rust
+/// escape_html_to_writer("a<b", &mut page)?; // a&lt;b
 /// ```
 pub fn escape_html_to_writer<W: Write>(value: &str, writer: &mut W) -> io::Result<()>
     ensures exact { OnOk result (Appends (W.contents writer.old) (W.contents writer.new)
@@ -78,8 +78,8 @@ pub fn escape_html_to_writer<W: Write>(value: &str, writer: &mut W) -> io::Resul
 ///
 /// Those of [`escape_html`](escape_simd::html::escape_html). `dst` is then unchanged.
 ///
-/// ```text
-/// escape_html_into_string("a<b", &mut page)?; // page ends with a&lt;b
+/// ```rust
+/// escape_html_into_string("a<b", &mut page)?; // a&lt;b
 /// ```
 pub fn escape_html_into_string<A: Allocator>(
     value: &str,
@@ -108,8 +108,8 @@ pub fn escape_html_into_string<A: Allocator>(
 /// - [`EscapeHtmlError::TooLarge`]: the length of the output exceeds `usize::MAX`.
 /// - [`EscapeHtmlError::OutOfMemory`]: the allocator refused the memory.
 ///
-/// ```text
-/// escape_html_compact(alloc, "a<b")? == "a&lt;b" // 6 bytes, and a capacity of 6
+/// ```rust
+/// let text = escape_html_compact(rt.alloc(), "a<b")?; // a&lt;b
 /// ```
 pub fn escape_html_compact<A: Allocator>(
     alloc: A,
@@ -131,9 +131,9 @@ pub fn escape_html_compact<A: Allocator>(
 ///
 /// Those of [`escape_html_compact`].
 ///
-/// ```text
-/// escape_html_cow(alloc, "a b")? == CowStr::Borrowed("a b")
-/// escape_html_cow(alloc, "a<b")? == "a&lt;b" // CowStr::Owned
+/// ```rust
+/// let borrowed = escape_html_cow(rt.alloc(), "a b")?; // CowStr::Borrowed("a b")
+/// let owned = escape_html_cow(rt.alloc(), "a<b")?; // a&lt;b
 /// ```
 pub fn escape_html_cow<'a, A: Allocator>(
     alloc: A,
@@ -163,7 +163,7 @@ pub fn escape_html_cow<'a, A: Allocator>(
 /// A [`ListError`]: `written` texts were appended, and the next one was refused for `reason`. `dst` then has the
 /// bytes that it had before, and these outputs with `between` between each two.
 ///
-/// ```text
+/// ```rust
 /// escape_html_joined_into(&["a", "<"], "</li><li>", &mut page)?; // a</li><li>&lt;
 /// ```
 pub fn escape_html_joined_into<A: Allocator>(

@@ -31,8 +31,8 @@ use std::io::{self, Write};
 ///
 /// An error of the formatter, which is returned at once.
 ///
-/// ```text
-/// write!(out, "{{\"name\":{}}}", Escaped("Ann \"A\""))?; // {"name":"Ann \"A\""}
+/// ```rust
+/// write!(line, "{{\"name\":{}}}", json::Escaped("Ann \"A\""))?; // {"name":"Ann \"A\""}
 /// ```
 #[derive(Debug, Clone, Copy, PartialEq, Eq)]
 pub struct Escaped<'a>(pub &'a str);
@@ -51,8 +51,8 @@ impl fmt::Display for Escaped<'_> {
 /// `{}` writes what [`escape_script`](escape_simd::json::escape_script) returns. Memory, width, fill and errors are
 /// as in [`Escaped`].
 ///
-/// ```text
-/// write!(out, "<script>const user = {};</script>", EscapedScript("a<b"))?; // .. = "a\u003cb";</script>
+/// ```rust
+/// write!(page, "const user = {};", EscapedScript("a<b"))?; // const user = "a\u003cb";
 /// ```
 #[derive(Debug, Clone, Copy, PartialEq, Eq)]
 pub struct EscapedScript<'a>(pub &'a str);
@@ -76,8 +76,8 @@ impl fmt::Display for EscapedScript<'_> {
 /// The error of the first write that fails, or `WriteZero` if a write takes no bytes. `writer` has then taken a
 /// prefix of the literal.
 ///
-/// ```text
-/// escape_to_writer("a\"b", &mut socket)?; // "a\"b"
+/// ```rust
+/// escape_to_writer("a\"b", &mut log)?; // "a\"b"
 /// ```
 pub fn escape_to_writer<W: Write>(value: &str, writer: &mut W) -> io::Result<()>
     ensures exact { OnOk result (Appends (W.contents writer.old) (W.contents writer.new)
@@ -93,8 +93,8 @@ pub fn escape_to_writer<W: Write>(value: &str, writer: &mut W) -> io::Result<()>
 ///
 /// Memory, writes and errors are as in [`escape_to_writer`].
 ///
-/// ```text
-/// escape_script_to_writer("a<b", &mut socket)?; // "a\u003cb"
+/// ```rust
+/// escape_script_to_writer("a<b", &mut page)?; // "a\u003cb"
 /// ```
 pub fn escape_script_to_writer<W: Write>(value: &str, writer: &mut W) -> io::Result<()>
     ensures exact { OnOk result (Appends (W.contents writer.old) (W.contents writer.new)
@@ -114,8 +114,8 @@ pub fn escape_script_to_writer<W: Write>(value: &str, writer: &mut W) -> io::Res
 ///
 /// Those of [`escape`](escape_simd::json::escape). `dst` is then unchanged.
 ///
-/// ```text
-/// escape_into_string("a\n", &mut line)?; // line ends with "a\n", with its quotes
+/// ```rust
+/// escape_into_string("a\n", &mut line)?; // "a\n"
 /// ```
 pub fn escape_into_string<A: Allocator>(value: &str, dst: &mut String<A>) -> Result<(), EscapeError>
     ensures exact { OnOk result (string_bytes dst.new ≡ string_bytes dst.old ++ plain json value.now) }
@@ -135,8 +135,8 @@ pub fn escape_into_string<A: Allocator>(value: &str, dst: &mut String<A>) -> Res
 ///
 /// Memory and errors are as in [`escape_into_string`].
 ///
-/// ```text
-/// escape_script_into_string("a<b", &mut page)?; // page ends with "a\u003cb"
+/// ```rust
+/// escape_script_into_string("a<b", &mut page)?; // "a\u003cb"
 /// ```
 pub fn escape_script_into_string<A: Allocator>(
     value: &str,
@@ -165,8 +165,8 @@ pub fn escape_script_into_string<A: Allocator>(
 /// - [`EscapeError::TooLarge`]: the length of the literal exceeds `usize::MAX`.
 /// - [`EscapeError::OutOfMemory`]: the allocator refused the memory.
 ///
-/// ```text
-/// escape_compact(alloc, "a\n")? == "\"a\\n\"" // 5 bytes, and a capacity of 5
+/// ```rust
+/// let literal = escape_compact(rt.alloc(), "a\n")?; // "a\n"
 /// ```
 pub fn escape_compact<A: Allocator>(alloc: A, value: &str) -> Result<String<A>, EscapeError>
     ensures output { IfOk result (λ output. IsEscaping json value.now (string_bytes output)) }
@@ -182,8 +182,8 @@ pub fn escape_compact<A: Allocator>(alloc: A, value: &str) -> Result<String<A>, 
 ///
 /// Memory and errors are as in [`escape_compact`].
 ///
-/// ```text
-/// escape_script_compact(alloc, "a<b")? == "\"a\\u003cb\"" // 10 bytes, and a capacity of 10
+/// ```rust
+/// let literal = escape_script_compact(rt.alloc(), "a<b")?; // "a\u003cb"
 /// ```
 pub fn escape_script_compact<A: Allocator>(alloc: A, value: &str) -> Result<String<A>, EscapeError>
     ensures output { IfOk result (λ output. IsEscaping script value.now (string_bytes output)) }
@@ -204,8 +204,8 @@ pub fn escape_script_compact<A: Allocator>(alloc: A, value: &str) -> Result<Stri
 /// A [`ListError`]: `written` texts were appended, and the next one was refused for `reason`. `dst` then has the
 /// bytes that it had before, and these literals with `between` between each two.
 ///
-/// ```text
-/// escape_joined_into(&["a", "\n"], ", ", &mut dst)?; // "a", "\n"
+/// ```rust
+/// escape_joined_into(&["a", "\n"], ", ", &mut line)?; // "a", "\n"
 /// ```
 pub fn escape_joined_into<A: Allocator>(
     values: &[&str],
@@ -240,8 +240,8 @@ pub fn escape_joined_into<A: Allocator>(
 ///
 /// The error for the first text that is refused, or `OutOfMemory` for a bracket or a comma. `dst` is then unchanged.
 ///
-/// ```text
-/// escape_array_into(&["a", "\n"], &mut dst)?; // ["a","\n"]
+/// ```rust
+/// escape_array_into(&["a", "\n"], &mut line)?; // ["a","\n"]
 /// ```
 pub fn escape_array_into<A: Allocator>(
     values: &[&str],
@@ -259,7 +259,7 @@ pub fn escape_array_into<A: Allocator>(
 ///
 /// Memory and errors are as in [`escape_array_into`].
 ///
-/// ```text
+/// ```rust
 /// escape_script_array_into(&["a", "<"], &mut page)?; // ["a","\u003c"]
 /// ```
 pub fn escape_script_array_into<A: Allocator>(

@@ -10,10 +10,10 @@
 //! - [`json::escape_array_into`], [`json::escape_script_array_into`], [`json::escape_joined_into`] and
 //!   [`html::escape_html_joined_into`] append many texts to a vector.
 //!
-//! ```text
+//! ```rust
 //! write!(page, "<p title=\"{}\">", html::Escaped("a \"b\""))?; // <p title="a &quot;b&quot;">
-//! json::escape_to_writer("a\"b", &mut socket)?;                 // "a\"b"
-//! json::escape_array_into(&["a", "\n"], &mut dst)?;             // ["a","\n"]
+//! json::escape_to_writer("a\"b", &mut log)?; // "a\"b"
+//! json::escape_array_into(&["a", "\n"], &mut line)?; // ["a","\n"]
 //! ```
 #![tactic(auto)]
 

@@ -44,8 +44,8 @@ pub(crate) fn write_output<const MODE: u8, W: Write>(value: &str, writer: &mut W
 /// The error of the first write that fails, or `WriteZero` if a write takes no bytes. `writer` has then taken a prefix
 /// of the bytes.
 ///
-/// ```text
-/// json::escape_to_writer(name, &mut log)?;
+/// ```rust
+/// escape_to_writer("a\"b", &mut log)?; // "a\"b"
 /// write_whole(b"\n", &mut log)?;
 /// ```
 pub fn write_whole<W: Write>(bytes: &[u8], writer: &mut W) -> Result<()>

@@ -22,10 +22,9 @@ const FIRST_HALVES: [usize; 16] = [0, 1, 2, 3, 4, 5, 6, 7, 16, 17, 18, 19, 20, 2
 /// it holds. Each call changes its own range and its own count, raises the writes by one, and leaves
 /// the rest.
 ///
-/// ```notrust
-/// let mut target = Target::<16>::new(dst);
-/// target.quote(0);
-/// // when the target ends, `dst` holds what was written
+/// ```rust
+/// let mut target = Target::<16>::new(&mut dst);
+/// target.quote(0); // "
 /// ```
 #[derive(Drop)]
 pub struct Target<'a, const N: usize> {

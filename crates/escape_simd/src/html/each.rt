@@ -19,10 +19,8 @@ use std::alloc::Allocator;
 /// `(k, error)`: the first `k` texts were appended, and text `k` (counted from 0) was refused for the reason `error`,
 /// an [`EscapeHtmlError`]. `dst` then has the bytes that it had before, and the outputs of these `k` texts.
 ///
-/// ```text
-/// let mut dst = vec![in alloc; b'A']?;
-/// escape_html_each(&["<", "", "a&"], &mut dst)?;
-/// dst.as_slice() == b"A&lt;a&amp;"
+/// ```rust
+/// escape_html_each(&["<", "", "a&"], &mut page)?; // &lt;a&amp;
 /// ```
 pub fn escape_html_each<A: Allocator>(
     values: &[&str],

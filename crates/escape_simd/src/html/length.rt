@@ -14,8 +14,8 @@ use crate::simd::HTML_MODE;
 /// `escape_html_compact` of `escape_text` reserves exactly this length. The calls of this crate that write the output
 /// need [`html_capacity`](crate::html::html_capacity) bytes, which is more.
 ///
-/// ```text
-/// escaped_len("a<b") == Some(6) // a&lt;b
+/// ```rust
+/// let len = html::escaped_len("a<b"); // Some(6)
 /// ```
 pub fn escaped_len(value: &str) -> Option<usize>
     ensures exact { IfSome result (λ len. len ≡ length (plain html value.now)) }
@@ -30,9 +30,8 @@ pub fn escaped_len(value: &str) -> Option<usize>
 /// The call allocates nothing. It reads the text in parts of at most 128 bytes, returns `false` at the first part in
 /// which something needs an escape, and else reads the whole text.
 ///
-/// ```text
-/// is_clean("a\nb") == true
-/// is_clean("a/b") == false
+/// ```rust
+/// let clean = html::is_clean("a/b"); // false
 /// ```
 pub fn is_clean(value: &str) -> bool
     ensures { (result ≡ true) ↔ (plain html value.now ≡ value.now) }

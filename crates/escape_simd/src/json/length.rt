@@ -14,8 +14,8 @@ use crate::simd::{JSON_MODE, SCRIPT_MODE};
 /// `escape_compact` of `escape_text` reserves exactly this length. The calls of this crate that write the literal
 /// need [`json_capacity`](crate::json::json_capacity) bytes, which is more.
 ///
-/// ```text
-/// escaped_len("a\"\n") == Some(7) // "a\"\n"
+/// ```rust
+/// let len = json::escaped_len("a\"\n"); // Some(7)
 /// ```
 pub fn escaped_len(value: &str) -> Option<usize>
     ensures exact { IfSome result (λ len. len ≡ length (plain json value.now)) }
@@ -30,8 +30,8 @@ pub fn escaped_len(value: &str) -> Option<usize>
 /// `escape_script_compact` of `escape_text` reserves exactly this length. The calls of this crate that write the
 /// literal need [`json_capacity`](crate::json::json_capacity) bytes, which is more.
 ///
-/// ```text
-/// script_len("a<b") == Some(10) // "a\u003cb"
+/// ```rust
+/// let len = script_len("a<b"); // Some(10)
 /// ```
 pub fn script_len(value: &str) -> Option<usize>
     ensures exact { IfSome result (λ len. len ≡ length (plain script value.now)) }
@@ -46,9 +46,8 @@ pub fn script_len(value: &str) -> Option<usize>
 /// The call allocates nothing. It reads the text in parts of at most 128 bytes, returns `false` at the first part in
 /// which something needs an escape, and else reads the whole text.
 ///
-/// ```text
-/// is_clean("a/b") == true
-/// is_clean("a\n") == false
+/// ```rust
+/// let clean = json::is_clean("a/b"); // true
 /// ```
 pub fn is_clean(value: &str) -> bool
     ensures { (result ≡ true) ↔ (inner json value.now ≡ value.now) }
@@ -62,9 +61,8 @@ pub fn is_clean(value: &str) -> bool
 /// The call allocates nothing. It reads the text in parts of at most 128 bytes, returns `false` at the first part in
 /// which something needs an escape, and else reads the whole text.
 ///
-/// ```text
-/// is_script_clean("a\u{2026}") == true
-/// is_script_clean("a\u{2028}") == false
+/// ```rust
+/// let clean = is_script_clean("a\u{2028}"); // false
 /// ```
 pub fn is_script_clean(value: &str) -> bool
     ensures { (result ≡ true) ↔ (inner script value.now ≡ value.now) }

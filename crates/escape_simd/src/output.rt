@@ -33,8 +33,8 @@ const N: usize = 32;
 /// Returns the bound for a text of `len` bytes, the size in bytes that a slice must have for the output:
 /// `6 * len + 35`, in HTML `6 * len + 32`. Returns `None` if that exceeds `usize::MAX`.
 ///
-/// ```text
-/// scratch_bound::<{ HTML_MODE }>(10) == Some(92)
+/// ```rust
+/// let bound = scratch_bound::<{ HTML_MODE }>(10); // Some(92)
 /// ```
 pub fn scratch_bound<const MODE: u8>(len: usize) -> Option<usize>
     requires mode { MODE ≤ 2 }
@@ -54,8 +54,8 @@ pub fn scratch_bound<const MODE: u8>(len: usize) -> Option<usize>
 
 /// Returns what stands before and after an output: a quotation mark in JSON, also in script mode, and nothing in HTML.
 ///
-/// ```text
-/// quote::<{ JSON_MODE }>() == "\""
+/// ```rust
+/// let mark = quote::<{ JSON_MODE }>(); // "
 /// ```
 #[inline(always)]
 pub fn quote<const MODE: u8>() -> &'static str
@@ -71,8 +71,8 @@ pub fn quote<const MODE: u8>() -> &'static str
 /// For a text of `n` bytes, `dst` must have at least `6 * n + 32` bytes from `at` on. Its bytes before `at` are
 /// unchanged. Those from the returned index on may have changed.
 ///
-/// ```text
-/// write_inner::<{ HTML_MODE }>("<", &mut dst, 0) == 4 // dst begins with &lt;
+/// ```rust
+/// let end = write_inner::<{ HTML_MODE }>("<", &mut dst, 0); // 4
 /// ```
 #[inline(always)]
 pub fn write_inner<const MODE: u8>(value: &str, dst: &mut [u8], at: usize) -> usize
@@ -110,8 +110,8 @@ fn append_output<const MODE: u8, A: Allocator>(value: &str, dst: &mut Vec<u8, A>
 ///
 /// `dst` is unchanged after each.
 ///
-/// ```text
-/// append::<{ HTML_MODE }, _>("<", &mut dst)?; // dst ends with &lt;
+/// ```rust
+/// append::<{ HTML_MODE }, _>("<", &mut page)?; // &lt;
 /// ```
 pub fn append<const MODE: u8, A: Allocator>(
     value: &str,

@@ -96,8 +96,8 @@ fn is_clean_part<const MODE: u8>(src: &[u8], at: usize, count: usize) -> bool
 /// The call allocates nothing. It reads the text in parts of at most 128 bytes, returns `false` at the first part in
 /// which something needs an escape, and else reads the whole text.
 ///
-/// ```text
-/// is_clean::<{ HTML_MODE }>("a<b") == false
+/// ```rust
+/// let clean = output::is_clean::<{ HTML_MODE }>("a<b"); // false
 /// ```
 #[inline(never)]
 pub fn is_clean<const MODE: u8>(value: &str) -> bool

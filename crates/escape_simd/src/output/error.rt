@@ -8,13 +8,10 @@ use std::fmt;
 ///
 /// [`EscapeError`] and [`EscapeHtmlError`] convert to it, so that `?` serves a function that writes both JSON and HTML:
 ///
-/// ```text
-/// fn write_row(name: &str, row: &mut Vec<u8>) -> Result<(), Refusal> {
-///     escape_html_into(name, row)?;
-///     row.push(b'\n')?;
-///     escape_into(name, row)?;
-///     Ok(())
-/// }
+/// ```rust
+/// escape_html_into(text, row)?;
+/// row.push(b'\n')?;
+/// escape_into(text, row)?;
 /// ```
 #[derive(Debug, Clone, Copy, PartialEq, Eq)]
 pub enum Refusal {

@@ -47,8 +47,8 @@ fn part_len<const MODE: u8>(src: &[u8], at: usize, count: usize) -> usize
 ///
 /// The call allocates nothing. It reads clean bytes once, and bytes near an escape up to six times.
 ///
-/// ```text
-/// escaped_len::<{ HTML_MODE }>("a<b") == Some(6) // a&lt;b
+/// ```rust
+/// let len = output::escaped_len::<{ HTML_MODE }>("a<b"); // Some(6)
 /// ```
 pub fn escaped_len<const MODE: u8>(value: &str) -> Option<usize>
     requires mode { MODE ≤ 2 }

@@ -33,10 +33,9 @@ pub fn format_target<const HTML: bool>(
 
 /// As [`format_target`], with the target made over `dst`.
 ///
-/// ```text
+/// ```rust
 /// let mut dst = [0; 38];
-/// sse2::format_string::<true>("<", &mut dst) == 4
-/// dst.starts_with(b"&lt;")
+/// let len = sse2::format_string::<true>("<", &mut dst); // 4
 /// ```
 pub fn format_string<const HTML: bool>(value: &str, dst: &mut [u8]) -> usize
     requires { bound (mode_of HTML) (length value.now) ≤ length dst.old }
@@ -66,10 +65,9 @@ pub fn format_script_target(value: &str, target: &mut Target<'_, 16>, ticks: &mu
 
 /// As [`format_script_target`], with the target made over `dst`.
 ///
-/// ```text
+/// ```rust
 /// let mut dst = [0; 41];
-/// sse2::format_script_string("<", &mut dst) == 8
-/// dst.starts_with(b"\"\\u003c\"")
+/// let len = sse2::format_script_string("<", &mut dst); // 8
 /// ```
 pub fn format_script_string(value: &str, dst: &mut [u8]) -> usize
     requires { bound script (length value.now) ≤ length dst.old }

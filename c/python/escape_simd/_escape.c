@@ -121,6 +121,7 @@ static PyObject *escape_text(const struct mode *mode, PyObject *object, int as_s
     if (!answer) return NULL;
     thread = length > RELEASE ? PyEval_SaveThread() : NULL;
     if (is_clean && output.kind == (int)PyUnicode_KIND(object)) {
+        /* The text itself, after the quotation mark. */
         memcpy(output.data + output.kind, PyUnicode_DATA(object), (size_t)(PyUnicode_GET_LENGTH(object) * output.kind));
     } else if (length <= PIECE) {
         put(&output, piece, output.bytes);

@@ -4,7 +4,6 @@ The extension is linked with libescape.a, which lies beside this folder with its
 ../lib and ../include, as in a release. In the repository ./build-c builds it first, if it is not there.
 """
 
-import ast
 import base64
 import hashlib
 import os
@@ -15,82 +14,59 @@ import sys
 import sysconfig
 import tempfile
 import zipfile
+from pathlib import Path
 
-HERE = os.path.dirname(os.path.abspath(__file__))
+HERE = Path(__file__).resolve().parent
 PACKAGE = "escape_simd"
-BUILD_C = os.path.join(HERE, "..", "..", "build-c")
 
 
 def find(name):
-    """Returns the folder that has the library's file."""
-    for folder in "..", "../lib", "../include":
-        if os.path.exists(os.path.join(HERE, folder, name)):
-            return os.path.normpath(os.path.join(HERE, folder))
+    """Returns the path of the library's file."""
+    for folder in HERE.parent, HERE.parent / "lib", HERE.parent / "include":
+        if (folder / name).exists():
+            return folder / name
     raise FileNotFoundError("%s is neither beside %s nor in ../lib or ../include" % (name, HERE))
 
 
-def read(*path):
-    with open(os.path.join(*path), encoding="utf-8") as file:
-        return file.read()
-
-
 def version():
-    header = read(find("escape.h"), "escape.h")
-    return ".".join(re.search(r"#define ESCAPE_VERSION_%s (\d+)" % part, header).group(1) for part in ("MAJOR", "MINOR", "PATCH"))
+    return ".".join(re.findall(r"#define ESCAPE_VERSION_(?:MAJOR|MINOR|PATCH) (\d+)", find("escape.h").read_text()))
 
 
 def compile_extension(target):
-    if not os.path.exists(os.path.join(HERE, "..", "libescape.a")) and os.path.exists(BUILD_C):
-        subprocess.check_call([BUILD_C])
+    build_c = HERE.parents[1] / "build-c"
+    if build_c.exists() and not (HERE.parent / "libescape.a").exists():
+        subprocess.check_call([build_c])
     compiler = shlex.split(os.environ.get("CC") or sysconfig.get_config_var("CC") or "cc")
-    subprocess.check_call(
-        compiler
-        + ["-std=c11", "-O3", "-Wall", "-Wextra", "-fPIC", "-shared"]
-        + ["-I" + find("escape.h"), "-I" + sysconfig.get_path("include"), "-I" + sysconfig.get_path("platinclude")]
-        + [os.path.join(HERE, PACKAGE, "_escape.c"), os.path.join(find("libescape.a"), "libescape.a")]
-        + ["-Wl,--exclude-libs,ALL", "-o", target]
-    )
-
-
-def tags():
-    """Returns for which Python, with which ABI and where the extension runs."""
-    python = "cp%d%d" % sys.version_info[:2]
-    return python, python + sys.abiflags, re.sub(r"\W", "_", sysconfig.get_platform())
-
-
-def files(compiled):
-    """Yields the name and the bytes of each file of the wheel but the last, which lists them."""
-    project = dict(re.findall(r'^([\w-]+) = "(.*)"$', read(HERE, "pyproject.toml"), re.M))
-    tag = "-".join(tags())
-    about = ["Metadata-Version: 2.1", "Name: " + project["name"], "Version: " + version(), "Summary: " + project["description"]]
-    about += ["Requires-Python: " + project["requires-python"], "", ast.get_docstring(ast.parse(read(HERE, PACKAGE, "__init__.py"))), ""]
-    wheel = ["Wheel-Version: 1.0", "Generator: " + PACKAGE, "Root-Is-Purelib: false", "Tag: " + tag, ""]
-    for name in "__init__.py", "__init__.pyi", "py.typed":
-        yield PACKAGE + "/" + name, read(HERE, PACKAGE, name).encode()
-    yield PACKAGE + "/_escape" + sysconfig.get_config_var("EXT_SUFFIX"), compiled
-    yield dist_info() + "/METADATA", "\n".join(about).encode()
-    yield dist_info() + "/WHEEL", "\n".join(wheel).encode()
-
-
-def dist_info():
-    return "%s-%s.dist-info" % (PACKAGE, version())
+    headers = [find("escape.h").parent, sysconfig.get_path("include"), sysconfig.get_path("platinclude")]
+    flags = ["-std=c11", "-O3", "-Wall", "-Wextra", "-fPIC", "-shared"] + ["-I%s" % folder for folder in headers]
+    files = [HERE / PACKAGE / "_escape.c", find("libescape.a")]
+    subprocess.check_call(compiler + flags + files + ["-Wl,--exclude-libs,ALL", "-o", target])
 
 
 def build_wheel(wheel_directory, config_settings=None, metadata_directory=None):
     """Writes the wheel to the folder, and returns its name."""
+    project = dict(re.findall(r'^([\w-]+) = "(.*)"$', (HERE / "pyproject.toml").read_text(), re.M))
+    python = "cp%d%d" % sys.version_info[:2]
+    tag = "-".join([python, python + sys.abiflags, re.sub(r"\W", "_", sysconfig.get_platform())])
+    name = "%s-%s" % (PACKAGE, version())
+    info = name + ".dist-info/"
+    about = ["Metadata-Version: 2.1", "Name: " + project["name"], "Version: " + version()]
+    about += ["Summary: " + project["description"], "Requires-Python: " + project["requires-python"], ""]
+    wheel = ["Wheel-Version: 1.0", "Generator: " + PACKAGE, "Root-Is-Purelib: false", "Tag: " + tag, ""]
+    sources = "__init__.py", "__init__.pyi", "py.typed"
+    files = {PACKAGE + "/" + source: (HERE / PACKAGE / source).read_bytes() for source in sources}
     with tempfile.TemporaryDirectory() as folder:
-        target = os.path.join(folder, "_escape.so")
-        compile_extension(target)
-        with open(target, "rb") as file:
-            compiled = file.read()
-    name = "-".join((PACKAGE, version()) + tags()) + ".whl"
-    record = []
-    with zipfile.ZipFile(os.path.join(wheel_directory, name), "w", zipfile.ZIP_DEFLATED) as archive:
-        # Each file has the same time, so that the same files make the same wheel.
-        for path, content in files(compiled):
+        compile_extension(Path(folder, "_escape.so"))
+        files[PACKAGE + "/_escape" + sysconfig.get_config_var("EXT_SUFFIX")] = Path(folder, "_escape.so").read_bytes()
+    files[info + "METADATA"] = "\n".join(about).encode()
+    files[info + "WHEEL"] = "\n".join(wheel).encode()
+    record = ""
+    for path, content in files.items():
+        digest = base64.urlsafe_b64encode(hashlib.sha256(content).digest()).rstrip(b"=").decode()
+        record += "%s,sha256=%s,%d\n" % (path, digest, len(content))
+    files[info + "RECORD"] = (record + info + "RECORD,,\n").encode()
+    with zipfile.ZipFile(Path(wheel_directory, "%s-%s.whl" % (name, tag)), "w", zipfile.ZIP_DEFLATED) as archive:
+        for path, content in files.items():
+            # Each file has the same time, so that the same files make the same wheel.
             archive.writestr(zipfile.ZipInfo(path), content, zipfile.ZIP_DEFLATED)
-            digest = base64.urlsafe_b64encode(hashlib.sha256(content).digest()).rstrip(b"=").decode()
-            record.append("%s,sha256=%s,%d" % (path, digest, len(content)))
-        listing = dist_info() + "/RECORD"
-        archive.writestr(zipfile.ZipInfo(listing), "\n".join(record + [listing + ",,", ""]), zipfile.ZIP_DEFLATED)
-    return name
+    return "%s-%s.whl" % (name, tag)

@@ -362,6 +362,16 @@ def test_memory():
         assert took <= max(output + copy, 2 * copy) + 2_000_000, (name, character, kind, took, output, copy)
 
 
+def test_markup_memory():
+    """300 MB as Markup take twice the memory of the output, since Python makes a subclass of str only as a copy"""
+    if not os.path.exists("/proc/self/clear_refs"):
+        raise Skipped("there is no /proc")
+    program = MEASURED.replace("(name)(text)", "(name)(text, markup=True)")
+    for name, character, size in [("html", "'<aaa'", 75_000_000), ("script", "'a'", 300_000_000), ("html", r"'\u044f<'", 60_000_000)]:
+        took, output, copy = map(int, in_another_python(program, name, character, str(size), "str").split())
+        assert took <= 2 * output + copy + 2_000_000, (name, character, took, output, copy)
+
+
 REFUSED = r"""
 import resource, escape_simd
 texts = ["a<" * 10_000_000, b"a<" * 10_000_000, "\u044f<" * 7_000_000]

@@ -12,6 +12,22 @@ not UTF-8 raise UnicodeDecodeError. html and script return Markup if they are ca
 templates do not escape again.
 """
 
-from ._escape import Markup, __version__, html, json, script
+from . import _escape
+from ._escape import html, json, script
 
 __all__ = ["Markup", "__version__", "html", "json", "script"]
+__version__ = "%d.%d.%d" % (_escape.version // 10000, _escape.version // 100 % 100, _escape.version % 100)
+
+
+class Markup(str):
+    """A str that is HTML already: what looks for __html__, as Jinja and MarkupSafe do, does not escape it again."""
+
+    __slots__ = ()
+
+    def __html__(self):
+        """Returns the text itself."""
+        return self
+
+
+# With markup=True the calls return it.
+_escape.Markup = Markup

@@ -24,7 +24,7 @@ pub fn format_target<const HTML: bool>(
     target: &mut Target<'_, 16>,
     ticks: &mut Ticks,
 ) -> usize
-    requires { bound (mode_of HTML) (length value.now) ≤ length (bytes_of target.old) }
+    requires has_room { bound (mode_of HTML) (length value.now) ≤ length (bytes_of target.old) }
     ensures { IsFormatted (mode_of HTML) value.now
         target.old target.new result ticks.old ticks.new }
 {
@@ -38,7 +38,7 @@ pub fn format_target<const HTML: bool>(
 /// let len = v128::format_string::<true>("<", &mut dst); // 4
 /// ```
 pub fn format_string<const HTML: bool>(value: &str, dst: &mut [u8]) -> usize
-    requires { bound (mode_of HTML) (length value.now) ≤ length dst.old }
+    requires has_room { bound (mode_of HTML) (length value.now) ≤ length dst.old }
     ensures written { IsWritten 16 (mode_of HTML) value.now dst.old dst.new result }
     ensures headline { IsOnlyOutput (mode_of HTML) (take result dst.new) (chars value.now) }
     ensures equal_texts { IsOfOneText (mode_of HTML) value.now (take result dst.new) }
@@ -56,7 +56,7 @@ pub fn format_string<const HTML: bool>(value: &str, dst: &mut [u8]) -> usize
 /// none that is 16 or more past the last one written.
 #[inline(never)]
 pub fn format_script_target(value: &str, target: &mut Target<'_, 16>, ticks: &mut Ticks) -> usize
-    requires { bound script (length value.now) ≤ length (bytes_of target.old) }
+    requires has_room { bound script (length value.now) ≤ length (bytes_of target.old) }
     ensures { IsFormatted script value.now
         target.old target.new result ticks.old ticks.new }
 {
@@ -70,7 +70,7 @@ pub fn format_script_target(value: &str, target: &mut Target<'_, 16>, ticks: &mu
 /// let len = v128::format_script_string("<", &mut dst); // 8
 /// ```
 pub fn format_script_string(value: &str, dst: &mut [u8]) -> usize
-    requires { bound script (length value.now) ≤ length dst.old }
+    requires has_room { bound script (length value.now) ≤ length dst.old }
     ensures written { IsWritten 16 script value.now dst.old dst.new result }
     ensures headline { IsOnlyOutput script (take result dst.new) (chars value.now) }
     ensures equal_texts { IsOfOneText script value.now (take result dst.new) }

@@ -7,7 +7,7 @@ use Rattle.escape_lanes.specs.Written.{bytes_of}
 use Rattle.escape_lanes.specs.declared.simd.target.Target.{Target}
 use Rattle.escape_simd.specs.Stretch.{Cost, Escapes, HasTail, HasVectors, Stretch, reach, rest_length, state}
 use Rattle.escape_simd.proofs.RestSteps.{rest-bounds}
-use Rattle.escape_simd.proofs.Stretches.{onward_to, reach-bounds, standing, stretch-on}
+use Rattle.escape_simd.proofs.Stretches.{onward_to, reach-bounds, stretch-on}
 use Rattle.escape_simd.proofs.Vectors.{passed-to}
 
 -- The bytes before `at` were passed, at a cost of a vector for each run and each whole vector. No write reached further past what the
@@ -15,17 +15,6 @@ use Rattle.escape_simd.proofs.Vectors.{passed-to}
 pub record BodySoFar {N : ℕ} (mode : Mode) (src : List ℕ) (old new : Target N) (at to end ticks_old ticks_new : ℕ) : Type 0 where
   pub stretch : Stretch mode (rest_length mode src at + reach true N) src old new 0 at to end
   pub cost : Cost mode src 0 at (at / N) 0 old new ticks_old ticks_new
-
--- nothing was passed
-pub body-begin : {N : ℕ} (mode : Mode) (src : List ℕ) (t : Target N) (to ticks : ℕ) → BodySoFar mode src t t 0 to to ticks ticks
-body-begin {N} mode src t to ticks = record {
-  stretch = standing mode (rest_length mode src 0 + reach true N) src t 0 to (omega arith);
-  cost = record {
-    stored = omega arith;
-    covered = omega arith;
-    classified = omega arith;
-  };
-}
 
 -- one cost and the next
 cost-onward : {N : ℕ} {mode : Mode} {src : List ℕ} {at i next v1 v2 : ℕ} {old mid new : Target N} {t0 t1 t2 : ℕ} (vectors : ℕ) → v1 + v2 ≤ vectors

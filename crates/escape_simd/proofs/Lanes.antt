@@ -1,6 +1,6 @@
 -- What a mask tells of the text that its vector holds.
-use Rattle.std.proofs.Common.{◌≡◌, ℕ, zero, suc, ◌+◌, ◌-◌, ◌<◌, ◌≤◌, Bool, true, false, true≢false, ◌||◌, List, [], ◌∷◌, ◌++◌, length, take, drop, get_or, map, replicate, refl, sym, ap, ◌∙◌, arith, length-append, length-take-le, length-drop}
-use Rattle.escape_simd.proofs.Words.{cases_Bool, drop-drop, drop-take, take-take, take_all, IsWithin, Tells, false_from_ne_true, length-take, length-map, get_or-take, get_or-drop, get_or-map, get_or_past, get_or_append_left, get_or-append_right, get_or-replicate, length-replicate, zip2, first_set, none_set, clear_first, clear_last, Mode, needs_escape, HoldsFlags}
+use Rattle.std.proofs.Common.{◌≡◌, ℕ, zero, suc, ◌+◌, ◌-◌, ◌<◌, ◌≤◌, Bool, true, false, ◌||◌, List, [], ◌∷◌, ◌++◌, length, take, drop, get_or, map, replicate, refl, sym, ap, ◌∙◌, arith, length-append, length-take-le, length-drop}
+use Rattle.escape_simd.proofs.Words.{cases_Bool, drop-drop, drop-take, take-take, take_all, IsWithin, Tells, length-take, length-map, get_or-take, get_or-drop, get_or-map, get_or_past, get_or_append_left, get_or-append_right, get_or-replicate, length-replicate, zip2, first_set, none_set, clear_first, clear_last, Mode, needs_escape, HoldsFlags}
 use Rattle.escape_simd.proofs.Texts.{IsClean}
 
 -- no lane before the first set one is set
@@ -23,10 +23,6 @@ unfolding none_set
 none_set-at (false ∷ bs) (suc k) h = none_set-at bs k h
 none_set-at (false ∷ bs) zero h = refl
 none_set-at bs k h = grind (arith, get_or_past)
-
--- where a lane is set, some is
-pub some_from_set : (bs : List Bool) (k : ℕ) → get_or bs k false ≡ true → none_set bs ≡ false
-some_from_set bs k set = false_from_ne_true (none_set bs) (λ none. true≢false (sym set ∙ none_set-at bs k none))
 
 -- and the first one is no later
 pub first_set-least : (bs : List Bool) (k : ℕ) → get_or bs k false ≡ true → first_set bs ≤ k

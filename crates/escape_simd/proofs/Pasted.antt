@@ -1,5 +1,5 @@
 -- A vector escaped in blocks, block after block.
-use Rattle.std.proofs.Common.{◌≡◌, ℕ, ◌+◌, ◌-◌, ◌*◌, ◌/◌, ◌<◌, ◌≤◌, min, Bool, true, false, cond, not, ◌&&◌, ◌||◌, List, [], ◌++◌, length, take, drop, map, replicate, nat_eq, get_or, refl, sym, ap, ◌∙◌, arith, length-append, length-take-le, length-drop}
+use Rattle.std.proofs.Common.{◌≡◌, ℕ, ◌+◌, ◌-◌, ◌*◌, ◌/◌, ◌<◌, ◌≤◌, min, Bool, true, false, cond, not, ◌&&◌, ◌||◌, List, ◌++◌, length, take, drop, map, replicate, nat_eq, get_or, refl, sym, ap, ◌∙◌, arith, length-append, length-take-le, length-drop}
 use Rattle.escape_simd.proofs.Words.{IsWithin, Tells, cases_Bool, paste, nat_tests, drop-drop, length-map, take-map, take-take, get_or-take, get_or-drop, get_or_past, bits_of, first_set, length-bits_of, Mode, bytes_of, stored_of, Target, shortened, flag_count, flagged_blocks, put_apart, IsBlock, Stretch, HasBlocks}
 use Rattle.std.proofs.lemmas.Simd.{length-replicate}
 use Rattle.std.proofs.lemmas.List.Sums.{count_by-le-length}
@@ -112,20 +112,12 @@ module _ {mode : Mode} {src : List ℕ} (f : ℕ) {at valid to size : ℕ} (h : 
         let there : get_or (take valid (drop at src)) k 0 ≡ get_or src (at + k) 0 = get_or-take valid (drop at src) k 0 (omega (arith, few)) ∙ get_or-drop at src k 0 in
         grind (arith, cases_Bool)
 
-    -- 16 bytes can be loaded there
-    pub next-inside : at + 8 * block + 16 ≤ length src
-    next-inside = omega (arith, h.inside, more)
-
     -- and there is room for a block
     pub next-room : p + 16 ≤ length (bytes_of mid)
     next-room = omega (arith, d.near, d.stretch.same_slice.len, h.room, size_is, more)
 
     -- these, shortened
     module _ {v : List ℕ} (shorter : v ≡ map shortened (take 16 rest)) where
-      -- there are 16
-      pub length-shortened : length v ≡ 16
-      length-shortened = ap length shorter ∙ length-map (take 16 rest) shortened ∙ length-take-le 16 rest (omega (arith, next-inside, length-drop (at + 8 * block) src))
-
       -- with the block one more is done
       pub done-block : {fs : List Bool} {new : Target N} {end : ℕ} → fs ≡ flags → IsBlock fs (take 8 v) mid new p end → AreDone mode src bits old new at valid to end (block + 1)
       done-block {fs} {new} {end} told w =

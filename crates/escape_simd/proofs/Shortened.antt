@@ -1,8 +1,7 @@
 -- Bytes with a short escape, and what stands for them.
-use Rattle.std.proofs.Common.{◌≡◌, ℕ, ◌+◌, ◌*◌, ◌/◌, ◌%◌, ◌<◌, Bool, true, false, not, ◌&&◌, ◌||◌, List, [], ◌∷◌, length, take, drop, map, nat_eq, get_or, refl, sym, ap, ◌∙◌, arith}
+use Rattle.std.proofs.Common.{◌≡◌, ℕ, ◌+◌, ◌*◌, ◌/◌, ◌%◌, ◌<◌, Bool, true, false, not, ◌&&◌, ◌||◌, List, [], ◌∷◌, length, take, drop, map, nat_eq, refl, sym, ap, ◌∙◌, arith}
 use Rattle.escape_simd.proofs.Lanes.{part-later}
 use Rattle.escape_simd.proofs.Words.{drop-map, take-map, take-take, agree_below, agree_below_at, nat_tests, Mode, json, html, script, needs_escape, replacement, shortened, passed}
-use Rattle.std.proofs.lemmas.Bool.{eqb-true}
 use Rattle.std.proofs.lemmas.Slice.Eq.{bytes_eq-Decides}
 use Rattle.std.specs.Str.{bytes_eq}
 use Rattle.escape_simd.proofs.ReplacementLemmas.{passed-one}

@@ -5,7 +5,7 @@ use Rattle.escape_simd.proofs.Escapes.{passed-after, reach-few}
 use Rattle.escape_simd.proofs.Texts.{first-here, next-here, one≤passed, runs_after-≤, runs_stop-here}
 use Rattle.escape_simd.proofs.Stretches.{onward_to, standing, stored_ahead, stretch-on}
 use Rattle.escape_simd.proofs.RestSteps.{clean_escaped, clean_inner, clean_rest, clean_runs}
-use Rattle.escape_simd.proofs.Lanes.{CleanFrom, cleared-later, first-set, first_set-here, first_set-least, held-cleared, held-first, held-further, held-none, none-before, some_from_set}
+use Rattle.escape_simd.proofs.Lanes.{CleanFrom, cleared-later, first-set, first_set-here, first_set-least, held-cleared, held-first, held-further, held-none, none-before}
 
 -- The bytes of a vector from `next` on are left, with what is written at `to`. The mask has their flags alone.
 pub record IsLeftAt (mode : Mode) (N slack : ℕ) (src : List ℕ) (at valid next to size : ℕ) (bits : List Bool) : Type 0 where

@@ -4,7 +4,7 @@ use Rattle.escape_simd.proofs.Words.{cases_Bool, drop-drop, get_or-drop, get_or-
 use Rattle.escape_simd.proofs.Escapes.{other-byte, passed-alone}
 use Rattle.escape_simd.proofs.Gaps.{gaps-paid_mask}
 use Rattle.escape_simd.proofs.Lanes.{CleanFrom, held-shifted, held-whole, none_clean, none_set-at}
-use Rattle.escape_simd.proofs.Stretches.{ended, onward, onward_to, standing, stored_ahead, stretch-later, widened}
+use Rattle.escape_simd.proofs.Stretches.{ended, onward, onward_to, stored_ahead, stretch-later, widened}
 use Rattle.escape_simd.proofs.Texts.{passed_clean-here}
 use Rattle.escape_simd.proofs.Turns.{ahead-front, ahead-passed, ahead-runs}
 
@@ -15,14 +15,6 @@ passed-to mode src border = record {
   near = omega arith;
   exact = λ bytewise. refl;
   clean = λ p late early. absurd (omega (arith, late, early));
-}
-
--- no byte of the text
-pub escapes-none : {N : ℕ} (mode : Mode) (slack : ℕ) (src : List ℕ) (t : Target N) (to ticks : ℕ) → Escapes mode slack 0 0 0 src (state t 0 to ticks) (state t 0 to ticks)
-escapes-none mode slack src t to ticks = record {
-  stretch = standing mode slack src t 0 to (omega arith);
-  passed = passed-to mode src 0;
-  cost = record { stored = omega arith; covered = omega arith; classified = omega arith };
 }
 
 -- clean bytes that were stored are passed

@@ -41,14 +41,6 @@ all-inner {N} {mode} {slack} {text} {old} {new} {to} {end} s =
     let none : inner mode (drop (length text) text) ≡ [] = ap (inner mode) (drop_all (length text) text (omega arith)) ∙ inner-nil mode in
     record { ends = grind (arith, s.limit, rest-is); written = grind (arith, s.bytes, append-nil); kept = s.kept }
 
--- a quote that stands there needs no writing
-pub quoted-before : (mode : Mode) (bytes : List ℕ) (opened : ℕ) → opened ≡ length (quote_of mode) → take (length (quote_of mode)) bytes ≡ quote_of mode → IsQuotedAt mode bytes bytes 0 opened
-quoted-before mode bytes opened ends there = record {
-  ends = omega (arith, ends);
-  written = rw ends there;
-  kept = refl;
-}
-
 -- a text's bytes, and quotes around them
 pub whole_written : {lanes : ℕ} {mode : Mode} {text old first second new : List ℕ} {opened close count : ℕ} → IsQuotedAt mode old first 0 opened → IsInnerAt mode (reach true lanes) text first second opened close → IsQuotedAt mode second new close count
     → length first ≡ length old → length second ≡ length old → bound mode (length text) ≤ length old → 16 ≤ lanes → IsWritten lanes mode text old new count
@@ -103,19 +95,6 @@ module _ {N : ℕ} {mode : Mode} {text : List ℕ} {old first second new : Targe
         classified = omega (arith, c.classified, runs);
         writes = omega (arith, after.writes, after.quotes, after.stored, after.escaped, s.writes, s.quotes, before.writes, before.quotes, before.stored, before.escaped);
       }
-
--- over bytes of which the first alone had changed
-pub written-over : (lanes : ℕ) (mode : Mode) (text old mid new : List ℕ) (count : ℕ) → 16 ≤ lanes → drop 1 mid ≡ drop 1 old → IsWritten lanes mode text mid new count → IsWritten lanes mode text old new count
-written-over lanes mode text old mid new count several same w =
-    let b = bound-quotes mode (length text) in
-    record {
-      exact = w.exact;
-      ends = w.ends;
-      least = w.least;
-      most = w.most;
-      kept_bound = w.kept_bound ∙ drop_further mid old 1 (bound mode (length text)) (omega (arith, b)) same;
-      kept_past = w.kept_past ∙ drop_further mid old 1 (count + lanes) (omega (arith, several)) same;
-    }
 
 -- what stands for a text with no quotation marks, at the front of the bytes
 pub inner_written : (lanes : ℕ) (mode : Mode) (text old new : List ℕ) (count : ℕ) → IsInnerAt mode (reach true lanes) text old new 0 count → IsInnerWritten lanes mode text old new count

@@ -1,5 +1,5 @@
 -- What a stretch of a text did to a target, and what it cost.
-use Rattle.std.specs.Prelude.{min, ◌≡◌, ℕ, ◌+◌, ◌-◌, ◌*◌, ◌/◌, ◌<◌, ◌≤◌, Bool, true, false, List, ◌++◌, length, take, drop, slice_index, slice_index_or, if◌then◌else◌}
+use Rattle.std.specs.Prelude.{min, ◌≡◌, ℕ, ◌+◌, ◌-◌, ◌*◌, ◌<◌, ◌≤◌, Bool, true, false, List, ◌++◌, length, take, drop, slice_index, slice_index_or, if◌then◌else◌}
 use Rattle.std.specs.List.{prefix_len}
 use Rattle.escape_lanes.specs.Bits.{none_set}
 use Rattle.escape_lanes.specs.Mode.{Mode, json, html, script}

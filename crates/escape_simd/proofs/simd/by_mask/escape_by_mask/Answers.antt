@@ -1,4 +1,4 @@
-use Rattle.escape_simd.proofs.Words.{◌≡◌, ◌≤◌, ◌+◌, ◌-◌, ◌∙◌, ℕ, not, nat_eq, List, length, length-drop, take, drop, sym, subst, arith, take_all, bits_of, bytes_of, mode_numbered, asked_of, Escapes, IsWithin, reach, state}
+use Rattle.escape_simd.proofs.Words.{◌+◌, ◌-◌, ◌∙◌, ℕ, not, nat_eq, List, length, length-drop, take, drop, sym, subst, arith, take_all, bits_of, bytes_of, mode_numbered, asked_of, Escapes, IsWithin, reach, state}
 use denote.Param.{number, value_of}
 use Rattle.escape_simd.proofs.Lanes.{held-none}
 use Rattle.escape_simd.proofs.Stretches.{reach-bounds}

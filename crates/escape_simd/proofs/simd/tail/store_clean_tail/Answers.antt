@@ -1,4 +1,4 @@
-use Rattle.std.proofs.Common.{◌≡◌, ◌≤◌, ◌<◌, ◌+◌, ◌-◌, ◌/◌, ◌∙◌, true, List, ℕ, length, length-drop, take, drop, ap, sym, subst, arith}
+use Rattle.std.proofs.Common.{◌≡◌, ◌≤◌, ◌+◌, ◌-◌, ◌∙◌, true, List, ℕ, length, length-drop, take, drop, ap, sym, subst, arith}
 use Rattle.escape_simd.proofs.Words.{get_or-drop, take_all, mode_numbered, Escapes, reach, state}
 use Rattle.escape_simd.proofs.Lanes.{CleanFrom}
 use Rattle.escape_simd.proofs.Last.{one-begun, rest-escaped, tail-clean_back, tail-clean_front, two-begun, two-clean}

@@ -5,9 +5,9 @@ use Rattle.std.proofs.lemmas.Nat.{le-div}
 use Rattle.escape_lanes.specs.Mode.{Mode}
 use Rattle.escape_lanes.specs.Written.{bytes_of}
 use Rattle.escape_lanes.specs.declared.simd.target.Target.{Target}
-use Rattle.escape_simd.specs.Stretch.{Cost, Escapes, HasTail, HasVectors, Stretch, reach, rest_length, state}
+use Rattle.escape_simd.specs.Stretch.{Cost, Escapes, HasRoom, HasTail, HasVectors, Stretch, reach, rest_length, state}
 use Rattle.escape_simd.proofs.RestSteps.{rest-bounds}
-use Rattle.escape_simd.proofs.Stretches.{onward_to, reach-bounds, stretch-on}
+use Rattle.escape_simd.proofs.Stretches.{onward_to, reach-bounds, room-near, room-on}
 use Rattle.escape_simd.proofs.Vectors.{passed-to}
 
 -- The bytes before `at` were passed, at a cost of a vector for each run and each whole vector. No write reached further past what the
@@ -25,22 +25,19 @@ cost-onward vectors few a b = record {
   classified = omega (arith, a.classified, b.classified, few);
 }
 
-module _ {N : ℕ} (mode : Mode) (src : List ℕ) (old mid new : Target N) (at to end t0 t1 : ℕ) (several : 16 ≤ N) (so_far : BodySoFar mode src old mid at to end t0 t1) where
+module _ {N : ℕ} {mode : Mode} {src : List ℕ} {old mid : Target N} {at to end t0 t1 : ℕ} (so_far : BodySoFar mode src old mid at to end t0 t1) where
   -- there is room for vectors that follow
-  pub body-vectors : (vectors size : ℕ) → to + 6 * length src + 32 ≤ size → size ≡ length (bytes_of mid) → at + (vectors + 1) * N ≤ length src → at + 6 * (vectors * N) + N ≤ at + 6 * ((vectors + 1) * N) → HasVectors N vectors src at at end (length (bytes_of mid))
-  body-vectors vectors size room sized inside more =
-      let on = stretch-on so_far.stretch in let e : at + vectors * N - at ≡ vectors * N = omega arith in
-      record { inside = inside; room = omega (arith, room, sized, inside, on, e, more) }
+  pub body-vectors : (vectors : ℕ) → HasRoom mode (reach true N) src 0 (length src) to (length (bytes_of old)) → at + (vectors + 1) * N ≤ length src → (vectors + 1) * N ≡ vectors * N + N → HasVectors mode N vectors src at at end (length (bytes_of mid))
+  body-vectors vectors room inside more =
+      record { inside = inside; room = room-near (at + vectors * N) N (omega (arith, inside, more)) (omega arith) (omega (arith, inside, more)) (room-on so_far.stretch room) }
 
   -- and for the last bytes
-  pub body-rest : (size : ℕ) → to + 6 * length src + 32 ≤ size → size ≡ length (bytes_of mid) → length src < at + 2 * N → HasTail N src at end (length (bytes_of mid))
-  body-rest size room sized few =
-      let on = stretch-on so_far.stretch in let i = so_far.stretch.inside in
-      record { inside = i; few = few; room = omega (arith, room, sized, on, i) }
+  pub body-rest : HasRoom mode (reach true N) src 0 (length src) to (length (bytes_of old)) → length src < at + 2 * N → HasTail mode N src at end (length (bytes_of mid))
+  body-rest room few = record { inside = so_far.stretch.inside; few = few; room = room-on so_far.stretch room }
 
   -- so many vectors were passed
-  pub body-on : (vectors next close t2 : ℕ) → at + (vectors + 1) * N ≤ length src → at + (vectors + 1) * N ≡ at + vectors * N + N → (at / N + vectors) * N ≡ at / N * N + vectors * N → Escapes mode N (at + vectors * N) vectors 0 src (state mid at end t1) (state new next close t2) → BodySoFar mode src old new next to close t0 t2
-  body-on vectors next close t2 inside more whole e =
+  pub body-on : {new : Target N} {next close t2 : ℕ} (vectors : ℕ) → 16 ≤ N → at + (vectors + 1) * N ≤ length src → (vectors + 1) * N ≡ vectors * N + N → (at / N + vectors) * N ≡ at / N * N + vectors * N → Escapes mode N (at + vectors * N) vectors 0 src (state mid at end t1) (state new next close t2) → BodySoFar mode src old new next to close t0 t2
+  body-on {new} {next} {close} {t2} vectors several inside more whole e =
       let r = rest-bounds mode src next in let far = (reach-bounds true N several).0 in let l = e.stretch.limit in let p = e.passed in
       let w = div-mul-le_self at N in
       record {
@@ -49,9 +46,9 @@ module _ {N : ℕ} (mode : Mode) (src : List ℕ) (old mid new : Target N) (at t
       }
 
   -- all of it
-  pub body-all : (close t2 : ℕ) → Escapes mode (reach true N) (length src) ((length src - at) / N + 1) 0 src (state mid at end t1) (state new (length src) close t2)
+  pub body-all : {new : Target N} {close t2 : ℕ} → 16 ≤ N → Escapes mode (reach true N) (length src) ((length src - at) / N + 1) 0 src (state mid at end t1) (state new (length src) close t2)
       → Escapes mode (reach true N) (length src) (length src / N + 1) 0 src (state old 0 to t0) (state new (length src) close t2)
-  body-all close t2 e =
+  body-all several e =
       let i = so_far.stretch.inside in let l = e.stretch.limit in let none = (rest-bounds mode src (length src)).1 in
       let p = div-mul-le_self at N in let q = div-mul-le_self (length src - at) N in
       let w = le-div (at / N + (length src - at) / N) (length src) N (omega (arith, several)) (omega (arith, p, q, i)) in

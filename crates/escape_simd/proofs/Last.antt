@@ -1,11 +1,11 @@
 -- The last bytes of a text, held with zeros behind them.
 use Rattle.std.proofs.Common.{min, ◌≡◌, ℕ, ◌+◌, ◌-◌, ◌*◌, ◌/◌, ◌<◌, ◌≤◌, Bool, true, false, List, [], ◌++◌, length, take, drop, replicate, map, refl, sym, ap, subst, ◌∙◌, arith, append_assoc, append-nil, length-append, length-drop}
 use Rattle.std.proofs.Math.Nat.{div-eq_of_lt, div-eq_of_lt-le}
-use Rattle.escape_simd.proofs.Words.{append_cancel_right, drop_all, drop_at, get_or-drop, get_or_past, none_set, length-replicate, replicate-append-replicate, drop-append-le, drop-drop, take_all, take-append-le, clear_last, Mode, script, needs_escape, bytes_of, Target, inner, escaped_count, run_count, AreTail, IsWithin, Escapes, HoldsFlags, IsStored, IsVectorAt, Passed, state}
+use Rattle.escape_simd.proofs.Words.{append_cancel_right, drop_all, drop_at, get_or-drop, get_or_past, none_set, length-replicate, replicate-append-replicate, drop-append-le, drop-drop, take_all, take-append-le, clear_last, Mode, script, needs_escape, bytes_of, Target, inner, escaped_count, run_count, AreTail, IsWithin, Escapes, HasRoom, HoldsFlags, IsStored, IsVectorAt, Passed, state}
 use Rattle.escape_simd.proofs.Behind.{inner-behind, escaped-behind, get_or-behind, runs-behind}
 use Rattle.escape_simd.proofs.Lanes.{CleanFrom, get_or-clear_last, get_or-cleared_last, held-cut, held-none}
 use Rattle.escape_simd.proofs.ReplacementLemmas.{inner-nil}
-use Rattle.escape_simd.proofs.RestSteps.{rest-is}
+use Rattle.escape_simd.proofs.RestSteps.{rest-bounds, rest-is}
 use Rattle.escape_simd.proofs.Stretches.{ended, onward_to, stored_ahead}
 use Rattle.escape_simd.proofs.Texts.{escaped-empty, runs-empty}
 use Rattle.escape_simd.proofs.Turns.{ahead-front, ahead-passed, ahead-runs}
@@ -120,9 +120,18 @@ tail-rows text rows border passed next k is at inside = grind (arith, take_all, 
 -- The last bytes of a text from a place on, with zeros behind them
 module _ (mode : Mode) (slack n : ℕ) (text held : List ℕ) (next left k end : ℕ) (inside : next ≤ length text) (all : left ≡ length text - next) (is : held ≡ drop next text ++ zeros k) where
   -- they can be escaped as a vector
-  pub last-vector : (size : ℕ) (bits : List Bool) → left ≤ n → n ≤ k → HoldsFlags mode text next left next bits → end + 6 * left + slack ≤ size → IsVectorAt mode n slack held 0 left end size bits
+  pub last-vector : (size : ℕ) (bits : List Bool) → left ≤ n → n ≤ k → HoldsFlags mode text next left next bits → HasRoom mode slack text next (length text) end size → IsVectorAt mode n slack held 0 left end size bits
   last-vector size bits few free h room =
-      record { flags = grind (arith, holds-behind, holds-from); few = few; inside = grind (arith, length-held, length-drop {A = ℕ}); room = room }
+      let rest = drop next text in let long = length-drop next text in
+      let front = rest-is mode (rest ++ zeros k) 0 ∙ ap length (inner-behind mode rest k) ∙ length-append (inner mode rest) (inner mode (zeros k)) in
+      let back = rest-is mode (rest ++ zeros k) (0 + left) ∙ ap (λ xs. length (inner mode xs)) (drop_at rest (zeros k) (0 + left) (omega (arith, all, long))) in
+      let none = (rest-bounds mode text (length text)).1 in
+      record {
+        flags = grind (arith, holds-behind, holds-from);
+        few = few;
+        inside = grind (arith, length-held, length-drop {A = ℕ});
+        room = rw is (record { fits = omega (arith, room.fits, front, back, rest-is mode text next, none) });
+      }
 
   -- then all are
   pub last-all : {N : ℕ} (old new : Target N) (past close t0 t1 : ℕ) → Escapes mode slack (0 + left) 1 1 held (state old 0 end t0) (state new past close t1) → Escapes mode slack (length text) 1 1 text (state old next end t0) (state new (length text) close t1)

@@ -4,6 +4,7 @@ use Rattle.escape_simd.proofs.Words.{IsWithin, Tells, cases_Bool, paste, nat_tes
 use Rattle.std.proofs.lemmas.Simd.{length-replicate}
 use Rattle.std.proofs.lemmas.List.Sums.{count_by-le-length}
 use Rattle.escape_simd.proofs.Lanes.{first_set-here}
+use Rattle.escape_simd.proofs.RestSteps.{rest-between}
 use Rattle.escape_simd.proofs.PutApart.{AreMarked, blocks-none, blocks-one, blocks-onward, length-put_apart, marked-apart}
 use Rattle.escape_simd.proofs.Shortened.{KeepsClean, keeps-clean}
 use Rattle.escape_simd.proofs.Stretches.{pasted, ended, onward_at}
@@ -33,7 +34,6 @@ block-stretch mode clean src old new at k to end flags eight marked some w room 
 pub record AreDone {N : ℕ} (mode : Mode) (src : List ℕ) (bits : List Bool) (old new : Target N) (at valid to end blocks : ℕ) : Type 0 where
   pub stretch : Stretch mode 16 src old new at (at + min (8 * blocks) valid) to (end - (8 * blocks - valid))
   pub far : to + 8 * blocks ≤ end
-  pub near : end ≤ to + 16 * blocks
   pub stored : stored_of new + flagged_blocks blocks bits ≡ stored_of old + blocks
   pub few : blocks ≤ (valid + 7) / 8
 
@@ -114,7 +114,10 @@ module _ {mode : Mode} {src : List ℕ} (f : ℕ) {at valid to size : ℕ} (h : 
 
     -- and there is room for a block
     pub next-room : p + 16 ≤ length (bytes_of mid)
-    next-room = omega (arith, d.near, d.stretch.same_slice.len, h.room, size_is, more)
+    next-room =
+        let here : at + min (8 * block) valid ≡ at + 8 * block = omega (arith, more) in
+        let least = rest-between mode src (at + 8 * block) (at + valid) (omega (arith, more)) (omega (arith, h.inside)) in
+        omega (arith, rw here at d.stretch.limit, least, d.stretch.same_slice.len, h.room.fits, size_is, more)
 
     -- these, shortened
     module _ {v : List ℕ} (shorter : v ≡ map shortened (take 16 rest)) where
@@ -131,7 +134,6 @@ module _ {mode : Mode} {src : List ℕ} (f : ℕ) {at valid to size : ℕ} (h : 
           record {
             stretch = ended (onward_at d.stretch step (omega (arith, more)) (omega (arith, more))) next after;
             far = omega (arith, d.far, b.after);
-            near = omega (arith, d.near, b.after, count_by-le-length (λ b. b) flags, eight);
             stored = omega (arith, d.stored, b.written.stored, counted (flag_count flags), count, one);
             few = omega (arith, more);
           }

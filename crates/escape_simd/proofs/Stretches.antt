@@ -1,6 +1,6 @@
 -- Stretches of a text: one after another, of clean bytes, and of what one escape stands for.
 use Rattle.std.proofs.Common.{◌≡◌, ℕ, ◌+◌, ◌-◌, ◌*◌, ◌<◌, ◌≤◌, Bool, true, false, List, ◌++◌, length, take, drop, get_or, sym, ap, ◌∙◌, arith, append_assoc, length-append, length-take-le, length-drop, slice_range}
-use Rattle.escape_simd.proofs.Words.{paste, take-append-add, drop-drop, take-append-le, take-take, take_all, take_at, drop_at, append_cancel_right, flat_map-append, Mode, json, html, script, mode_of, needs_escape, replacement, bytes_of, stored_of, escaped_of, quotes_of, writes_of, IsSameSlice, Target, inner, passed, first_replacement, escaped_count, Stretch, IsStored, reach, run_reach}
+use Rattle.escape_simd.proofs.Words.{paste, take-append-add, drop-drop, take-append-le, take-take, take_all, take_at, drop_at, append_cancel_right, flat_map-append, Mode, json, html, script, mode_of, needs_escape, replacement, bytes_of, stored_of, escaped_of, quotes_of, writes_of, IsSameSlice, Target, inner, passed, first_replacement, escaped_count, HasRoom, Stretch, IsStored, reach, run_reach}
 use Rattle.std.proofs.lemmas.List.Folds.{drop_split}
 use Rattle.std.proofs.lemmas.List.Edits.{take-paste, drop-paste}
 use Rattle.escape_simd.proofs.RestSteps.{rest-is, rest-between}
@@ -27,6 +27,30 @@ standing mode slack src t at to inside = grind arith
 -- it ends no earlier than it began
 pub stretch-on : {N : ℕ} {mode : Mode} {slack : ℕ} {src : List ℕ} {old new : Target N} {at next to end : ℕ} → Stretch mode slack src old new at next to end → (to + (next - at) ≤ end) × (end ≤ to + 6 * (next - at))
 stretch-on {mode = mode} {src = src} {at = at} {next = next} s = grind (arith, rest-between mode src at next s.forward s.inside)
+
+-- Room
+
+-- what has room has it where a stretch ends
+pub room-on : {N : ℕ} {mode : Mode} {slack more : ℕ} {src : List ℕ} {old new : Target N} {at next to end stop : ℕ} → Stretch mode slack src old new at next to end → HasRoom mode more src at stop to (length (bytes_of old)) → HasRoom mode more src next stop end (length (bytes_of new))
+room-on s h = record { fits = omega (arith, s.limit, s.same_slice.len, h.fits) }
+
+-- and up to a nearer place, for the bytes behind that one and as many more
+pub room-near : {mode : Mode} {slack : ℕ} {src : List ℕ} {at stop to size : ℕ} (near more : ℕ) → near ≤ stop → stop ≤ length src → more ≤ slack + (stop - near) → HasRoom mode slack src at stop to size → HasRoom mode more src at near to size
+room-near {mode} {slack} {src} {at} {stop} near more before inside few h = record { fits = omega (arith, h.fits, few, rest-between mode src near stop before inside) }
+
+-- for as many bytes as there are
+pub room-least : {mode : Mode} {slack : ℕ} {src : List ℕ} {at stop to size : ℕ} → at ≤ stop → stop ≤ length src → HasRoom mode slack src at stop to size → to + (stop - at) + slack ≤ size
+room-least {mode} {slack} {src} {at} {stop} before inside h = omega (arith, h.fits, rest-between mode src at stop before inside)
+
+-- where there are six bytes for each
+pub room-six : (mode : Mode) (slack : ℕ) (src : List ℕ) (at stop to size : ℕ) → at ≤ stop → stop ≤ length src → to + 6 * (stop - at) + slack ≤ size → HasRoom mode slack src at stop to size
+room-six mode slack src at stop to size before inside fits = record { fits = omega (arith, fits, rest-between mode src at stop before inside) }
+
+-- of a text from a place on, as a text of its own
+pub room-later : {mode : Mode} {slack : ℕ} {src : List ℕ} {at stop to size : ℕ} (text : List ℕ) (i j : ℕ) → text ≡ drop at src → at + i ≡ stop → HasRoom mode slack src at stop to size → i ≡ j → HasRoom mode slack text 0 j to size
+room-later {mode} {slack} {src} {at} {stop} text i j is ends h same =
+    let r0 = rest-is mode (drop at src) 0 in let r1 = rest-is mode (drop at src) i ∙ ap (λ xs. length (inner mode xs)) (drop-drop i at src ∙ ap (λ k. drop k src) ends) in
+    rw (is, ← same) (record { fits = omega (arith, h.fits, r0, r1, rest-is mode src at, rest-is mode src stop) })
 
 -- one stretch, and then the next: no write reaches further past the end of both than `more`
 pub onward_to : {N : ℕ} {mode : Mode} {slack slack2 : ℕ} {src : List ℕ} {old mid new : Target N} {at i next to p end : ℕ} (more : ℕ)

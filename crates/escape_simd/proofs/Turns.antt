@@ -1,21 +1,20 @@
 -- How far the turns of a vector have come.
-use Rattle.std.proofs.Common.{◌≡◌, ℕ, zero, suc, ◌+◌, ◌-◌, ◌*◌, ◌<◌, ◌≤◌, Bool, true, false, true≢false, List, length, take, drop, get_or, refl, sym, ◌∙◌, arith, append_assoc}
-use Rattle.escape_simd.proofs.Words.{false_from_ne_true, take-take, take-add, bytes_of, first_set, none_set, clear_first, Mode, needs_escape, stored_of, Target, run_count, run_count_after, Stretch, CanStore, Escaped, Escapes, HoldsFlags, IsFinished, IsFlaggedAt, IsStored, IsVectorAt, IsVectorEnd, state}
+use Rattle.std.proofs.Common.{◌≡◌, ℕ, zero, suc, ◌+◌, ◌-◌, ◌*◌, ◌<◌, ◌≤◌, Bool, true, false, true≢false, List, length, take, drop, get_or, refl, sym, subst, ◌∙◌, arith, append_assoc}
+use Rattle.escape_simd.proofs.Words.{false_from_ne_true, take-take, take-add, bytes_of, first_set, none_set, clear_first, Mode, needs_escape, stored_of, Target, run_count, run_count_after, Stretch, CanStore, Escaped, Escapes, HasRoom, HoldsFlags, IsFinished, IsFlaggedAt, IsStored, IsVectorAt, IsVectorEnd, state}
 use Rattle.escape_simd.proofs.Escapes.{passed-after, reach-few}
 use Rattle.escape_simd.proofs.Texts.{first-here, next-here, one≤passed, runs_after-≤, runs_stop-here}
-use Rattle.escape_simd.proofs.Stretches.{onward_to, standing, stored_ahead, stretch-on}
+use Rattle.escape_simd.proofs.Stretches.{onward_to, room-least, standing, stored_ahead, stretch-on}
 use Rattle.escape_simd.proofs.RestSteps.{clean_escaped, clean_inner, clean_rest, clean_runs}
 use Rattle.escape_simd.proofs.Lanes.{CleanFrom, cleared-later, first-set, first_set-here, first_set-least, held-cleared, held-first, held-further, held-none, none-before}
 
 -- The bytes of a vector from `next` on are left, with what is written at `to`. The mask has their flags alone.
-pub record IsLeftAt (mode : Mode) (N slack : ℕ) (src : List ℕ) (at valid next to size : ℕ) (bits : List Bool) : Type 0 where
-  pub flags : HoldsFlags mode src at valid next bits
-  pub cleared : (k : ℕ) → get_or bits k false ≡ true → next ≤ at + k
+pub record IsLeftAt (mode : Mode) (N slack : ℕ) (src : List ℕ) (valid next to size : ℕ) (bits : List Bool) : Type 0 where
+  pub flags : HoldsFlags mode src 0 valid next bits
+  pub cleared : (k : ℕ) → get_or bits k false ≡ true → next ≤ k
   pub few : valid ≤ N
-  pub inside : at + valid + N ≤ length src
-  pub after : at ≤ next
-  pub before : next < at + valid
-  pub room : to + 6 * (at + valid - next) + slack ≤ size
+  pub inside : valid + N ≤ length src
+  pub before : next < valid
+  pub room : HasRoom mode slack src next valid to size
 
 -- the text's clean bytes from `from` on, as far as the border, stand in a target from `to` on
 abbrev pub CleanAhead : {N : ℕ} → Mode → List ℕ → Target N → ℕ → ℕ → ℕ → Type 0
@@ -26,7 +25,7 @@ CleanAhead mode src target from border to = (count : ℕ) → from + count ≤ b
 -- but the first were classified.
 pub record TurnsSoFar {N : ℕ} (mode : Mode) (slack : ℕ) (src : List ℕ) (old new : Target N) (valid next to end : ℕ) (bits : List Bool) (ticks_old ticks_new : ℕ) : Type 0 where
   pub eight : 8 ≤ slack
-  pub left : IsLeftAt mode N slack src 0 valid next end (length (bytes_of new)) bits
+  pub left : IsLeftAt mode N slack src valid next end (length (bytes_of new)) bits
   pub some : none_set bits ≡ false
   pub stretch : Stretch mode (valid - next + slack) src old new 0 next to end
   pub ahead : CleanAhead mode src new next valid end
@@ -62,10 +61,12 @@ pub turns-begin : {N : ℕ} {mode : Mode} {slack : ℕ} {src : List ℕ} {old ne
 turns-begin {mode = mode} {slack = slack} {src = src} {old = old} {new = new} {valid = valid} {to = to} {bits = bits} eight v some s =
     let first = (first-set mode src 0 valid 0 bits v.flags some).0 in let ahead = ahead-front mode src new 0 valid to valid (omega arith) s.ahead in
     let stretch = stored_ahead mode slack src old new 0 valid to s (omega arith) in
+    let border : 0 + valid ≡ valid = omega arith in
+    let room : HasRoom mode slack src 0 valid to (length (bytes_of new)) = rw (sym s.same_slice.len) at (subst (λ k. HasRoom mode slack src 0 k to (length (bytes_of old))) border v.room) in
     grind arith
 
 -- what is known of the first flagged byte of those that are left
-first-left : {N : ℕ} {mode : Mode} {slack : ℕ} {src : List ℕ} {valid next to size flagged : ℕ} {bits : List Bool} → IsLeftAt mode N slack src 0 valid next to size bits → none_set bits ≡ false → flagged ≡ first_set bits
+first-left : {N : ℕ} {mode : Mode} {slack : ℕ} {src : List ℕ} {valid next to size flagged : ℕ} {bits : List Bool} → IsLeftAt mode N slack src valid next to size bits → none_set bits ≡ false → flagged ≡ first_set bits
     → IsFlaggedAt mode src flagged × (next ≤ flagged) × (flagged < valid) × CleanFrom mode src next flagged
 first-left l some is = grind (arith, first-set, first_set-here, held-first)
 
@@ -78,7 +79,9 @@ module _ {N : ℕ} {mode : Mode} {slack : ℕ} {src : List ℕ} {old mid : Targe
 
   -- there is room for its entry
   pub turn-room : end + (flagged - next) + 8 ≤ length (bytes_of mid)
-  turn-room = omega (arith, turn-place, so_far.left.room, so_far.eight)
+  turn-room =
+      let least = room-least (omega (arith, so_far.left.before)) (omega (arith, so_far.left.inside)) so_far.left.room in
+      omega (arith, turn-place, least, so_far.eight)
 
   module _ {new : Target N} {after reached : ℕ} (done : Escaped mode src mid new flagged after (end + (flagged - next)) reached) where
     -- the place after it
@@ -100,6 +103,10 @@ module _ {N : ℕ} {mode : Mode} {slack : ℕ} {src : List ℕ} {old mid : Targe
     turn-runs : run_count_after mode true (drop after src) + 1 ≡ run_count mode (drop next src)
     turn-runs = rw done.place (omega (arith, first-here mode src flagged turn-place.0.inside turn-place.0.needed, ahead-runs mode src next flagged turn-place.1 turn-place.3))
 
+    -- what is left has room
+    turn-rest_room : HasRoom mode slack src after valid reached (length (bytes_of new))
+    turn-rest_room = record { fits = omega (arith, turn-stretch.limit, so_far.stretch.limit, so_far.left.room.fits, done.stretch.same_slice.len) }
+
     -- the mask that is left
     module _ {rest : List Bool} (cut : rest ≡ clear_first (first_set bits + 1) bits) where
       -- has the flags from there on
@@ -107,19 +114,19 @@ module _ {N : ℕ} {mode : Mode} {slack : ℕ} {src : List ℕ} {old mid : Targe
       turn-flags = grind (arith, turn-after, turn-place, held-cleared, held-further)
 
       -- and none before
-      turn-cleared : (k : ℕ) → get_or rest k false ≡ true → after ≤ 0 + k
+      turn-cleared : (k : ℕ) → get_or rest k false ≡ true → after ≤ k
       turn-cleared = grind (arith, none-before, cleared-later, turn-flags, turn-between)
 
       -- where it has some, bytes are left
-      pub turn-left : none_set rest ≡ false → IsLeftAt mode N slack src 0 valid after reached (length (bytes_of new)) rest
+      pub turn-left : none_set rest ≡ false → IsLeftAt mode N slack src valid after reached (length (bytes_of new)) rest
       turn-left some =
           let p = turn-place in let u = turn-after in let on = stretch-on done.stretch in let flags = turn-flags in let none = turn-cleared in
           let f = (first-set mode src 0 valid after rest turn-flags some).0 in let c = turn-cleared (first_set rest) (first_set-here rest some) in
-          let w = so_far.left in grind arith
+          let w = so_far.left in let room = turn-rest_room in grind arith
 
       -- where it has none, the last clean ones are
       pub turn-end : none_set rest ≡ true → IsVectorEnd mode N slack src valid after reached (length (bytes_of new))
-      turn-end none = grind (arith, turn-place, turn-after, stretch-on done.stretch, held-none mode src 0 valid after rest turn-flags (omega arith) none, turn-between, so_far.left)
+      turn-end none = let room = turn-rest_room in grind (arith, turn-place, turn-after, stretch-on done.stretch, held-none mode src 0 valid after rest turn-flags (omega arith) none, turn-between, so_far.left)
 
       -- where the run goes on, so do the turns
       pub turn-goes-on : none_set rest ≡ false → after ≡ first_set rest → TurnsSoFar mode slack src old new valid after to reached rest ticks_old ticks_new
@@ -131,7 +138,9 @@ module _ {N : ℕ} {mode : Mode} {slack : ℕ} {src : List ℕ} {old mid : Targe
       module _ (some : none_set rest ≡ false) (other : first_set rest ≡ after → ⊥) where
         -- the vector that begins there can be stored
         pub turn-stores : (after ≤ valid) × CanStore N slack src after (valid - after) reached (length (bytes_of new))
-        turn-stores = let l = turn-left some in (omega (arith, l.before), record { few = omega (arith, l.few); inside = omega (arith, l.inside, l.before); room = omega (arith, l.room, l.before) })
+        turn-stores =
+            let l = turn-left some in let least = room-least (omega (arith, l.before)) (omega (arith, l.inside)) l.room in
+            (omega (arith, l.before), record { few = omega (arith, l.few); inside = omega (arith, l.inside, l.before); room = omega (arith, least) })
 
         -- the next byte is clean
         turn-stops : needs_escape mode (get_or src after 0) ≡ false

@@ -1,10 +1,10 @@
 -- A vector of a text as a whole: stored where it is clean, and what blocks cost.
 use Rattle.std.proofs.Common.{◌≡◌, ℕ, ◌+◌, ◌-◌, ◌/◌, ◌<◌, ◌≤◌, Bool, true, false, ◌&&◌, List, ◌++◌, length, length-drop, length-take-le, map, replicate, take, drop, get_or, refl, sym, ap, subst, ◌∙◌, arith}
-use Rattle.escape_simd.proofs.Words.{cases_Bool, drop-drop, get_or-drop, get_or-map, get_or-take, get_or-zip2, length-map, nat_tests, zip2, take-take, bits_of, flagged_blocks, gaps, length-bits_of, none_set, Mode, is_long, script, needs_escape, replacement, stored_of, Target, passed, run_count, AreShort, Escapes, HasVectors, HoldsFlags, IsStored, IsVectorAt, Passed, Stretch, state}
+use Rattle.escape_simd.proofs.Words.{cases_Bool, drop-drop, get_or-drop, get_or-map, get_or-take, get_or-zip2, length-map, nat_tests, zip2, take-take, bits_of, flagged_blocks, gaps, length-bits_of, none_set, Mode, is_long, script, needs_escape, replacement, stored_of, Target, passed, run_count, AreShort, CanStore, Escapes, HasRoom, HasVectors, HoldsFlags, IsStored, IsVectorAt, Passed, Stretch, state}
 use Rattle.escape_simd.proofs.Escapes.{other-byte, passed-alone}
 use Rattle.escape_simd.proofs.Gaps.{gaps-paid_mask}
 use Rattle.escape_simd.proofs.Lanes.{CleanFrom, held-shifted, held-whole, none_clean, none_set-at}
-use Rattle.escape_simd.proofs.Stretches.{ended, onward, onward_to, stored_ahead, stretch-later, widened}
+use Rattle.escape_simd.proofs.Stretches.{ended, onward, onward_to, room-later, room-least, stored_ahead, stretch-later, widened}
 use Rattle.escape_simd.proofs.Texts.{passed_clean-here}
 use Rattle.escape_simd.proofs.Turns.{ahead-front, ahead-passed, ahead-runs}
 
@@ -113,14 +113,19 @@ holds-from mode src at i valid from start bits begins h = record {
 -- a vector of a text, as the first of a text of its own
 pub vector-later : (mode : Mode) (n slack : ℕ) (src text : List ℕ) (at valid to size : ℕ) (bits : List Bool) → text ≡ drop at src → IsVectorAt mode n slack src at valid to size bits → IsVectorAt mode n slack text 0 valid to size bits
 vector-later mode n slack src text at valid to size bits is v =
-    record { flags = grind (arith, holds-from, v.flags); few = v.few; inside = grind (arith, length-drop {A = ℕ}, v.inside); room = v.room }
+    record { flags = grind (arith, holds-from, v.flags); few = v.few; inside = grind (arith, length-drop {A = ℕ}, v.inside); room = room-later text valid (0 + valid) is refl v.room (omega arith) }
 
 -- a vector of which what came before it may have passed some bytes
-pub vector-left : (mode : Mode) (n : ℕ) (src : List ℕ) (at from to size : ℕ) (bits : List Bool) → 16 ≤ n → HoldsFlags mode src at n at bits → Passed mode src at from → HasVectors n 1 src at from to size
+pub vector-left : (mode : Mode) (n : ℕ) (src : List ℕ) (at from to size : ℕ) (bits : List Bool) → 16 ≤ n → HoldsFlags mode src at n at bits → Passed mode src at from → HasVectors mode n 1 src at from to size
     → IsVectorAt mode n n src from (n - (from - at)) to size (drop (from - at) bits ++ replicate (from - at) false)
 vector-left mode n src at from to size bits several held p v =
     let h = held-shifted mode src at n at bits held (from - at) in
-    record { flags = grind arith; few = omega arith; inside = omega (arith, v.inside, p.whole, p.near, several); room = omega (arith, v.room, p.whole, p.near, several) }
+    let border : at + 1 * n ≡ from + (n - (from - at)) = omega (arith, p.whole, p.near, several) in
+    record { flags = grind arith; few = omega arith; inside = omega (arith, v.inside, p.whole, p.near, several); room = subst (λ k. HasRoom mode n src from k to size) border v.room }
+
+-- a vector that is there can be stored
+pub vector-stores : {mode : Mode} {N slack : ℕ} {src : List ℕ} {at valid to size : ℕ} {bits : List Bool} → IsVectorAt mode N slack src at valid to size bits → CanStore N slack src at valid to size
+vector-stores v = let least = room-least (omega arith) (omega (arith, v.inside)) v.room in record { few = v.few; inside = omega (arith, v.inside); room = omega (arith, least) }
 
 -- a vector's flags as a number
 pub mask-held : (mode : Mode) (n : ℕ) (src : List ℕ) (at : ℕ) (truths bits : List Bool) → n ≤ 64 → at + n ≤ length src → truths ≡ map (needs_escape mode) (take n (drop at src)) → bits ≡ truths ++ replicate (64 - n) false → HoldsFlags mode src at n at bits

@@ -1,5 +1,5 @@
 -- A whole text: its bytes between quotes, or with none.
-use Rattle.std.proofs.Common.{◌≡◌, ℕ, ◌+◌, ◌*◌, ◌/◌, ◌≤◌, true, false, List, [], ◌++◌, length, take, drop, refl, sym, ap, ◌∙◌, arith, length-append, length-take-le, le_refl}
+use Rattle.std.proofs.Common.{◌≡◌, ℕ, ◌+◌, ◌*◌, ◌/◌, ◌≤◌, true, false, List, [], ◌++◌, length, take, drop, refl, sym, ap, ◌∙◌, arith, append_assoc, length-append, le_refl}
 use Rattle.std.proofs.lemmas.List.{append-nil, drop_all}
 use Rattle.escape_lanes.specs.Mode.{Mode, json, html, script}
 use Rattle.escape_lanes.specs.Written.{bytes_of}
@@ -7,7 +7,7 @@ use Rattle.escape_lanes.specs.declared.simd.target.Target.{Target}
 use Rattle.escape_simd.specs.Output.{inner, plain, bound, quote_of, quote_count}
 use Rattle.escape_simd.specs.Runs.{escaped_count, run_count}
 use Rattle.escape_simd.specs.Stretch.{Cost, Stretch, reach}
-use Rattle.escape_simd.specs.Formatted.{IsWritten, IsFormatted, IsInnerAt, IsInnerWritten, IsQuoted, IsQuotedAt}
+use Rattle.escape_simd.specs.Formatted.{IsWritten, IsFormatted, IsInnerWritten, IsQuoted, IsWrittenAt}
 use Rattle.escape_simd.proofs.RestSteps.{rest-is}
 use Rattle.escape_simd.proofs.Stretches.{drop_further}
 use Rattle.escape_simd.proofs.ReplacementLemmas.{inner-nil}
@@ -35,45 +35,46 @@ quote-short json = omega arith
 quote-short html = omega arith
 quote-short script = omega arith
 
+-- so many bytes has an output
+pub length-plain : (mode : Mode) (text : List ℕ) → length (plain mode text) ≡ length (inner mode text) + quote_count mode
+length-plain mode text =
+    omega (arith, two_quotes mode, ap length (plain-parts mode text), length-append (quote_of mode ++ inner mode text) (quote_of mode), length-append (quote_of mode) (inner mode text))
+
 -- all bytes of a text were passed: what stands for it is there
-pub all-inner : {N : ℕ} {mode : Mode} {slack : ℕ} {text : List ℕ} {old new : Target N} {to end : ℕ} → Stretch mode slack text old new 0 (length text) to end → IsInnerAt mode slack text (bytes_of old) (bytes_of new) to end
+pub all-inner : {N : ℕ} {mode : Mode} {slack : ℕ} {text : List ℕ} {old new : Target N} {to end : ℕ} → Stretch mode slack text old new 0 (length text) to end → IsWrittenAt slack (inner mode text) (bytes_of old) (bytes_of new) to end
 all-inner {N} {mode} {slack} {text} {old} {new} {to} {end} s =
     let none : inner mode (drop (length text) text) ≡ [] = ap (inner mode) (drop_all (length text) text (omega arith)) ∙ inner-nil mode in
     record { ends = grind (arith, s.limit, rest-is); written = grind (arith, s.bytes, append-nil); kept = s.kept }
 
--- a text's bytes, and quotes around them
-pub whole_written : {lanes : ℕ} {mode : Mode} {text old first second new : List ℕ} {opened close count : ℕ} → IsQuotedAt mode old first 0 opened → IsInnerAt mode (reach true lanes) text first second opened close → IsQuotedAt mode second new close count
-    → length first ≡ length old → length second ≡ length old → bound mode (length text) ≤ length old → 16 ≤ lanes → IsWritten lanes mode text old new count
-whole_written {lanes} {mode} {text} {old} {first} {second} {new} {opened} {close} {count} before between after len1 len2 room several =
-    let two = two_quotes mode in let b = bound-quotes mode (length text) in
-    let front : take close second ≡ quote_of mode ++ inner mode text = between.written ∙ ap (λ xs. xs ++ inner mode text) before.written in
-    let short = quote-short mode in let ends = between.ends in
-    let most = length-inner mode text in
-    let fits : length (take close second) ≡ close = length-take-le close second (omega (arith, ends, most, len2, before.ends, b, room)) in
-    let e = plain-parts mode text in
-    let same : take count new ≡ plain mode text = after.written ∙ ap (λ xs. xs ++ quote_of mode) front ∙ sym e in
-    let long : length (plain mode text) ≡ close + length (quote_of mode) = ap length (e ∙ ap (λ xs. xs ++ quote_of mode) (sym front)) ∙ length-append (take close second) (quote_of mode) ∙ ap (λ k. k + length (quote_of mode)) fits in
-    let kept : (k : ℕ) → close + reach true lanes ≤ k → close + 1 ≤ k → drop k new ≡ drop k old = λ k h g.
-    drop_further new second (close + 1) k g after.kept
-    ∙ drop_further second first (close + reach true lanes) k h between.kept
-    ∙ drop_further first old (0 + 1) k (omega (arith, g)) before.kept in
+-- one output, and then the next
+pub written-onward : {slack slack2 : ℕ} {first second old mid new : List ℕ} {to i end : ℕ} (more : ℕ) → IsWrittenAt slack first old mid to i → IsWrittenAt slack2 second mid new i end → i + slack ≤ end + more → slack2 ≤ more → IsWrittenAt more (first ++ second) old new to end
+written-onward {slack} {slack2} {first} {second} {old} {mid} {new} {to} {i} {end} more a b near few = record {
+  ends = omega (arith, a.ends, b.ends, length-append first second);
+  written = b.written ∙ ap (λ xs. xs ++ second) a.written ∙ append_assoc (take to old) first second;
+  kept = drop_further new mid (end + slack2) (end + more) (omega (arith, few)) b.kept ∙ drop_further mid old (i + slack) (end + more) near a.kept;
+}
+
+-- an output, at the front of the bytes
+pub whole_written : (lanes : ℕ) (mode : Mode) (text old new : List ℕ) (count : ℕ) → IsWrittenAt (reach true lanes) (plain mode text) old new 0 count → IsWritten lanes mode text old new count
+whole_written lanes mode text old new count at =
+    let most = length-inner mode text in let long = length-plain mode text in let further = drop_further new old (count + reach true lanes) in
     record {
-      exact = same;
-      ends = omega (arith, after.ends, long);
-      least = omega (arith, ends, most, before.ends, after.ends, two);
-      most = omega (arith, ends, most, before.ends, after.ends, two);
-      kept_bound = kept (bound mode (length text)) (omega (arith, ends, most, before.ends, b)) (omega (arith, ends, most, before.ends, b, short));
-      kept_past = kept (count + lanes) (omega (arith, after.ends)) (omega (arith, after.ends, several));
+      exact = at.written;
+      ends = omega (arith, at.ends);
+      least = omega (arith, at.ends, most, long);
+      most = omega (arith, at.ends, most, long);
+      kept_bound = further (bound mode (length text)) (omega (arith, at.ends, most, long, two_quotes mode, bound-quotes mode (length text))) at.kept;
+      kept_past = further (count + lanes) (omega arith) at.kept;
     }
 
--- the same over a target
+-- the bytes of a text were escaped to a target, between quotation marks
 module _ {N : ℕ} {mode : Mode} {text : List ℕ} {old first second new : Target N} {opened close count : ℕ}
-    (before : IsQuoted mode old first 0 opened) (between : Stretch mode (reach true N) text first second 0 (length text) opened close)
-    (after : IsQuoted mode second new close count) (room : bound mode (length text) ≤ length (bytes_of old)) (several : 16 ≤ N) where
+    (before : IsQuoted mode old first 0 opened) (between : Stretch mode (reach true N) text first second 0 (length text) opened close) (after : IsQuoted mode second new close count) where
   pub target_written : IsWritten N mode text (bytes_of old) (bytes_of new) count
   target_written =
-      let l1 = before.same_slice.len in let l2 = between.same_slice.len in
-      whole_written before.quoted (all-inner between) after.quoted (omega (arith, l1)) (omega (arith, l1, l2)) room several
+      let inside = all-inner between in let more = reach true N in
+      let all = written-onward more (written-onward more before.quoted inside (omega (arith, inside.ends)) (omega arith)) after.quoted (omega (arith, after.quoted.ends)) (omega arith) in
+      whole_written N mode text (bytes_of old) (bytes_of new) count (rw (plain-parts mode text) all)
 
   -- and its counts
   pub whole_formatted : {t0 t1 : ℕ} → Cost mode text 0 (length text) (length text / N + 1) 0 first second t0 t1 → IsFormatted mode text old new count t0 t1
@@ -97,7 +98,7 @@ module _ {N : ℕ} {mode : Mode} {text : List ℕ} {old first second new : Targe
       }
 
 -- what stands for a text with no quotation marks, at the front of the bytes
-pub inner_written : (lanes : ℕ) (mode : Mode) (text old new : List ℕ) (count : ℕ) → IsInnerAt mode (reach true lanes) text old new 0 count → IsInnerWritten lanes mode text old new count
+pub inner_written : (lanes : ℕ) (mode : Mode) (text old new : List ℕ) (count : ℕ) → IsWrittenAt (reach true lanes) (inner mode text) old new 0 count → IsInnerWritten lanes mode text old new count
 inner_written lanes mode text old new count at =
     let most = length-inner mode text in let further = drop_further new old (count + reach true lanes) in
     record {

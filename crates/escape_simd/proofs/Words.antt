@@ -29,7 +29,7 @@ pub use Rattle.escape_lanes.specs.Spread.{IsBlock, flag_count}
 pub use Rattle.escape_lanes.specs.Written.{IsSameSlice, Writes, bytes_of, escaped_of, quotes_of, stored_of, writes_of}
 pub use Rattle.escape_lanes.specs.declared.simd.target.Target.{Target}
 pub use Rattle.escape_simd.specs.Escaping.{IsEscaping, IsHarmless, IsOneLine}
-pub use Rattle.escape_simd.specs.Formatted.{IsFormatted, IsInnerAt, IsInnerWritten, IsQuoted, IsWritten}
+pub use Rattle.escape_simd.specs.Formatted.{IsFormatted, IsInnerWritten, IsQuoted, IsWritten, IsWrittenAt}
 unfoldable pub use Rattle.escape_simd.specs.Html.{entity_of}
 pub use Rattle.escape_simd.specs.Html.{AmpersandsBeginEntities, HtmlReads, IsHtmlItem, IsMarkupFree, IsOnlyHtml, entity, is_markup}
 unfoldable pub use Rattle.escape_simd.specs.Json.{short_escape}
@@ -45,5 +45,5 @@ pub use Rattle.escape_simd.specs.Runs.{escaped_count, run_count, run_count_after
 pub use Rattle.escape_simd.specs.Script.{HasNoRawMark, IsOnlyScript, IsSafeInScript, IsScriptFree, IsScriptItem, IsShortestScript, is_script_marked}
 pub use Rattle.escape_simd.specs.Spelling.{IsTextOf, Spells}
 unfoldable pub use Rattle.escape_simd.specs.Stretch.{rest_length}
-pub use Rattle.escape_simd.specs.Stretch.{AreTail, AreShort, CanStore, Cost, Escaped, Escapes, HasBlocks, HasTail, HasVectors, HoldsFlags, IsByteWise, IsFinished, IsFlaggedAt, IsStored, IsVectorAt, IsVectorEnd, Passed, Stretch, reach, run_end, run_reach, state}
+pub use Rattle.escape_simd.specs.Stretch.{AreTail, AreShort, CanStore, Cost, Escaped, Escapes, HasBlocks, HasRoom, HasTail, HasVectors, HoldsFlags, IsByteWise, IsFinished, IsFlaggedAt, IsStored, IsVectorAt, IsVectorEnd, Passed, Stretch, reach, run_end, run_reach, state}
 pub use mir.Syntax.{w8}

@@ -17,16 +17,16 @@ pub record IsWritten (lanes : ℕ) (mode : Mode) (text old new : List ℕ) (coun
   pub kept_bound : drop (bound mode (length text)) new ≡ drop (bound mode (length text)) old
   pub kept_past : drop (count + lanes) new ≡ drop (count + lanes) old
 
--- one quote was written or none, to bytes
-pub record IsQuotedAt (mode : Mode) (old new : List ℕ) (to end : ℕ) : Type 0 where
-  pub ends : end ≡ to + length (quote_of mode)
-  pub written : take end new ≡ take to old ++ quote_of mode
-  pub kept : drop (to + 1) new ≡ drop (to + 1) old
+-- An output stands in the bytes from `to` up to `end`. The bytes before it are left alone, and those `slack` past it.
+pub record IsWrittenAt (slack : ℕ) (output old new : List ℕ) (to end : ℕ) : Type 0 where
+  pub ends : end ≡ to + length output
+  pub written : take end new ≡ take to old ++ output
+  pub kept : drop (end + slack) new ≡ drop (end + slack) old
 
--- the same in a target
+-- one quote was written or none, to a target
 pub record IsQuoted {N : ℕ} (mode : Mode) (old new : Target N) (to end : ℕ) : Type 0 where
   pub same_slice : IsSameSlice old new
-  pub quoted : IsQuotedAt mode (bytes_of old) (bytes_of new) to end
+  pub quoted : IsWrittenAt 0 (quote_of mode) (bytes_of old) (bytes_of new) to end
   pub stored : stored_of new ≡ stored_of old
   pub escaped : escaped_of new ≡ escaped_of old
   pub quotes : quotes_of new ≡ quotes_of old + length (quote_of mode)
@@ -56,10 +56,3 @@ pub record IsInnerWritten (lanes : ℕ) (mode : Mode) (text old new : List ℕ) 
   -- bytes left alone
   pub kept_bound : drop (6 * length text + 32) new ≡ drop (6 * length text + 32) old
   pub kept_past : drop (count + lanes) new ≡ drop (count + lanes) old
-
--- What stands for a text, with no quotation marks, stands in the bytes from `to` up to `end`. The bytes before it are left alone,
--- and those `slack` past it.
-pub record IsInnerAt (mode : Mode) (slack : ℕ) (text old new : List ℕ) (to end : ℕ) : Type 0 where
-  pub ends : end ≡ to + length (inner mode text)
-  pub written : take end new ≡ take to old ++ inner mode text
-  pub kept : drop (end + slack) new ≡ drop (end + slack) old

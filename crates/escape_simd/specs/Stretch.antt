@@ -17,6 +17,11 @@ run_end mode src at = at + prefix_len (needs_escape mode) (drop at src)
 unfoldable pub rest_length : Mode → List ℕ → ℕ → ℕ
 rest_length mode src at = length (inner mode (drop at src))
 
+-- There is room in `size` bytes, from `to` on, for what a text's bytes from `at` up to `stop` become, and for `slack` bytes more.
+-- What was escaped has become part of the left side: so this stays the same fact at each place that a stretch comes to.
+pub record HasRoom (mode : Mode) (slack : ℕ) (src : List ℕ) (at stop to size : ℕ) : Type 0 where
+  pub fits : to + rest_length mode src at + slack ≤ size + rest_length mode src stop
+
 -- The bytes of a text from `at` up to `next` were escaped into a target from `to` up to `end`. No write
 -- reached further than `slack` bytes past `end`, and each was counted.
 pub record Stretch {N : ℕ} (mode : Mode) (slack : ℕ) (src : List ℕ) (old new : Target N) (at next to end : ℕ) : Type 0 where
@@ -95,12 +100,12 @@ pub record Escaped {N : ℕ} (mode : Mode) (src : List ℕ) (old new : Target N)
   pub stored : stored_of new ≡ stored_of old
 
 -- A mask has the flags of `valid` bytes of a text from `at` on, at most a vector of N. A vector can be loaded from each place from
--- `at` to their end, and there is room for what they become and for what their stores reach past it.
+-- `at` to their end, and they have room.
 pub record IsVectorAt (mode : Mode) (N slack : ℕ) (src : List ℕ) (at valid to size : ℕ) (bits : List Bool) : Type 0 where
   pub flags : HoldsFlags mode src at valid at bits
   pub few : valid ≤ N
   pub inside : at + valid + N ≤ length src
-  pub room : to + 6 * valid + slack ≤ size
+  pub room : HasRoom mode slack src at (at + valid) to size
 
 -- a vector can be stored at `to`, whose first `left` lanes are the text's bytes from `from` on
 pub record CanStore (N slack : ℕ) (src : List ℕ) (from left to size : ℕ) : Type 0 where
@@ -127,7 +132,7 @@ pub record IsVectorEnd (mode : Mode) (N slack : ℕ) (src : List ℕ) (border fr
   pub inside : border + N ≤ length src
   pub near : border ≤ from + N
   pub over : border ≤ from → Passed mode src border from
-  pub room : from < border → to + 6 * (border - from) + slack ≤ size
+  pub room : HasRoom mode slack src from border to size
 
 -- These were passed, after a run of escapes.
 pub record IsFinished {N : ℕ} (mode : Mode) (slack : ℕ) (src : List ℕ) (border : ℕ) (old new : State N) : Type 0 where
@@ -136,17 +141,16 @@ pub record IsFinished {N : ℕ} (mode : Mode) (slack : ℕ) (src : List ℕ) (bo
   pub stored : stored_of new.target + run_count mode (drop new.at src) ≤ stored_of old.target + run_count_after mode true (drop old.at src) + 1
   pub classified : new.ticks + stored_of old.target ≡ old.ticks + stored_of new.target
 
--- Vectors of a text from `at` on are there, and one more behind them. There is room for what their bytes from `from` on become,
--- and for a vector.
-pub record HasVectors (N vectors : ℕ) (src : List ℕ) (at from to size : ℕ) : Type 0 where
+-- Vectors of a text from `at` on are there, and one more behind them. Their bytes from `from` on have room, and a vector more.
+pub record HasVectors (mode : Mode) (N vectors : ℕ) (src : List ℕ) (at from to size : ℕ) : Type 0 where
   pub inside : at + (vectors + 1) * N ≤ length src
-  pub room : to + 6 * (at + vectors * N - from) + N ≤ size
+  pub room : HasRoom mode N src from (at + vectors * N) to size
 
--- The bytes of a text from `at` on are fewer than two vectors have, and there is room for what they become.
-pub record HasTail (N : ℕ) (src : List ℕ) (at to size : ℕ) : Type 0 where
+-- The bytes of a text from `at` on are fewer than two vectors have, and have room.
+pub record HasTail (mode : Mode) (N : ℕ) (src : List ℕ) (at to size : ℕ) : Type 0 where
   pub inside : at ≤ length src
   pub few : length src < at + 2 * N
-  pub room : to + 6 * (length src - at) + reach true N ≤ size
+  pub room : HasRoom mode (reach true N) src at (length src) to size
 
 -- A short text, with the flags of its last vector and the bytes for which a classifier answered them, and where it has as many
 -- bytes as one vector, those of its first one.
@@ -169,4 +173,4 @@ pub record HasBlocks (mode : Mode) (src : List ℕ) (at valid to size : ℕ) (bi
   pub short : AreShort mode valid src at bits
   pub few : valid ≤ 64
   pub inside : at + valid + 16 ≤ length src
-  pub room : to + 2 * valid + 16 ≤ size
+  pub room : HasRoom mode 16 src at (at + valid) to size

@@ -14,7 +14,7 @@ ghost use Rattle.escape_simd.specs.Script.{IsOnlyScript};
 
 use crate::kernel::Kernel;
 use crate::mode::Mode;
-use crate::simd::{HTML_MODE, JSON_MODE, SCRIPT_MODE, avx2, avx512, neon, sse2, v128, whole};
+use crate::simd::{HTML_MODE, JSON_MODE, SCRIPT_MODE, avx2, avx512, escape_at, neon, sse2, v128, whole};
 
 /// Writes the output of a text in the mode `mode` to the front of `dst`, with the kernel `kernel`. Returns the length
 /// of the output in bytes. The call allocates nothing and does not fail.
@@ -266,11 +266,12 @@ fn inner_by<const MODE: u8>(kernel: Kernel, value: &str, dst: &mut [u8]) -> usiz
     requires { 6 * length value.now + 32 ≤ length dst.old }
     ensures { IsInnerWritten (lanes_of kernel) (mode_numbered MODE) value.now dst.old dst.new result }
 {
+    let src = value.as_bytes();
     match kernel {
-        Kernel::V128 => whole::format_inner::<v128::Simd128u, MODE, 16>(value, dst),
-        Kernel::Sse2 => whole::format_inner::<sse2::Simd128u, MODE, 16>(value, dst),
-        Kernel::Neon => whole::format_inner::<neon::Simd128u, MODE, 16>(value, dst),
-        Kernel::Avx2 => whole::format_inner::<avx2::Simd256u, MODE, 32>(value, dst),
-        Kernel::Avx512 => whole::format_inner::<avx512::Simd512u, MODE, 64>(value, dst),
+        Kernel::V128 => escape_at::<v128::Simd128u, MODE, 16>(src, dst, 0),
+        Kernel::Sse2 => escape_at::<sse2::Simd128u, MODE, 16>(src, dst, 0),
+        Kernel::Neon => escape_at::<neon::Simd128u, MODE, 16>(src, dst, 0),
+        Kernel::Avx2 => escape_at::<avx2::Simd256u, MODE, 32>(src, dst, 0),
+        Kernel::Avx512 => escape_at::<avx512::Simd512u, MODE, 64>(src, dst, 0),
     }
 }

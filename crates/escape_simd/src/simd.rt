@@ -10,14 +10,13 @@ pub mod neon;
 pub mod sse2;
 mod store;
 mod tail;
-mod turns;
 pub mod util;
 pub mod v128;
 pub(crate) mod whole;
 
 pub(crate) use body::{escape_at, escape_chunks};
-pub(crate) use chunk::flags_at;
 pub use escape_lanes::simd::vector::{HTML_MODE, JSON_MODE, SCRIPT_MODE};
 pub use escape_lanes::simd::{BitMask, Flags, LoadLast, Mask, Simd, Vector, bits, target};
 pub(crate) use store::{load, load_last};
-pub(crate) use tail::{TailFlags, classify_pair, classify_short, escape_flagged_at};
+pub(crate) use tail::{classify_pair, classify_short};
+pub(crate) use whole::format_flagged;

@@ -2,9 +2,10 @@
 ghost use Rattle.std.specs.Prelude.{◌≡◌, ◌+◌, ◌*◌, ◌/◌, ◌<◌, ◌≤◌, true, length};
 ghost use Rattle.escape_lanes.specs.Written.{bytes_of};
 ghost use Rattle.escape_simd.specs.Modes.{mode_numbered};
-ghost use Rattle.escape_simd.specs.Formatted.{IsInnerAt};
+ghost use Rattle.escape_simd.specs.Formatted.{IsWrittenAt};
+ghost use Rattle.escape_simd.specs.Output.{inner};
 ghost use Rattle.escape_simd.specs.Parts.{IsPartAt};
-ghost use Rattle.escape_simd.specs.Stretch.{Escapes, HasVectors, reach, state};
+ghost use Rattle.escape_simd.specs.Stretch.{Escapes, HasRoom, reach, state};
 
 use crate::simd::Vector;
 use crate::simd::chunk::{chunk, whole_vector};
@@ -19,7 +20,7 @@ pub(crate) fn escape_bytes<V: Vector<N>, const MODE: u8, const N: usize>(
     to: usize,
     ticks: &mut Ticks,
 ) -> usize
-    requires { to + 6 * length src.now + 32 ≤ length (bytes_of target.old) }
+    requires { HasRoom (mode_numbered MODE) (reach true N) src.now 0 (length src.now) to (length (bytes_of target.old)) }
     ensures { Escapes (mode_numbered MODE) (reach true N) (length src.now) (length src.now / N + 1) 0 src.now (state target.old 0 to ticks.old) (state target.new (length src.now) result ticks.new) }
 {
     let mut at = 0;
@@ -42,7 +43,8 @@ pub(crate) fn escape_chunks<V: Vector<N>, const MODE: u8, const N: usize>(
     dst: &mut [u8],
     to: usize,
 ) -> (usize, usize)
-    requires { HasVectors N 4 src.now 0 0 to (length dst.old) }
+    requires inside { 5 * N ≤ length src.now }
+    requires room { to + 25 * N ≤ length dst.old }
     ensures { IsPartAt (mode_numbered MODE) (reach true N) src.now dst.old dst.new result.0 to result.1 }
 {
     let last = src.len() - 5 * N;
@@ -65,7 +67,7 @@ pub(crate) fn escape_at<V: Vector<N>, const MODE: u8, const N: usize>(
     to: usize,
 ) -> usize
     requires { to + 6 * length src.now + 32 ≤ length dst.old }
-    ensures { IsInnerAt (mode_numbered MODE) (reach true N) src.now dst.old dst.new to result }
+    ensures { IsWrittenAt (reach true N) (inner (mode_numbered MODE) src.now) dst.old dst.new to result }
 {
     let mut target = Target::<N>::new(dst);
     let mut ticks = Ticks::new();

@@ -1,19 +1,105 @@
-//! A vector of a text, by its mask: stored where it is clean, else escaped in blocks or by turns.
-ghost use Rattle.std.specs.Prelude.{◌≡◌, ◌+◌, ◌-◌, ◌/◌, ◌≤◌, length, take, drop};
-ghost use Rattle.escape_lanes.specs.Bits.{bits_of};
-ghost use Rattle.escape_lanes.specs.Spread.{flagged_blocks};
-ghost use Rattle.escape_lanes.specs.Classified.{asked_of, IsWithin};
+//! One vector of a text, by its mask: stored where it is clean, else escaped in blocks or by turns.
+ghost use Rattle.std.specs.Prelude.{◌≡◌, ◌+◌, ◌-◌, ◌≤◌, false, length, take, drop};
+ghost use Rattle.escape_lanes.specs.Bits.{bits_of, none_set};
+ghost use Rattle.escape_lanes.specs.Classified.{asked_of, IsWithin, Tells};
 ghost use Rattle.escape_lanes.specs.Written.{bytes_of};
 ghost use Rattle.escape_simd.specs.Modes.{mode_numbered};
-ghost use Rattle.escape_simd.specs.Stretch.{Escapes, IsByteWise, IsVectorAt, reach, state};
+ghost use Rattle.escape_simd.specs.Stretch.{CanStore, Escapes, IsByteWise, IsFinished, IsStored, IsVectorAt, IsVectorEnd, reach, state};
 
 use crate::simd::store::store;
-use crate::simd::turns::escape_by_turns;
-use crate::simd::util::{are_paid, are_short, escape_blocks};
+use crate::simd::util::{are_paid, are_short, escape, escape_blocks};
 use crate::simd::{SCRIPT_MODE, Vector};
 use escape_lanes::simd::BitMask;
-use escape_lanes::simd::classify::Classified;
+use escape_lanes::simd::classify::{Classified, classify_by_mask};
+use escape_lanes::simd::lane_bits::clear_first_lane;
 use escape_lanes::simd::target::{Target, Ticks};
+
+/// Stores the text's bytes from `from` on, where a run of escapes has ended, up to the vector's `border`. The mask has
+/// their flags, and classifies them.
+#[inline]
+fn store_tail<V: Vector<N>, const MODE: u8, const N: usize, const LAST: bool>(
+    src: &[u8],
+    border: usize,
+    from: usize,
+    mask: u64,
+    target: &mut Target<'_, N>,
+    to: usize,
+    ticks: &mut Ticks,
+)
+    requires before { from ≤ border }
+    requires told { Tells (mode_numbered MODE) src.now (bits_of 64 mask) from border }
+    requires room { CanStore N (reach LAST N) src.now from (border - from) to (length (bytes_of target.old)) }
+    ensures stored { IsStored (reach LAST N) src.now target.old target.new from (border - from) to }
+    ensures tick { ticks.new ≡ ticks.old + 1 }
+{
+    let classified = classify_by_mask::<MODE>(src, from, border, mask, ticks);
+    store::<V, N, LAST>(src, from, border - from, classified, target, to);
+}
+
+/// Passes the clean bytes from `from` on of a vector that ends at `border`, whose last escape was written.
+/// Returns the places after them.
+#[inline]
+fn finish_vector<V: Vector<N>, const MODE: u8, const N: usize, const LAST: bool>(
+    src: &[u8],
+    border: usize,
+    from: usize,
+    mask: u64,
+    target: &mut Target<'_, N>,
+    to: usize,
+    ticks: &mut Ticks,
+) -> (usize, usize)
+    requires told { Tells (mode_numbered MODE) src.now (bits_of 64 mask) from border }
+    requires end { IsVectorEnd (mode_numbered MODE) N (reach LAST N) src.now border from to (length (bytes_of target.old)) }
+    ensures { IsFinished (mode_numbered MODE) (reach LAST N) src.now border (state target.old from to ticks.old) (state target.new result.0 result.1 ticks.new) }
+{
+    if border <= from {
+        return (from, to);
+    }
+    store_tail::<V, MODE, N, LAST>(src, border, from, mask, target, to, ticks);
+    (border, to + (border - from))
+}
+
+/// Escapes the first `valid` bytes of the text's first vector, some of which are flagged. Returns the places
+/// after them.
+///
+/// The vector is stored. Then each turn passes the clean bytes before the next flagged one, writes what stands for that
+/// one, and where no flagged byte follows it stores the vector that begins there. The loop ends in the middle of a turn:
+/// so the compiler peels the first turn, and a vector with one escape takes no branch of the loop.
+#[inline(always)]
+pub(crate) fn escape_by_turns<V: Vector<N>, const MODE: u8, const N: usize, const LAST: bool>(
+    text: &[u8],
+    valid: usize,
+    mask: u64,
+    classified: Classified<'_>,
+    target: &mut Target<'_, N>,
+    to: usize,
+    ticks: &mut Ticks,
+) -> (usize, usize)
+    requires classified { IsWithin (take valid text.now) (asked_of classified) }
+    requires vector { IsVectorAt (mode_numbered MODE) N (reach LAST N) text.now 0 valid to (length (bytes_of target.old)) (bits_of 64 mask) }
+    requires some { none_set (bits_of 64 mask) ≡ false }
+    ensures { Escapes (mode_numbered MODE) (reach LAST N) valid 1 1 text.now (state target.old 0 to ticks.old) (state target.new result.0 result.1 ticks.new) }
+{
+    store::<V, N, LAST>(text, 0, valid, classified, target, to);
+    let mut left = mask;
+    let mut next = 0;
+    let mut end = to;
+    'turns: loop {
+        let flagged = left.first_offset();
+        let (after, reached) = escape::<MODE, N>(text, flagged, target, end + (flagged - next));
+        left = clear_first_lane(left);
+        if left.all_zero() {
+            return finish_vector::<V, MODE, N, LAST>(
+                text, valid, after, left, target, reached, ticks,
+            );
+        }
+        if left.first_offset() != after {
+            store_tail::<V, MODE, N, LAST>(text, valid, after, left, target, reached, ticks);
+        }
+        next = after;
+        end = reached;
+    }
+}
 
 /// Escapes the first `valid` bytes of the text's vector at `at`, whose flags a classifier answered. Returns the places after
 /// them, and in script mode after what of a separator goes past them.

@@ -53,29 +53,10 @@ pub(crate) fn store_lanes<V: Vector<N>, const N: usize, const LAST: bool>(
     target.store(to, v);
 }
 
-/// Stores a vector that was loaded from the text's bytes at `from`, the first `left` of which are to be written at
-/// `to`. A classifier answered for these.
+/// Stores the text's vector at `from`, the first `left` bytes of which are to be written at `to`. A classifier answered for
+/// these.
 ///
 /// Where `LAST`, these may be the text's last bytes.
-#[inline]
-pub(crate) fn store_loaded<V: Vector<N>, const N: usize, const LAST: bool>(
-    v: &V,
-    src: &[u8],
-    from: usize,
-    left: usize,
-    classified: Classified<'_>,
-    target: &mut Target<'_, N>,
-    to: usize,
-)
-    requires loaded { V.lanes v.now ≡ take N (drop from src.now) }
-    requires classified { IsWithin (take left (drop from src.now)) (asked_of classified) }
-    requires room { CanStore N (reach LAST N) src.now from left to (length (bytes_of target.old)) }
-    ensures { IsStored (reach LAST N) src.now target.old target.new from left to }
-{
-    store_lanes::<V, N, LAST>(v, &src[from..from + left], classified, target, to);
-}
-
-/// As [`store_loaded`], with the vector loaded here.
 #[inline]
 pub(crate) fn store<V: Vector<N>, const N: usize, const LAST: bool>(
     src: &[u8],
@@ -90,5 +71,5 @@ pub(crate) fn store<V: Vector<N>, const N: usize, const LAST: bool>(
     ensures { IsStored (reach LAST N) src.now target.old target.new from left to }
 {
     let v = load::<V, N>(src, from);
-    store_loaded::<V, N, LAST>(&v, src, from, left, classified, target, to);
+    store_lanes::<V, N, LAST>(&v, &src[from..from + left], classified, target, to);
 }

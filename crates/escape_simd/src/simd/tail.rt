@@ -4,9 +4,8 @@ ghost use Rattle.std.specs.List.{flat_map};
 ghost use Rattle.escape_lanes.specs.Bits.{bits_of, none_set};
 ghost use Rattle.escape_lanes.specs.Classified.{asked_of};
 ghost use Rattle.escape_lanes.specs.Written.{bytes_of};
-ghost use Rattle.escape_simd.specs.Formatted.{IsInnerAt};
 ghost use Rattle.escape_simd.specs.Modes.{mode_numbered};
-ghost use Rattle.escape_simd.specs.Stretch.{AreTail, Escapes, HasTail, HoldsFlags, reach, state};
+ghost use Rattle.escape_simd.specs.Stretch.{AreTail, Escapes, HasRoom, HasTail, HoldsFlags, reach, state};
 
 use crate::simd::Vector;
 use crate::simd::by_mask::escape_by_mask;
@@ -115,7 +114,7 @@ fn escape_before_last<V: Vector<N>, const MODE: u8, const N: usize>(
     requires few { length text.now < 2 * N }
     requires flagged { N ≤ length text.now → HoldsFlags (mode_numbered MODE) text.now 0 N 0 (bits_of 64 first) }
     requires classified { N ≤ length text.now → asked_of classified ≡ take N text.now }
-    requires room { to + 6 * length text.now + reach true N ≤ length (bytes_of target.old) }
+    requires room { HasRoom (mode_numbered MODE) (reach true N) text.now 0 (length text.now) to (length (bytes_of target.old)) }
     ensures { Escapes (mode_numbered MODE) (reach true N) (length text.now - N) (length text.now / N) (length text.now / N) text.now (state target.old 0 to ticks.old) (state target.new result.0 result.1 ticks.new) }
 {
     if text.len() < N {
@@ -136,7 +135,7 @@ pub(crate) fn escape_flagged_tail<V: Vector<N>, const MODE: u8, const N: usize>(
     ticks: &mut Ticks,
 ) -> usize
     requires flagged { AreTail (mode_numbered MODE) N text.now (bits_of 64 flags.first) (bits_of 64 flags.last) (asked_of flags.first_classified) (asked_of flags.last_classified) }
-    requires room { to + 6 * length text.now + reach true N ≤ length (bytes_of target.old) }
+    requires room { HasRoom (mode_numbered MODE) (reach true N) text.now 0 (length text.now) to (length (bytes_of target.old)) }
     ensures { Escapes (mode_numbered MODE) (reach true N) (length text.now) (length text.now / N + 1) (length text.now / N + 1) text.now (state target.old 0 to ticks.old) (state target.new (length text.now) result ticks.new) }
 {
     let (next, end) = escape_before_last::<V, MODE, N>(
@@ -173,7 +172,7 @@ pub(crate) fn store_clean_tail<'a, V: Vector<N>, const MODE: u8, const N: usize>
     to: usize,
     ticks: &mut Ticks,
 ) -> Result<usize, TailFlags<'a>>
-    requires { HasTail N src.now at to (length (bytes_of target.old)) }
+    requires { HasTail (mode_numbered MODE) N src.now at to (length (bytes_of target.old)) }
     ensures clean { IfOk result (λ end. Escapes (mode_numbered MODE) (reach true N) (length src.now) ((length src.now - at) / N + 1) 0 src.now (state target.old at to ticks.old) (state target.new (length src.now) end ticks.new)) }
     ensures flagged { IfErr result (λ flags. AreTail (mode_numbered MODE) N (drop at src.now) (bits_of 64 flags.first) (bits_of 64 flags.last) (asked_of flags.first_classified) (asked_of flags.last_classified)) }
     ensures unchanged { OnErr result (target.new ≡ target.old) }
@@ -215,28 +214,11 @@ pub(crate) fn escape_tail<V: Vector<N>, const MODE: u8, const N: usize>(
     to: usize,
     ticks: &mut Ticks,
 ) -> usize
-    requires { HasTail N src.now at to (length (bytes_of target.old)) }
+    requires { HasTail (mode_numbered MODE) N src.now at to (length (bytes_of target.old)) }
     ensures { Escapes (mode_numbered MODE) (reach true N) (length src.now) ((length src.now - at) / N + 1) 0 src.now (state target.old at to ticks.old) (state target.new (length src.now) result ticks.new) }
 {
     match store_clean_tail::<V, MODE, N>(src, at, target, to, ticks) {
         Ok(end) => end,
         Err(flags) => { escape_flagged_tail::<V, MODE, N>(&src[at..], flags, target, to, ticks) }
     }
-}
-
-/// As [`escape_flagged_tail`], to `dst`, and with no count.
-#[inline(always)]
-pub(crate) fn escape_flagged_at<V: Vector<N>, const MODE: u8, const N: usize>(
-    text: &[u8],
-    flags: TailFlags<'_>,
-    dst: &mut [u8],
-    to: usize,
-) -> usize
-    requires flagged { AreTail (mode_numbered MODE) N text.now (bits_of 64 flags.first) (bits_of 64 flags.last) (asked_of flags.first_classified) (asked_of flags.last_classified) }
-    requires room { to + 6 * length text.now + 32 ≤ length dst.old }
-    ensures { IsInnerAt (mode_numbered MODE) (reach true N) text.now dst.old dst.new to result }
-{
-    let mut target = Target::<N>::new(dst);
-    let mut ticks = Ticks::new();
-    escape_flagged_tail::<V, MODE, N>(text, flags, &mut target, to, &mut ticks)
 }

@@ -1,17 +1,17 @@
 //! A whole text: its bytes between quotation marks.
-ghost use Rattle.std.specs.Prelude.{◌≡◌, ◌+◌, ◌*◌, ◌<◌, ◌≤◌, length, take, drop, chars, IfOk, IfErr, OnErr};
+ghost use Rattle.std.specs.Prelude.{◌+◌, ◌*◌, ◌<◌, ◌≤◌, ◌++◌, true, length, take, chars};
 ghost use Rattle.escape_lanes.specs.Bits.{bits_of};
 ghost use Rattle.escape_lanes.specs.Classified.{asked_of};
 ghost use Rattle.escape_lanes.specs.Mode.{mode_of};
 ghost use Rattle.escape_lanes.specs.Written.{bytes_of};
-ghost use Rattle.escape_simd.specs.Formatted.{IsFormatted, IsInnerWritten, IsQuoted, IsWritten};
+ghost use Rattle.escape_simd.specs.Formatted.{IsFormatted, IsQuoted, IsWritten, IsWrittenAt};
 ghost use Rattle.escape_simd.specs.Headline.{IsOnlyOutput};
 ghost use Rattle.escape_simd.specs.Laws.{IsOfOneText};
 ghost use Rattle.escape_simd.specs.Modes.{mode_numbered};
-ghost use Rattle.escape_simd.specs.Output.{bound, quote_of};
-ghost use Rattle.escape_simd.specs.Stretch.{AreTail};
+ghost use Rattle.escape_simd.specs.Output.{bound, inner, quote_of};
+ghost use Rattle.escape_simd.specs.Stretch.{AreTail, reach};
 
-use crate::simd::body::{escape_at, escape_bytes};
+use crate::simd::body::escape_bytes;
 use crate::simd::tail::{TailFlags, escape_flagged_tail, store_clean_tail};
 use crate::simd::{HTML_MODE, JSON_MODE, Vector};
 use escape_lanes::simd::classify::Classified;
@@ -76,42 +76,23 @@ fn format_slice<V: Vector<N>, const MODE: u8, const N: usize>(value: &str, dst: 
     format::<V, MODE, N>(value, &mut target, &mut ticks)
 }
 
-/// As [`format_slice`], of a short text, if none of its bytes needs an escape. Else it writes at most the first
-/// quotation mark, and returns what a classifier answered.
-#[inline(always)]
-fn format_clean<'a, V: Vector<N>, const MODE: u8, const N: usize>(
-    text: &'a [u8],
-    dst: &mut [u8],
-) -> Result<usize, TailFlags<'a>>
-    requires few { length text.now < 2 * N }
-    requires room { bound (mode_numbered MODE) (length text.now) ≤ length dst.old }
-    ensures clean { IfOk result (λ count. IsWritten N (mode_numbered MODE) text.now dst.old dst.new count) }
-    ensures flagged { IfErr result (λ flags. AreTail (mode_numbered MODE) N text.now (bits_of 64 flags.first) (bits_of 64 flags.last) (asked_of flags.first_classified) (asked_of flags.last_classified)) }
-    ensures kept { OnErr result (drop 1 dst.new ≡ drop 1 dst.old) }
-{
-    let mut target = Target::<N>::new(dst);
-    let open = quote::<MODE, N>(&mut target, 0);
-    match store_clean_tail::<V, MODE, N>(text, 0, &mut target, open, &mut Ticks::new()) {
-        Ok(close) => Ok(quote::<MODE, N>(&mut target, close)),
-        Err(flags) => Err(flags),
-    }
-}
-
-/// As [`format_slice`], of a short text for which a classifier answered.
+/// Escapes a short text for which a classifier answered to `dst` from `to` on, and writes the last quotation mark. Returns the
+/// place after it.
 ///
 /// The parts of [`TailFlags`] are arguments of their own, so that they are passed in registers.
 #[inline(never)]
-fn format_flagged<V: Vector<N>, const MODE: u8, const N: usize>(
+pub(crate) fn format_flagged<V: Vector<N>, const MODE: u8, const N: usize>(
     text: &[u8],
     first: u64,
     first_classified: Classified<'_>,
     last: u64,
     last_classified: Classified<'_>,
     dst: &mut [u8],
+    to: usize,
 ) -> usize
     requires flagged { AreTail (mode_numbered MODE) N text.now (bits_of 64 first) (bits_of 64 last) (asked_of first_classified) (asked_of last_classified) }
-    requires room { bound (mode_numbered MODE) (length text.now) ≤ length dst.old }
-    ensures { IsWritten N (mode_numbered MODE) text.now dst.old dst.new result }
+    requires room { to + 6 * length text.now + 32 ≤ length dst.old }
+    ensures { IsWrittenAt (reach true N) (inner (mode_numbered MODE) text.now ++ quote_of (mode_numbered MODE)) dst.old dst.new to result }
 {
     let flags = TailFlags {
         first,
@@ -120,9 +101,7 @@ fn format_flagged<V: Vector<N>, const MODE: u8, const N: usize>(
         last_classified,
     };
     let mut target = Target::<N>::new(dst);
-    let mut ticks = Ticks::new();
-    let open = quote::<MODE, N>(&mut target, 0);
-    let close = escape_flagged_tail::<V, MODE, N>(text, flags, &mut target, open, &mut ticks);
+    let close = escape_flagged_tail::<V, MODE, N>(text, flags, &mut target, to, &mut Ticks::new());
     quote::<MODE, N>(&mut target, close)
 }
 
@@ -141,8 +120,10 @@ pub(crate) fn format_in_mode<V: Vector<N>, const MODE: u8, const N: usize>(
         return format_slice::<V, MODE, N>(value, dst);
     }
     let text = value.as_bytes();
-    match format_clean::<V, MODE, N>(text, dst) {
-        Ok(count) => count,
+    let mut target = Target::<N>::new(dst);
+    let open = quote::<MODE, N>(&mut target, 0);
+    match store_clean_tail::<V, MODE, N>(text, 0, &mut target, open, &mut Ticks::new()) {
+        Ok(close) => quote::<MODE, N>(&mut target, close),
         Err(flags) => format_flagged::<V, MODE, N>(
             text,
             flags.first,
@@ -150,18 +131,7 @@ pub(crate) fn format_in_mode<V: Vector<N>, const MODE: u8, const N: usize>(
             flags.last,
             flags.last_classified,
             dst,
+            open,
         ),
     }
-}
-
-/// Escapes the text to the front of `dst`, with no quotation marks. Returns how many bytes it became.
-#[inline(always)]
-pub(crate) fn format_inner<V: Vector<N>, const MODE: u8, const N: usize>(
-    value: &str,
-    dst: &mut [u8],
-) -> usize
-    requires { 6 * length value.now + 32 ≤ length dst.old }
-    ensures { IsInnerWritten N (mode_numbered MODE) value.now dst.old dst.new result }
-{
-    escape_at::<V, MODE, N>(value.as_bytes(), dst, 0)
 }

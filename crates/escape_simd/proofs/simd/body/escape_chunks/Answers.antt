@@ -1,16 +1,23 @@
-use Rattle.std.proofs.Common.{rules, arith}
+use Rattle.std.proofs.Common.{◌+◌, ◌*◌, ◌≤◌, length, ap, rules, arith}
+use Rattle.escape_lanes.specs.Written.{bytes_of}
 use Rattle.escape_simd.specs.Modes.{mode_numbered}
 use Rattle.escape_simd.proofs.Costs.{body-on}
 use Rattle.escape_simd.proofs.Parts.{part-escaped}
-use Rattle.escape_simd.proofs.Stretches.{stretch-on}
+use Rattle.escape_simd.proofs.Stretches.{room-six, stretch-on}
 use Rattle.escape_simd.proofs.simd.body.escape_chunks.Goals as goal
+
+pub chunk-requires : goal.chunk-requires
+chunk-requires g c =
+    let s = c.chunks.invariant.so_far.stretch in let inside : c.chunks.at + (4 + 1) * g.row.N ≤ length c.args.src.now = omega (arith, c.chunks-test.true, s.inside, c.requires.inside) in
+    let room = room-six (mode_numbered g.row.MODE) g.row.N c.args.src.now c.chunks.at (c.chunks.at + 4 * g.row.N) c.chunks.end (length (bytes_of c.chunks.target)) (omega arith) (omega (arith, inside)) (omega (arith, c.if-end-last_end.true, s.same_slice.len, c.requires.room, ap length c.new-target.ensures.bytes)) in
+    (omega arith, record { inside = inside; room = room })
 
 pub chunks-preserved : goal.chunks-preserved
 chunks-preserved g c =
     let so_far = c.chunks.invariant.so_far in let i = so_far.stretch.inside in
     let on = stretch-on c.chunk.ensures.stretch in
     record {
-      so_far = body-on (mode_numbered g.row.MODE) c.args.src.now c.new-target.result c.chunks.target c.chunk.new.target c.chunks.at c.args.to c.chunks.end c.new-ticks.result c.chunks.ticks g.met.V.Vector.several so_far 4 c.chunk.result.0 c.chunk.result.1 c.chunk.new.ticks (omega (arith, c.chunks-test.true, i)) (omega arith) (omega arith) c.chunk.ensures;
+      so_far = body-on so_far 4 g.met.V.Vector.several (omega (arith, c.chunks-test.true, i)) (omega arith) (omega arith) c.chunk.ensures;
       fits = omega (arith, on, c.chunk.ensures.passed.near, c.if-end-last_end.true, c.chunks.invariant.fits, g.met.V.Vector.several);
     }
 

@@ -1,65 +1,55 @@
-use Rattle.escape_simd.proofs.Words.{◌≡◌, ℕ, ◌+◌, ◌-◌, ◌*◌, ◌∙◌, false, List, ◌++◌, replicate, ap, sym, subst, arith, bits_of, mode_numbered, Passed}
+use Rattle.escape_simd.proofs.Words.{◌≡◌, ◌≤◌, ℕ, ◌+◌, ◌*◌, ◌∙◌, List, length, refl, sym, arith, bytes_of, mode_numbered, Escapes, HasVectors, Mode, Target, state}
 use Rattle.escape_simd.proofs.Lanes.{none_set-four, within-all}
-use Rattle.escape_simd.proofs.Stretches.{stretch-on}
-use Rattle.escape_simd.proofs.Vectors.{escapes-asked, escapes-begun, escapes-bordered, escapes-ended, escapes-onward, flags-clean, mask-held, vector-clean}
+use Rattle.escape_simd.proofs.Stretches.{room-least, room-near, room-on}
+use Rattle.escape_simd.proofs.Vectors.{escapes-asked, escapes-begun, escapes-bordered, escapes-ended, escapes-onward, flags-clean, passed-to, vector-clean}
 use Rattle.escape_simd.proofs.simd.chunk.chunk.Goals as goal
+
+pub store-requires : goal.store-requires
+store-requires g c =
+    let n : ℕ = g.row.N in let i = c.requires.inside in let least = room-least (omega arith) (omega (arith, i)) c.requires.room in
+    (omega arith, (within-all _ _ c.classify-answer1.ensures.asked, record { few = omega arith; inside = omega (arith, i); room = omega (arith, least) }))
 
 pub returns-then-none : goal.returns-then-none
 returns-then-none g c =
-    let mode = mode_numbered g.row.MODE in let n : ℕ = g.row.N in let src : List ℕ = c.args.src.now in let at : ℕ = c.args.at in let inside = c.requires.inside in let room = c.requires.room in
-    let t = g.V.Flags.Flags.truths in let lanes = g.met.V.Vector.flag_count in
-    let w = g.met.V.Flags.Flags.width in
-    let nones = none_set-four g.V.Flags.Flags.LANES (t c.classify-flags1.result.0) (t c.classify-flags2.result.0) (t c.classify-flags3.result.0) (t c.classify-flags4.result.0) (t c.join.result) (t c.join-2.result) (t c.join-3.result)
-    (w c.classify-flags1.result.0) (w c.classify-flags2.result.0) (w c.classify-flags3.result.0) (w c.classify-flags4.result.0) (w c.join.result) (w c.join-2.result)
-    c.join.ensures c.join-2.ensures c.join-3.ensures (sym c.none.ensures ∙ c.if-none.true) in
-    let e1 = vector-clean mode n src c.args.target.now c.store_loaded.new.target at n c.args.to c.classify-flags4.new.ticks (omega (arith, inside)) (flags-clean mode n src at (t c.classify-flags1.result.0) (omega (arith, inside)) c.classify-flags1.ensures.flagged nones.0) c.store_loaded.ensures in
-    let e2 = vector-clean mode n src c.store_loaded.new.target c.store_loaded-then-none.new.target (at + n) n (c.args.to + n) c.classify-flags4.new.ticks (omega (arith, inside)) (flags-clean mode n src (at + n) (t c.classify-flags2.result.0) (omega (arith, inside)) c.classify-flags2.ensures.flagged nones.1) c.store_loaded-then-none.ensures in
-    let e3 = vector-clean mode n src c.store_loaded-then-none.new.target c.store_loaded-then-none-2.new.target (at + 2 * n) n (c.args.to + 2 * n) c.classify-flags4.new.ticks (omega (arith, inside)) (flags-clean mode n src (at + 2 * n) (t c.classify-flags3.result.0) (omega (arith, inside)) c.classify-flags3.ensures.flagged nones.2) c.store_loaded-then-none-2.ensures in
-    let e4 = vector-clean mode n src c.store_loaded-then-none-2.new.target c.store_loaded-then-none-3.new.target (at + 3 * n) n (c.args.to + 3 * n) c.classify-flags4.new.ticks (omega (arith, inside)) (flags-clean mode n src (at + 3 * n) (t c.classify-flags4.result.0) (omega (arith, inside)) c.classify-flags4.ensures.flagged nones.3) c.store_loaded-then-none-3.ensures in
-    let all = escapes-onward (escapes-onward (escapes-onward e1 (escapes-begun (omega arith) (omega arith) e2)) (escapes-begun (omega arith) (omega arith) e3)) (escapes-begun (omega arith) (omega arith) e4) in
-    escapes-asked c.args.ticks.now 4 (omega (arith, c.classify-flags1.ensures.tick, c.classify-flags2.ensures.tick, c.classify-flags3.ensures.tick, c.classify-flags4.ensures.tick)) (escapes-ended (omega arith) (omega arith) (omega arith) all)
+    let mode = mode_numbered g.row.MODE in let n : ℕ = g.row.N in let src : List ℕ = c.args.src.now in let at : ℕ = c.args.at in let inside = c.requires.inside in
+    let t = g.V.Flags.Flags.truths in let w = g.met.V.Flags.Flags.width in let ticks = c.classify-answer4.new.ticks in
+    let a1 = c.classify-answer1 in let a2 = c.classify-answer2 in let a3 = c.classify-answer3 in let a4 = c.classify-answer4 in
+    let nones = none_set-four g.V.Flags.Flags.LANES (t a1.result.0) (t a2.result.0) (t a3.result.0) (t a4.result.0) (t c.join-front.result) (t c.join.result) (t c.join-2.result)
+    (w a1.result.0) (w a2.result.0) (w a3.result.0) (w a4.result.0) (w c.join-front.result) (w c.join.result)
+    c.join-front.ensures c.join.ensures c.join-2.ensures (sym c.none.ensures ∙ c.if-none.true) in
+    let e1 = vector-clean mode n src c.args.target.now c.store.new.target at n c.args.to ticks (omega (arith, inside)) (flags-clean mode n src at (t a1.result.0) (omega (arith, inside)) a1.ensures.flagged nones.0) c.store.ensures in
+    let e2 = vector-clean mode n src c.store.new.target c.store-then-none.new.target (at + n) n (c.args.to + n) ticks (omega (arith, inside)) (flags-clean mode n src (at + n) (t a2.result.0) (omega (arith, inside)) a2.ensures.flagged nones.1) c.store-then-none.ensures in
+    let e3 = vector-clean mode n src c.store-then-none.new.target c.store-then-none-2.new.target (at + n + n) n (c.args.to + 2 * n) ticks (omega (arith, inside)) (flags-clean mode n src (at + n + n) (t a3.result.0) (omega (arith, inside)) a3.ensures.flagged nones.2) c.store-then-none-2.ensures in
+    let e4 = vector-clean mode n src c.store-then-none-2.new.target c.store-then-none-3.new.target (at + n + n + n) n (c.args.to + 3 * n) ticks (omega (arith, inside)) (flags-clean mode n src (at + n + n + n) (t a4.result.0) (omega (arith, inside)) a4.ensures.flagged nones.3) c.store-then-none-3.ensures in
+    let all = escapes-onward (escapes-onward (escapes-onward e1 e2) (escapes-begun refl (omega arith) e3)) (escapes-begun refl (omega arith) e4) in
+    escapes-asked c.args.ticks.now 4 (omega (arith, a1.ensures.tick, a2.ensures.tick, a3.ensures.tick, a4.ensures.tick)) (escapes-ended (omega arith) (omega arith) (omega arith) all)
 
-pub escape_by_mask-next-requires : goal.escape_by_mask-next-requires
-escape_by_mask-next-requires g c =
-    let mode = mode_numbered g.row.MODE in let n : ℕ = g.row.N in let src : List ℕ = c.args.src.now in let at : ℕ = c.args.at in let inside = c.requires.inside in let room = c.requires.room in
-    let t = g.V.Flags.Flags.truths in let lanes = g.met.V.Vector.flag_count in
-    let held1 = mask-held mode n src at (t c.classify-flags1.result.0) (bits_of 64 c.bits.result) g.met.V.Vector.most (omega (arith, inside)) c.classify-flags1.ensures.flagged (c.bits.ensures ∙ ap (λ m. t c.classify-flags1.result.0 ++ replicate (64 - m) false) lanes) in
-    (omega arith, (within-all _ _ c.classify-flags1.ensures.asked, record { flags = held1; few = omega arith; inside = omega (arith, inside); room = omega (arith, room) }))
+-- a vector more is there, where those before it were escaped
+module _ {N vectors : ℕ} {mode : Mode} {src : List ℕ} {at to : ℕ} {old mid : Target N} (r : HasVectors mode N vectors src at at to (length (bytes_of old))) where
+  next-vector : {border i p v a t0 t1 : ℕ} (next : ℕ) → next + 2 * N ≤ length src → next + 1 * N ≤ at + vectors * N → Escapes mode N border v a src (state old at to t0) (state mid i p t1) → HasVectors mode N 1 src next i p (length (bytes_of mid))
+  next-vector next inside before e = record { inside = omega (arith, inside); room = room-near (next + 1 * N) N before (omega (arith, r.inside)) (omega arith) (room-on e.stretch r.room) }
 
 pub vector_from-next-requires : goal.vector_from-next-requires
 vector_from-next-requires g c =
-    let mode = mode_numbered g.row.MODE in let n : ℕ = g.row.N in let src : List ℕ = c.args.src.now in let at : ℕ = c.args.at in let inside = c.requires.inside in let room = c.requires.room in
-    let t = g.V.Flags.Flags.truths in let lanes = g.met.V.Vector.flag_count in
-    let held2 = mask-held mode n src (at + n) (t c.classify-flags2.result.0) (bits_of 64 c.bits-2.result) g.met.V.Vector.most (omega (arith, inside)) c.classify-flags2.ensures.flagged (c.bits-2.ensures ∙ ap (λ m. t c.classify-flags2.result.0 ++ replicate (64 - m) false) lanes) in
-    let a = c.escape_by_mask-next.ensures in let on = stretch-on a.stretch in let p = a.passed in let several = g.met.V.Vector.several in
-    (omega arith, (c.classify-flags2.ensures.asked, (held2, (p, record { inside = omega (arith, inside); room = omega (arith, room, on, p.whole, p.near, several, a.stretch.same_slice.len) }))))
+    let n : ℕ = g.row.N in let i = c.requires.inside in let a = c.classify-answer1.ensures in
+    (omega arith, (a.flagged, (a.asked, (passed-to (mode_numbered g.row.MODE) c.args.src.now c.args.at, record { inside = omega (arith, i); room = room-near (c.args.at + 1 * n) n (omega arith) (omega (arith, i)) (omega arith) c.requires.room }))))
 
 pub vector_from-next-requires-2 : goal.vector_from-next-requires-2
 vector_from-next-requires-2 g c =
-    let mode = mode_numbered g.row.MODE in let n : ℕ = g.row.N in let src : List ℕ = c.args.src.now in let at : ℕ = c.args.at in let inside = c.requires.inside in let room = c.requires.room in
-    let t = g.V.Flags.Flags.truths in let lanes = g.met.V.Vector.flag_count in
-    let held3 = mask-held mode n src (at + 2 * n) (t c.classify-flags3.result.0) (bits_of 64 c.bits-3.result) g.met.V.Vector.most (omega (arith, inside)) c.classify-flags3.ensures.flagged (c.bits-3.ensures ∙ ap (λ m. t c.classify-flags3.result.0 ++ replicate (64 - m) false) lanes) in
-    let a = escapes-onward c.escape_by_mask-next.ensures c.vector_from-next.ensures in let on = stretch-on a.stretch in let p = c.vector_from-next.ensures.passed in let several = g.met.V.Vector.several in
-    let there : at + n + n ≡ at + 2 * n = omega arith in
-    let q = subst (λ k. Passed mode src k c.vector_from-next.result.0) there p in
-    (omega arith, (c.classify-flags3.ensures.asked, (held3, (q, record { inside = omega (arith, inside); room = omega (arith, room, on, q.whole, q.near, several, a.stretch.same_slice.len) }))))
+    let n : ℕ = g.row.N in let a = c.classify-answer2.ensures in let e = c.vector_from-next.ensures in
+    (omega arith, (a.flagged, (a.asked, (e.passed, next-vector c.requires (c.args.at + n) (omega (arith, c.requires.inside)) (omega arith) e))))
+
+pub vector_from-next-requires-3 : goal.vector_from-next-requires-3
+vector_from-next-requires-3 g c =
+    let n : ℕ = g.row.N in let a = c.classify-answer3.ensures in let e = c.vector_from-next-2.ensures in
+    (omega arith, (a.flagged, (a.asked, (e.passed, next-vector c.requires (c.args.at + n + n) (omega (arith, c.requires.inside)) (omega arith) (escapes-onward c.vector_from-next.ensures e)))))
 
 pub vector_from-requires : goal.vector_from-requires
 vector_from-requires g c =
-    let mode = mode_numbered g.row.MODE in let n : ℕ = g.row.N in let src : List ℕ = c.args.src.now in let at : ℕ = c.args.at in let inside = c.requires.inside in let room = c.requires.room in
-    let t = g.V.Flags.Flags.truths in let lanes = g.met.V.Vector.flag_count in
-    let held4 = mask-held mode n src (at + 3 * n) (t c.classify-flags4.result.0) (bits_of 64 c.bits-4.result) g.met.V.Vector.most (omega (arith, inside)) c.classify-flags4.ensures.flagged (c.bits-4.ensures ∙ ap (λ m. t c.classify-flags4.result.0 ++ replicate (64 - m) false) lanes) in
-    let a = escapes-onward (escapes-onward c.escape_by_mask-next.ensures c.vector_from-next.ensures) c.vector_from-next-2.ensures in let on = stretch-on a.stretch in let p = c.vector_from-next-2.ensures.passed in let several = g.met.V.Vector.several in
-    let there : at + 2 * n + n ≡ at + 3 * n = omega arith in
-    let q = subst (λ k. Passed mode src k c.vector_from-next-2.result.0) there p in
-    (omega arith, (c.classify-flags4.ensures.asked, (held4, (q, record { inside = omega (arith, inside); room = omega (arith, room, on, q.whole, q.near, several, a.stretch.same_slice.len) }))))
+    let n : ℕ = g.row.N in let a = c.classify-answer4.ensures in let e = c.vector_from-next-3.ensures in
+    (omega arith, (a.flagged, (a.asked, (e.passed, next-vector c.requires (c.args.at + n + n + n) (omega (arith, c.requires.inside)) (omega arith) (escapes-onward (escapes-onward c.vector_from-next.ensures c.vector_from-next-2.ensures) e)))))
 
 pub returns : goal.returns
 returns g c =
-    let mode = mode_numbered g.row.MODE in let n : ℕ = g.row.N in let src : List ℕ = c.args.src.now in let at : ℕ = c.args.at in let inside = c.requires.inside in let room = c.requires.room in
-    let t = g.V.Flags.Flags.truths in let lanes = g.met.V.Vector.flag_count in
-    let all = escapes-onward (escapes-onward (escapes-onward c.escape_by_mask-next.ensures c.vector_from-next.ensures) c.vector_from-next-2.ensures) c.vector_from.ensures in
-    escapes-asked c.args.ticks.now 4 (omega (arith, c.classify-flags1.ensures.tick, c.classify-flags2.ensures.tick, c.classify-flags3.ensures.tick, c.classify-flags4.ensures.tick)) (escapes-bordered (omega arith) all)
-
-pub store_loaded-requires : goal.store_loaded-requires
-store_loaded-requires g c = (omega arith, (grind arith, (within-all _ _ c.classify-flags1.ensures.asked, grind (arith, c.requires))))
+    let all = escapes-onward (escapes-onward (escapes-onward c.vector_from-next.ensures c.vector_from-next-2.ensures) c.vector_from-next-3.ensures) c.vector_from.ensures in
+    escapes-asked c.args.ticks.now 4 (omega (arith, c.classify-answer1.ensures.tick, c.classify-answer2.ensures.tick, c.classify-answer3.ensures.tick, c.classify-answer4.ensures.tick)) (escapes-bordered (omega arith) all)

@@ -1,7 +1,9 @@
-use Rattle.escape_simd.proofs.Words.{false, arith}
-use Rattle.escape_simd.proofs.Lanes.{within-all}
-use Rattle.escape_simd.proofs.Vectors.{mask-held}
+use Rattle.escape_simd.proofs.Words.{arith, mode_numbered}
+use Rattle.escape_simd.proofs.Vectors.{escapes-asked, passed-to}
 use Rattle.escape_simd.proofs.simd.chunk.whole_vector.Goals as goal
 
-pub escape_by_mask-requires : goal.escape_by_mask-requires
-escape_by_mask-requires g c = (omega arith, (within-all _ _ c.classify-flags.ensures.asked, grind (arith, false, mask-held)))
+pub vector_from-requires : goal.vector_from-requires
+vector_from-requires g c = (omega arith, (c.classify-answer.ensures.flagged, (c.classify-answer.ensures.asked, (passed-to (mode_numbered g.row.MODE) c.args.src.now c.args.at, c.requires))))
+
+pub returns : goal.returns
+returns g c = escapes-asked c.args.ticks.now 1 c.classify-answer.ensures.tick c.vector_from.ensures

@@ -1,6 +1,13 @@
 use Rattle.escape_simd.proofs.Words.{◌≡◌, ◌+◌, ◌-◌, ◌/◌, ◌∙◌, true, ℕ, List, length, length-drop, take, drop, refl, ap, subst, arith, take_all, mode_numbered, Escapes, reach, state}
 use Rattle.escape_simd.proofs.Last.{rest-escaped}
+use Rattle.escape_simd.proofs.Stretches.{room-later}
 use Rattle.escape_simd.proofs.simd.tail.escape_tail.Goals as goal
+
+pub escape_flagged_tail-requires-clause-room : goal.escape_flagged_tail-requires-clause-room
+escape_flagged_tail-requires-clause-room g c =
+    let src : List ℕ = c.args.src.now in let at : ℕ = c.args.at in let count = length-drop at src in
+    let text : List ℕ = take (length src - at) (drop at src) in let is : text ≡ drop at src = take_all (length src - at) (drop at src) (omega (arith, count)) in
+    rw c.in-Err.ensures.unchanged (room-later text (length text) (length text) is (omega (arith, ap length is, count, c.requires.inside)) c.requires.room refl)
 
 pub returns-in-Err : goal.returns-in-Err
 returns-in-Err g c =

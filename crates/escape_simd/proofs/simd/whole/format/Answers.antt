@@ -1,7 +1,5 @@
-use Rattle.std.proofs.Common.{ℕ, ◌≤◌, length, sym, ap, subst, arith}
-use Rattle.escape_lanes.specs.Written.{bytes_of}
+use Rattle.std.proofs.Common.{length, ap, subst, arith}
 use Rattle.escape_simd.specs.Modes.{mode_numbered}
-use Rattle.escape_simd.specs.Output.{bound}
 use Rattle.escape_simd.specs.Formatted.{IsFormatted}
 use Rattle.escape_simd.proofs.Stretches.{stretch-on}
 use Rattle.escape_simd.proofs.Whole.{whole_formatted, bound-quotes, quote-short}
@@ -16,6 +14,6 @@ quote-requires g c =
 
 pub returns : goal.returns
 returns g c =
-    let mode = mode_numbered g.row.MODE in let len = ap length c.as_bytes.ensures.value in
+    let mode = mode_numbered g.row.MODE in
     subst (λ xs. IsFormatted {N = g.row.N} mode xs c.args.target.now c.quote.new.target c.quote.result c.args.ticks.now c.escape_bytes-close.new.ticks) c.as_bytes.ensures.value
-    (whole_formatted c.quote-open.ensures c.escape_bytes-close.ensures.stretch c.quote.ensures (subst (λ (n : ℕ). bound mode n ≤ length (bytes_of c.args.target.now)) (sym len) c.requires) g.met.V.Vector.several c.escape_bytes-close.ensures.cost)
+    (whole_formatted c.quote-open.ensures c.escape_bytes-close.ensures.stretch c.quote.ensures c.escape_bytes-close.ensures.cost)

@@ -1,23 +1,25 @@
-use Rattle.std.proofs.Common.{◌≤◌, ℕ, List, rules, subst, sym, ap, length, arith}
+use Rattle.std.proofs.Common.{◌++◌, ℕ, List, true, rules, subst, ap, length, arith}
 use Rattle.escape_lanes.specs.Written.{bytes_of}
-use Rattle.escape_simd.specs.Formatted.{IsWritten}
+use Rattle.escape_simd.specs.Formatted.{IsWrittenAt}
 use Rattle.escape_simd.specs.Modes.{mode_numbered}
-use Rattle.escape_simd.specs.Output.{bound}
-use Rattle.escape_simd.proofs.Stretches.{stretch-on}
-use Rattle.escape_simd.proofs.Whole.{target_written, bound-quotes, quote-short}
+use Rattle.escape_simd.specs.Output.{inner, quote_of}
+use Rattle.escape_simd.specs.Stretch.{reach}
+use Rattle.escape_simd.proofs.Stretches.{room-six, stretch-on}
+use Rattle.escape_simd.proofs.Whole.{all-inner, written-onward}
 use Rattle.escape_simd.proofs.simd.whole.format_flagged.Goals as goal
+
+pub escape_flagged_tail-close-requires : goal.escape_flagged_tail-close-requires
+escape_flagged_tail-close-requires g c =
+    (omega arith, (c.requires.flagged, room-six (mode_numbered g.row.MODE) (reach true g.row.N) c.args.text.now 0 (length c.args.text.now) c.args.to (length (bytes_of c.new-target.result)) (omega arith) (omega arith) (omega (arith, c.requires.room, ap length c.new-target.ensures.bytes))))
 
 pub quote-requires : goal.quote-requires
 quote-requires g c =
-    let mode = mode_numbered g.row.MODE in
-    let b = bound-quotes mode (length c.args.text.now) in let q = quote-short mode in let o = c.quote-open.ensures in
     let s = c.escape_flagged_tail-close.ensures.stretch in let on = stretch-on s in
-    (omega arith, omega (arith, b, q, on, o.quoted.ends, o.same_slice.len, s.same_slice.len, c.requires.room, ap length c.new-target.ensures.bytes))
+    (omega arith, omega (arith, on, s.same_slice.len, c.requires.room, ap length c.new-target.ensures.bytes))
 
 pub returns : goal.returns
 returns g c =
-    let mode = mode_numbered g.row.MODE in
-    let room = subst (λ (xs : List ℕ). bound mode (length c.args.text.now) ≤ length xs) (sym c.new-target.ensures.bytes) c.requires.room in
-    let whole = target_written c.quote-open.ensures c.escape_flagged_tail-close.ensures.stretch c.quote.ensures room g.met.V.Vector.several in
-    let w = subst (λ (xs : List ℕ). IsWritten g.row.N mode c.args.text.now xs (bytes_of c.quote.new.target) c.quote.result) c.new-target.ensures.bytes whole in
+    let mode = mode_numbered g.row.MODE in let slack = reach true g.row.N in let q = c.quote.ensures.quoted in
+    let all = written-onward slack (all-inner c.escape_flagged_tail-close.ensures.stretch) q (omega (arith, q.ends)) (omega arith) in
+    let w = subst (λ (xs : List ℕ). IsWrittenAt slack (inner mode c.args.text.now ++ quote_of mode) xs (bytes_of c.quote.new.target) c.args.to c.quote.result) c.new-target.ensures.bytes all in
     search (rules, w)

@@ -1,7 +1,7 @@
 use Rattle.escape_simd.proofs.Words.{◌-◌, not, nat_eq, bits_of, mode_numbered, reach}
 use denote.Param.{number, value_of}
 use Rattle.escape_simd.proofs.Turns.{TurnsSoFar}
-use Rattle.escape_simd.proofs.simd.turns.escape_by_turns.Given as goal
+use Rattle.escape_simd.proofs.simd.by_mask.escape_by_turns.Given as goal
 
 abbrev pub invariant-turns : goal.invariant-turns
 invariant-turns g l = TurnsSoFar (mode_numbered g.row.MODE) (reach (not (nat_eq (value_of (number g.row.LAST)) 0)) g.row.N) l.text l.fn.target l.target l.valid l.next l.to l.end (bits_of 64 l.left) l.fn.ticks l.ticks

@@ -3,7 +3,11 @@ use denote.Param.{number, value_of}
 use Rattle.escape_simd.proofs.Lanes.{held-tells}
 use Rattle.escape_simd.proofs.Stretches.{reach-bounds}
 use Rattle.escape_simd.proofs.Turns.{turns-begin, turn-place, turn-room, turn-after, turn-end, turn-flags, turn-stores, turn-finished, turn-goes-on, turn-stored}
-use Rattle.escape_simd.proofs.simd.turns.escape_by_turns.Goals as goal
+use Rattle.escape_simd.proofs.Vectors.{vector-stores}
+use Rattle.escape_simd.proofs.simd.by_mask.escape_by_turns.Goals as goal
+
+pub store-requires : goal.store-requires
+store-requires g c = (omega arith, (c.requires.classified, vector-stores c.requires.vector))
 
 pub turns-init : goal.turns-init
 turns-init g c = turns-begin (omega (arith, reach-bounds (not (nat_eq (value_of (number g.row.LAST)) 0)) g.row.N g.met.V.Vector.several)) c.requires.vector c.requires.some c.store.ensures

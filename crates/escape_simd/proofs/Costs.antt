@@ -1,14 +1,15 @@
 -- How far the body has come in a text, and at what cost.
-use Rattle.std.proofs.Common.{◌≡◌, ℕ, ◌+◌, ◌-◌, ◌*◌, ◌/◌, ◌<◌, ◌≤◌, true, List, length, arith}
+use Rattle.std.proofs.Common.{◌≡◌, ℕ, ◌+◌, ◌-◌, ◌*◌, ◌/◌, ◌<◌, ◌≤◌, true, List, length, length-drop, take, drop, refl, ap, arith}
+use Rattle.std.proofs.lemmas.List.{take_all}
 use Rattle.std.proofs.Math.Nat.{div-mul-le_self}
 use Rattle.std.proofs.lemmas.Nat.{le-div}
 use Rattle.escape_lanes.specs.Mode.{Mode}
 use Rattle.escape_lanes.specs.Written.{bytes_of}
 use Rattle.escape_lanes.specs.declared.simd.target.Target.{Target}
-use Rattle.escape_simd.specs.Stretch.{Cost, Escapes, HasRoom, HasTail, HasVectors, Stretch, reach, rest_length, state}
+use Rattle.escape_simd.specs.Stretch.{Cost, Escapes, HasRoom, HasVectors, Stretch, reach, rest_length, state}
 use Rattle.escape_simd.proofs.RestSteps.{rest-bounds}
-use Rattle.escape_simd.proofs.Stretches.{onward_to, reach-bounds, room-near, room-on}
-use Rattle.escape_simd.proofs.Vectors.{passed-to}
+use Rattle.escape_simd.proofs.Stretches.{onward_to, reach-bounds, room-later, room-near, room-on}
+use Rattle.escape_simd.proofs.Vectors.{escapes-ended, escapes-later, passed-to}
 
 -- The bytes before `at` were passed, at a cost of a vector for each run and each whole vector. No write reached further past what the
 -- whole ends at than those of its last bytes may.
@@ -31,9 +32,19 @@ module _ {N : ℕ} {mode : Mode} {src : List ℕ} {old mid : Target N} {at to en
   body-vectors vectors room inside more =
       record { inside = inside; room = room-near (at + vectors * N) N (omega (arith, inside, more)) (omega arith) (omega (arith, inside, more)) (room-on so_far.stretch room) }
 
+  -- the last bytes, as a text of their own
+  abbrev last : List ℕ
+  last = take (length src - at) (drop at src)
+
+  last-is : last ≡ drop at src
+  last-is = take_all (length src - at) (drop at src) (omega (arith, length-drop at src))
+
+  last-long : at + length last ≡ length src
+  last-long = omega (arith, ap length last-is, length-drop at src, so_far.stretch.inside)
+
   -- and for the last bytes
-  pub body-rest : HasRoom mode (reach true N) src 0 (length src) to (length (bytes_of old)) → length src < at + 2 * N → HasTail mode N src at end (length (bytes_of mid))
-  body-rest room few = record { inside = so_far.stretch.inside; few = few; room = room-on so_far.stretch room }
+  pub body-rest : HasRoom mode (reach true N) src 0 (length src) to (length (bytes_of old)) → length src < at + 2 * N → (length last < 2 * N) × (HasRoom mode (reach true N) last 0 (length last) end (length (bytes_of mid)))
+  body-rest room few = (omega (arith, few, last-long), room-later last (length last) (length last) last-is last-long (room-on so_far.stretch room) refl)
 
   -- so many vectors were passed
   pub body-on : {new : Target N} {next close t2 : ℕ} (vectors : ℕ) → 16 ≤ N → at + (vectors + 1) * N ≤ length src → (vectors + 1) * N ≡ vectors * N + N → (at / N + vectors) * N ≡ at / N * N + vectors * N → Escapes mode N (at + vectors * N) vectors 0 src (state mid at end t1) (state new next close t2) → BodySoFar mode src old new next to close t0 t2
@@ -46,12 +57,13 @@ module _ {N : ℕ} {mode : Mode} {src : List ℕ} {old mid : Target N} {at to en
       }
 
   -- all of it
-  pub body-all : {new : Target N} {close t2 : ℕ} → 16 ≤ N → Escapes mode (reach true N) (length src) ((length src - at) / N + 1) 0 src (state mid at end t1) (state new (length src) close t2)
+  pub body-all : {new : Target N} {close t2 : ℕ} → 16 ≤ N → Escapes mode (reach true N) (length last) (length last / N + 1) 0 last (state mid 0 end t1) (state new (length last) close t2)
       → Escapes mode (reach true N) (length src) (length src / N + 1) 0 src (state old 0 to t0) (state new (length src) close t2)
-  body-all several e =
-      let i = so_far.stretch.inside in let l = e.stretch.limit in let none = (rest-bounds mode src (length src)).1 in
-      let p = div-mul-le_self at N in let q = div-mul-le_self (length src - at) N in
-      let w = le-div (at / N + (length src - at) / N) (length src) N (omega (arith, several)) (omega (arith, p, q, i)) in
+  body-all several given =
+      let e = escapes-ended last-long last-long refl (escapes-later src last at last-is so_far.stretch.inside given) in
+      let l = e.stretch.limit in let none = (rest-bounds mode src (length src)).1 in
+      let p = div-mul-le_self at N in let q = div-mul-le_self (length last) N in
+      let w = le-div (at / N + length last / N) (length src) N (omega (arith, several)) (omega (arith, p, q, last-long)) in
       record {
         stretch = onward_to (reach true N) so_far.stretch e.stretch (omega (arith, l, none)) (omega arith);
         passed = passed-to mode src (length src);

@@ -1,7 +1,7 @@
 -- The last bytes of a text, held with zeros behind them.
-use Rattle.std.proofs.Common.{min, ◌≡◌, ℕ, ◌+◌, ◌-◌, ◌*◌, ◌/◌, ◌<◌, ◌≤◌, Bool, true, false, List, [], ◌++◌, length, take, drop, replicate, map, refl, sym, ap, subst, ◌∙◌, arith, append_assoc, append-nil, length-append, length-drop}
+use Rattle.std.proofs.Common.{min, ◌≡◌, ℕ, ◌+◌, ◌-◌, ◌*◌, ◌/◌, ◌<◌, ◌≤◌, Bool, true, false, List, [], ◌++◌, length, take, drop, replicate, map, refl, sym, ap, ◌∙◌, arith, append_assoc, append-nil, length-append, length-drop}
 use Rattle.std.proofs.Math.Nat.{div-eq_of_lt, div-eq_of_lt-le}
-use Rattle.escape_simd.proofs.Words.{append_cancel_right, drop_all, drop_at, get_or-drop, get_or_past, none_set, length-replicate, replicate-append-replicate, drop-append-le, drop-drop, take_all, take-append-le, clear_last, Mode, script, needs_escape, bytes_of, Target, inner, escaped_count, run_count, AreTail, IsWithin, Escapes, HasRoom, HoldsFlags, IsStored, IsVectorAt, Passed, state}
+use Rattle.escape_simd.proofs.Words.{append_cancel_right, drop_all, drop_at, get_or_past, none_set, length-replicate, replicate-append-replicate, drop-append-le, drop-drop, take_all, take-append-le, clear_last, Mode, script, needs_escape, bytes_of, Target, inner, escaped_count, run_count, AreTail, IsWithin, Escapes, HasRoom, HoldsFlags, IsStored, IsVectorAt, Passed, state}
 use Rattle.escape_simd.proofs.Behind.{inner-behind, escaped-behind, get_or-behind, runs-behind}
 use Rattle.escape_simd.proofs.Lanes.{CleanFrom, get_or-clear_last, get_or-cleared_last, held-cut, held-none}
 use Rattle.escape_simd.proofs.ReplacementLemmas.{inner-nil}
@@ -9,7 +9,7 @@ use Rattle.escape_simd.proofs.RestSteps.{rest-bounds, rest-is}
 use Rattle.escape_simd.proofs.Stretches.{ended, onward_to, stored_ahead}
 use Rattle.escape_simd.proofs.Texts.{escaped-empty, runs-empty}
 use Rattle.escape_simd.proofs.Turns.{ahead-front, ahead-passed, ahead-runs}
-use Rattle.escape_simd.proofs.Vectors.{clean-stored, escapes-asked, escapes-ended, escapes-later, holds-from, passed-to}
+use Rattle.escape_simd.proofs.Vectors.{clean-stored, escapes-ended, escapes-later, holds-from, passed-to}
 
 -- n zeros
 abbrev pub zeros : ℕ → List ℕ
@@ -78,18 +78,17 @@ module _ (mode : Mode) (text : List ℕ) (k : ℕ) where
       }
 
 -- two clean vectors that may have some of the same bytes
-pub two-clean : {N : ℕ} (mode : Mode) (slack n : ℕ) (src : List ℕ) (old mid new : Target N) (at to t : ℕ) → at + n ≤ length src → length src < at + 2 * n → CleanFrom mode src at (at + n) → CleanFrom mode src (length src - n) (length src)
-    → IsStored slack src old mid at n to → IsStored slack src mid new (length src - n) n (to + (length src - at - n))
-    → Escapes mode slack (length src) 2 2 src (state old at to t) (state new (length src) (to + (length src - at)) t)
-two-clean mode slack n src old mid new at to t inside few clean1 clean2 s1 s2 =
-    let shared : ℕ = length src - at - n in
-    let p = ahead-passed mode slack src mid at (at + n) (length src - n) to (ahead-front mode src mid at (at + n) to n (omega arith) s1.ahead) (omega (arith, inside)) (omega (arith, few, inside)) inside (λ p late early. clean1 p late (omega (arith, early, few, inside))) in
-    let first = onward_to (n - shared + slack) (stored_ahead mode slack src old mid at n to s1 (omega (arith, inside))) (ended p refl (omega (arith, inside))) (omega (arith, few, inside)) (omega arith) in
-    let rest = clean-stored mode slack src mid new (length src - n) n (to + shared) (omega (arith, inside)) (λ p late early. clean2 p late (omega (arith, early, inside))) s2 in
-    let same = ahead-runs mode src at (length src) (omega (arith, inside)) (λ p late early. grind (arith, clean1, clean2)) in
+pub two-clean : {N : ℕ} {mode : Mode} {slack n : ℕ} {text : List ℕ} {old mid new : Target N} {to t : ℕ} → n ≤ length text → length text < 2 * n → CleanFrom mode text 0 n → CleanFrom mode text (length text - n) (length text)
+    → IsStored slack text old mid 0 n to → IsStored slack text mid new (length text - n) n (to + (length text - n)) → Escapes mode slack (length text) 2 2 text (state old 0 to t) (state new (length text) (to + length text) t)
+two-clean {mode = mode} {slack = slack} {n = n} {text = text} {old = old} {mid = mid} {new = new} {to = to} inside few clean1 clean2 s1 s2 =
+    let last : ℕ = length text - n in
+    let p = ahead-passed mode slack text mid 0 n last to (ahead-front mode text mid 0 n to n (omega arith) s1.ahead) (omega arith) (omega (arith, few, inside)) inside (λ p late early. clean1 p late (omega (arith, early, few, inside))) in
+    let first = onward_to (n - last + slack) (stored_ahead mode slack text old mid 0 n to s1 (omega arith)) (ended p refl (omega arith)) (omega (arith, few, inside)) (omega arith) in
+    let rest = clean-stored mode slack text mid new last n (to + last) (omega (arith, inside)) (λ p late early. clean2 p late (omega (arith, early, inside))) s2 in
+    let same = ahead-runs mode text 0 (length text) (omega arith) (λ p late early. grind (arith, clean1, clean2)) in
     record {
       stretch = onward_to slack first (ended rest (omega (arith, inside)) (omega (arith, inside))) (omega (arith, few, inside)) (omega arith);
-      passed = passed-to mode src (length src);
+      passed = passed-to mode text (length text);
       cost = record { stored = omega (arith, s1.stored, s2.stored, same); covered = omega (arith, s1.stored, s2.stored); classified = omega (arith, same) };
     }
 
@@ -103,14 +102,13 @@ held-fewer mode src at n from valid bits h long few narrow = record {
 }
 
 -- a short text as its last vector, in two rows
-pub spilled-short : (text lanes dst : List ℕ) (n m : ℕ) → length text < n → m ≡ n → lanes ≡ drop (length text - length text) text ++ zeros (n - length text) → dst ≡ lanes ++ drop m (zeros n)
-    → dst ++ (zeros n ++ []) ≡ drop (length text - n) text ++ zeros (2 * n - min (length text) n)
+pub spilled-short : (text lanes dst : List ℕ) (n m : ℕ) → length text < n → m ≡ n → lanes ≡ text ++ zeros (n - length text) → dst ≡ lanes ++ drop m (zeros n) → dst ++ (zeros n ++ []) ≡ drop (length text - n) text ++ zeros (2 * n - min (length text) n)
 spilled-short text lanes dst n m few same loaded stored =
     let none : drop m (zeros n) ≡ [] = drop_all m (zeros n) (omega (arith, same, length-replicate {A = ℕ} n 0)) in
-    let start : length text - n ≡ length text - length text = omega (arith, few) in
+    let start : length text - n ≡ 0 = omega (arith, few) in
     let count : 2 * n - min (length text) n ≡ n - length text + n = omega (arith, few) in
-    let whole : dst ≡ drop (length text - length text) text ++ zeros (n - length text) = stored ∙ ap (λ xs. lanes ++ xs) none ∙ append-nil lanes ∙ loaded in
-    rw (start, count, whole, append-nil (zeros n)) (append_assoc (drop (length text - length text) text) (zeros (n - length text)) (zeros n) ∙ ap (λ xs. drop (length text - length text) text ++ xs) (replicate-append-replicate (n - length text) n 0))
+    let whole : dst ≡ text ++ zeros (n - length text) = stored ∙ ap (λ xs. lanes ++ xs) none ∙ append-nil lanes ∙ loaded in
+    rw (start, count, whole, append-nil (zeros n)) (append_assoc text (zeros (n - length text)) (zeros n) ∙ ap (λ xs. text ++ xs) (replicate-append-replicate (n - length text) n 0))
 
 -- a text's last vector and the zeros of both rows, from a place on
 pub tail-rows : (text rows : List ℕ) (border passed next k : ℕ) → rows ≡ drop border text ++ zeros k → next ≡ border + passed → next ≤ length text
@@ -144,40 +142,33 @@ module _ (mode : Mode) (slack n : ℕ) (text held : List ℕ) (next left k end :
 -- The last bytes of a text, with their flags
 
 -- the mask of fewer bytes than a vector has
-pub last-mask : (mode : Mode) (n : ℕ) (src lanes : List ℕ) (at : ℕ) (truths whole bits : List Bool) → n ≤ 64 → at ≤ length src → length src - at ≤ n → length lanes ≡ n
-    → lanes ≡ drop (length src - (length src - at)) src ++ zeros (n - (length src - at)) → truths ≡ map (needs_escape mode) lanes → whole ≡ truths ++ replicate (64 - n) false → bits ≡ clear_last (64 - (length src - at)) whole
-    → HoldsFlags mode (drop at src) 0 (length src - at) 0 bits
-last-mask mode n src lanes at truths whole bits narrow inside few long loaded flagged all cut =
-    held-cut mode (drop at src) lanes 0 n (length src - at) long narrow few (grind (arith, take-append-le, length-drop {A = ℕ})) bits (cc)
+pub last-mask : (mode : Mode) (n : ℕ) (text lanes : List ℕ) (truths whole bits : List Bool) → n ≤ 64 → length text < n → length lanes ≡ n → lanes ≡ text ++ zeros (n - length text)
+    → truths ≡ map (needs_escape mode) lanes → whole ≡ truths ++ replicate (64 - n) false → bits ≡ clear_last (64 - length text) whole → HoldsFlags mode text 0 (length text) 0 bits
+last-mask mode n text lanes truths whole bits narrow few long loaded flagged all cut =
+    held-cut mode text lanes 0 n (length text) long narrow (omega (arith, few)) (grind (arith, take-append-le)) bits (cc)
 
--- they are a short text
-pub last-short : (mode : Mode) (n : ℕ) (src text : List ℕ) (at : ℕ) (none bits : List Bool) (first_asked last_asked : List ℕ) → text ≡ drop at src → at ≤ length src → length src - at < n → HoldsFlags mode (drop at src) 0 (length src - at) 0 bits
-    → last_asked ≡ drop (length src - (length src - at)) src → AreTail mode n text none bits first_asked last_asked
-last-short mode n src text at none bits first_asked last_asked is inside few held asked =
-    let count = length-drop at src in let long = ap length is in
-    let start : length text - n ≡ 0 = omega (arith, count, long, few) in let there : length src - (length src - at) ≡ at = omega (arith, inside) in
+-- it is a short text
+pub last-short : {mode : Mode} {n : ℕ} {text : List ℕ} {none bits : List Bool} {first_asked last_asked : List ℕ} → length text < n → HoldsFlags mode text 0 (length text) 0 bits → last_asked ≡ text → AreTail mode n text none bits first_asked last_asked
+last-short {n = n} {text = text} few held asked =
+    let start : length text - n ≡ 0 = omega (arith, few) in
     record {
-      few = grind arith;
-      front = λ more. grind arith;
+      few = omega (arith, few);
+      front = λ more. absurd (omega (arith, more, few));
       back = grind arith;
-      front_asked = λ more. absurd (omega (arith, more, count, long, few));
-      back_asked = asked ∙ ap (λ k. drop k src) there ∙ sym is ∙ sym (ap (λ k. drop k text) start);
+      front_asked = λ more. absurd (omega (arith, more, few));
+      back_asked = asked ∙ sym (ap (λ k. drop k text) start);
     }
 
--- and so are those of a vector and more
-pub last-long_text : (mode : Mode) (n : ℕ) (src text : List ℕ) (at : ℕ) (first last : List Bool) (first_asked last_asked : List ℕ) → text ≡ drop at src → at + n ≤ length src → length src < at + 2 * n
-    → HoldsFlags mode src at n at first → HoldsFlags mode src (length src - n) n (length src - n) last → first_asked ≡ take n (drop at src) → last_asked ≡ take n (drop (length src - n) src)
-    → AreTail mode n text first last first_asked last_asked
-last-long_text mode n src text at first last first_asked last_asked is inside few held1 held2 asked1 asked2 =
-    let count = length-drop at src in let long = ap length is in
-    let there : length src - n ≡ at + (length text - n) = omega (arith, count, long, inside) in
-    let all : take n (drop (length src - n) src) ≡ drop (length src - n) src = take_all n (drop (length src - n) src) (omega (arith, length-drop (length src - n) src)) in
+-- and so is one of a vector and more
+pub last-pair : {mode : Mode} {n : ℕ} {text : List ℕ} {first last : List Bool} {first_asked last_asked : List ℕ} → n ≤ length text → length text < 2 * n → HoldsFlags mode text 0 n 0 first → HoldsFlags mode text (length text - n) n (length text - n) last
+    → first_asked ≡ take n text → last_asked ≡ take n (drop (length text - n) text) → AreTail mode n text first last first_asked last_asked
+last-pair {n = n} {text = text} inside few held1 held2 asked1 asked2 =
     record {
-      few = grind arith;
-      front = λ more. grind (arith, holds-from);
-      back = grind (arith, holds-from);
-      front_asked = λ more. asked1 ∙ sym (ap (take n) is);
-      back_asked = asked2 ∙ all ∙ ap (λ k. drop k src) there ∙ sym (drop-drop (length text - n) at src) ∙ sym (ap (drop (length text - n)) is);
+      few = few;
+      front = λ more. held1;
+      back = grind arith;
+      front_asked = λ more. asked1;
+      back_asked = asked2 ∙ take_all n (drop (length text - n) text) (omega (arith, length-drop (length text - n) text));
     }
 
 -- what is left of a text's last vector is among the bytes for which a classifier answered
@@ -189,28 +180,15 @@ within-tail text rows whole border next k is asked after inside =
     let cut : drop (next - border) whole ≡ drop next text = ap (drop (next - border)) asked ∙ drop-drop (next - border) border text ∙ ap (λ i. drop i text) there in
     record { at = next - border; same = rw (part, cut) (take_all (length (drop next text)) (drop next text) (omega arith)) }
 
--- A short text of which no byte is flagged, behind other bytes
-module _ {mode : Mode} {n : ℕ} {first last : List Bool} {first_asked last_asked : List ℕ} (src : List ℕ) (at : ℕ) (inside : at ≤ length src) (t : AreTail mode n (drop at src) first last first_asked last_asked) where
+-- A short text of which no byte is flagged
+module _ {mode : Mode} {n : ℕ} {text : List ℕ} {first last : List Bool} {first_asked last_asked : List ℕ} (t : AreTail mode n text first last first_asked last_asked) where
   -- its last vector is clean, which may be all of it
-  pub tail-clean_back : none_set last ≡ true → CleanFrom mode src (at + (length src - at - n)) (length src)
-  tail-clean_back none p late early =
-      let count = length-drop at src in
-      let clean = held-none mode (drop at src) (length (drop at src) - n) (min (length (drop at src)) n) (length (drop at src) - n) last t.back (omega arith) none (p - at) (omega (arith, late, count)) (omega (arith, late, early, count)) in
-      let there : at + (p - at) ≡ p = omega (arith, late) in rw (get_or-drop at src (p - at) 0, there) at clean
+  pub tail-clean_back : none_set last ≡ true → CleanFrom mode text (length text - n) (length text)
+  tail-clean_back none p late early = held-none mode text (length text - n) (min (length text) n) (length text - n) last t.back (omega arith) none p late (omega (arith, early))
 
   -- and its first one
-  pub tail-clean_front : n ≤ length src - at → none_set first ≡ true → CleanFrom mode src at (at + n)
-  tail-clean_front some none p late early =
-      let clean = held-none mode (drop at src) 0 n 0 first (t.front (omega (arith, some, length-drop at src))) (omega arith) none (p - at) (omega arith) (omega (arith, late, early)) in
-      let there : at + (p - at) ≡ p = omega (arith, late) in rw (get_or-drop at src (p - at) 0, there) at clean
-
--- as they were escaped, so was the rest of the text
-pub rest-escaped : {N : ℕ} {mode : Mode} {slack vectors : ℕ} {old new : Target N} {to end t1 t2 : ℕ} (src text : List ℕ) (at n t0 : ℕ) → text ≡ drop at src → at ≤ length src → vectors ≡ (length src - at) / n + 1 → t1 ≡ t0 + vectors
-    → Escapes mode slack (length text) vectors vectors text (state old 0 to t1) (state new (length text) end t2) → Escapes mode slack (length src) ((length src - at) / n + 1) 0 src (state old at to t0) (state new (length src) end t2)
-rest-escaped {N} {mode} {slack} {vectors} {old} {new} {to} {end} {t1} {t2} src text at n t0 is inside count ticks e =
-    let whole : at + length text ≡ length src = omega (arith, ap length is, length-drop at src, inside) in
-    let f = escapes-ended whole whole refl (escapes-later src text at is inside e) in
-    subst (λ v. Escapes mode slack (length src) v 0 src (state old at to t0) (state new (length src) end t2)) count (escapes-asked t0 vectors ticks f)
+  pub tail-clean_front : n ≤ length text → none_set first ≡ true → CleanFrom mode text 0 n
+  tail-clean_front some none p late early = held-none mode text 0 n 0 first (t.front some) (omega arith) none p late (omega (arith, early))
 
 -- how many vectors a short text begins
 pub one-begun : (n count : ℕ) → count < n → 1 ≡ count / n + 1

@@ -75,19 +75,19 @@ marked mode text old new last written quoted = grind (arith, append_assoc)
 -- Short texts
 
 -- a short text of which no byte is flagged stands for itself
-pub tail-itself : {first last : List Bool} {first_asked last_asked : List ℕ} (mode : Mode) (n : ℕ) (text : List ℕ) → AreTail mode n (drop 0 text) first last first_asked last_asked → none_set first ≡ true → none_set last ≡ true → inner mode text ≡ text
+pub tail-itself : {first last : List Bool} {first_asked last_asked : List ℕ} (mode : Mode) (n : ℕ) (text : List ℕ) → AreTail mode n text first last first_asked last_asked → none_set first ≡ true → none_set last ≡ true → inner mode text ≡ text
 tail-itself mode n text t none1 none2 =
     itself mode text (λ p late early.
-    let few = t.few in let back = tail-clean_back text 0 (omega arith) t none2 p in
-    let front = λ (some : n ≤ length text - 0). tail-clean_front text 0 (omega arith) t some none1 p in grind (arith, few, back, front))
+    let few = t.few in let back = tail-clean_back t none2 p in
+    let front = λ (some : n ≤ length text). tail-clean_front t some none1 p in grind (arith, few, back, front))
 
 -- the first lanes of a vector that was loaded with a text are the text
-pub lanes-front : (n : ℕ) (text lanes : List ℕ) → lanes ≡ drop 0 text ++ replicate (n - length text) 0 → take (length text) lanes ≡ text
+pub lanes-front : (n : ℕ) (text lanes : List ℕ) → lanes ≡ text ++ replicate (n - length text) 0 → take (length text) lanes ≡ text
 lanes-front n text lanes loaded = grind (arith, take-append_seam)
 
 -- and so they are after other bytes
-pub vector-front : (old text lanes : List ℕ) (n len : ℕ) → len ≡ length old → lanes ≡ drop 0 text ++ replicate (n - (length text - 0)) 0 → take (len + length text) (old ++ lanes) ≡ old ++ text
-vector-front old text lanes n len is loaded = let t = take-append-add old lanes (length text) in let none : length text - 0 ≡ length text = omega arith in let f = lanes-front n text lanes (rw none at loaded) in grind (arith, t, f)
+pub vector-front : (old text lanes : List ℕ) (n len : ℕ) → len ≡ length old → lanes ≡ text ++ replicate (n - length text) 0 → take (len + length text) (old ++ lanes) ≡ old ++ text
+vector-front old text lanes n len is loaded = let t = take-append-add old lanes (length text) in let f = lanes-front n text lanes loaded in grind (arith, t, f)
 
 -- Whether a text stands for itself
 

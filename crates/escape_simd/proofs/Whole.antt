@@ -1,5 +1,6 @@
 -- A whole text: its bytes between quotes, or with none.
 use Rattle.std.proofs.Common.{◌≡◌, ℕ, ◌+◌, ◌*◌, ◌/◌, ◌≤◌, true, false, List, [], ◌++◌, length, take, drop, refl, sym, ap, ◌∙◌, arith, append_assoc, length-append, le_refl}
+use Rattle.std.specs.Str.{IsUtf8, chars}
 use Rattle.std.proofs.lemmas.List.{append-nil, drop_all}
 use Rattle.escape_lanes.specs.Mode.{Mode, json, html, script}
 use Rattle.escape_lanes.specs.Written.{bytes_of}
@@ -8,6 +9,9 @@ use Rattle.escape_simd.specs.Output.{inner, plain, bound, quote_of, quote_count}
 use Rattle.escape_simd.specs.Runs.{escaped_count, run_count}
 use Rattle.escape_simd.specs.Stretch.{Cost, Stretch, reach}
 use Rattle.escape_simd.specs.Formatted.{IsWritten, IsFormatted, IsInnerWritten, IsQuoted, IsWrittenAt}
+use Rattle.escape_simd.specs.Headline.{IsOnlyOutput}
+use Rattle.escape_simd.specs.Laws.{IsOfOneText}
+use Rattle.escape_simd.proofs.OutputLemmas.{IsOnlyOutput-output, IsOfOneText-output}
 use Rattle.escape_simd.proofs.RestSteps.{rest-is}
 use Rattle.escape_simd.proofs.Stretches.{drop_further}
 use Rattle.escape_simd.proofs.ReplacementLemmas.{inner-nil}
@@ -67,6 +71,12 @@ whole_written lanes mode text old new count at =
       kept_past = further (count + lanes) (omega arith) at.kept;
     }
 
+-- what stands for a text and its last quotation mark, behind the first one
+pub quoted-before : {lanes : ℕ} {mode : Mode} {text old mid new : List ℕ} {opened count : ℕ} → IsWrittenAt (reach true lanes) (inner mode text ++ quote_of mode) mid new opened count → IsWrittenAt 0 (quote_of mode) old mid 0 opened → IsWritten lanes mode text old new count
+quoted-before {lanes} {mode} {text} {old} {mid} {new} {opened} {count} after before =
+    let all = written-onward (reach true lanes) before after (omega (arith, after.ends)) (omega arith) in
+    whole_written lanes mode text old new count (rw (plain-parts mode text, append_assoc (quote_of mode) (inner mode text) (quote_of mode)) all)
+
 -- the bytes of a text were escaped to a target, between quotation marks
 module _ {N : ℕ} {mode : Mode} {text : List ℕ} {old first second new : Target N} {opened close count : ℕ}
     (before : IsQuoted mode old first 0 opened) (between : Stretch mode (reach true N) text first second 0 (length text) opened close) (after : IsQuoted mode second new close count) where
@@ -109,3 +119,8 @@ inner_written lanes mode text old new count at =
       kept_bound = further (6 * length text + 32) (omega (arith, at.ends, most)) at.kept;
       kept_past = further (count + lanes) (omega arith) at.kept;
     }
+
+-- what is said of an output that was written
+pub written-laws : {lanes : ℕ} {mode : Mode} {text old new : List ℕ} {count : ℕ} → IsWritten lanes mode text old new count → IsUtf8 text
+    → record { written : IsWritten lanes mode text old new count; headline : IsOnlyOutput mode (take count new) (chars text); equal_texts : IsOfOneText mode text (take count new) }
+written-laws w utf8 = record { written = w; headline = IsOnlyOutput-output _ _ _ w.exact utf8; equal_texts = IsOfOneText-output _ _ _ w.exact utf8 }

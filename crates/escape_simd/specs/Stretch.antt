@@ -146,12 +146,6 @@ pub record HasVectors (mode : Mode) (N vectors : ℕ) (src : List ℕ) (at from 
   pub inside : at + (vectors + 1) * N ≤ length src
   pub room : HasRoom mode N src from (at + vectors * N) to size
 
--- The bytes of a text from `at` on are fewer than two vectors have, and have room.
-pub record HasTail (mode : Mode) (N : ℕ) (src : List ℕ) (at to size : ℕ) : Type 0 where
-  pub inside : at ≤ length src
-  pub few : length src < at + 2 * N
-  pub room : HasRoom mode (reach true N) src at (length src) to size
-
 -- A short text, with the flags of its last vector and the bytes for which a classifier answered them, and where it has as many
 -- bytes as one vector, those of its first one.
 pub record AreTail (mode : Mode) (N : ℕ) (text : List ℕ) (first last : List Bool) (first_asked last_asked : List ℕ) : Type 0 where

@@ -14,7 +14,9 @@ ghost use Rattle.escape_simd.specs.Script.{IsOnlyScript};
 
 use crate::kernel::Kernel;
 use crate::mode::Mode;
-use crate::simd::{HTML_MODE, JSON_MODE, SCRIPT_MODE, avx2, avx512, escape_at, neon, sse2, v128, whole};
+use crate::simd::{
+    HTML_MODE, JSON_MODE, SCRIPT_MODE, avx2, avx512, escape_at, neon, sse2, v128, whole,
+};
 
 /// Writes the output of a text in the mode `mode` to the front of `dst`, with the kernel `kernel`. Returns the length
 /// of the output in bytes. The call allocates nothing and does not fail.

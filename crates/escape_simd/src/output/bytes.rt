@@ -24,7 +24,7 @@ pub(super) fn append_last<const MODE: u8, A: Allocator>(text: &[u8], dst: &mut V
 {
     let (count, len) = (text.len(), dst.len());
     let flags = if count < N {
-        let (v, flags) = classify_short::<V, MODE, N>(text, 0, &mut Ticks::new());
+        let (v, flags) = classify_short::<V, MODE, N>(text, &mut Ticks::new());
         if flags.none() {
             let mut lanes = [0u8; N];
             v.storeu(&mut lanes);
@@ -34,7 +34,7 @@ pub(super) fn append_last<const MODE: u8, A: Allocator>(text: &[u8], dst: &mut V
         }
         flags
     } else {
-        let flags = classify_pair::<V, MODE, N>(text, 0, &mut Ticks::new());
+        let flags = classify_pair::<V, MODE, N>(text, &mut Ticks::new());
         if flags.none() {
             let last = count - N;
             push_all(dst, &text[..N]);

@@ -11,7 +11,7 @@ ghost use Rattle.escape_simd.specs.Stretch.{HoldsFlags, rest_length};
 
 use crate::output::length::added;
 use crate::output::{N, V};
-use crate::simd::load_last;
+use crate::simd::LoadLast;
 use escape_lanes::simd::classify::{classify, flags};
 use escape_lanes::simd::lane_bits::clear_first_lane;
 use escape_lanes::simd::target::Ticks;
@@ -43,7 +43,7 @@ pub(super) fn mask_at<const MODE: u8>(src: &[u8], at: usize, count: usize) -> u6
     if count == N {
         return classify::<V, MODE, N>(src, at, &mut ticks).0.bits();
     }
-    let flags = flags::<V, MODE, N>(&load_last::<V, N>(src, count), &mut ticks).bits();
+    let flags = flags::<V, MODE, N>(&V::load_last(src, count), &mut ticks).bits();
     flags.clear_high_bits(64 - count)
 }
 

@@ -31,7 +31,7 @@ pub(crate) fn escape_bytes<V: Vector<N>, const MODE: u8, const N: usize>(
     'vectors: while 2 * N <= src.len() - at {
         (at, end) = whole_vector::<V, MODE, N>(src, at, target, end, ticks);
     }
-    escape_tail::<V, MODE, N>(src, at, target, end, ticks)
+    escape_tail::<V, MODE, N>(&src[at..], target, end, ticks)
 }
 
 /// Escapes chunks of the text to `dst` from `to` on, as long as one more has room. Returns the places after them.

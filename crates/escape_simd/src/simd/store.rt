@@ -20,14 +20,13 @@ pub(crate) fn load<V: Vector<N>, const N: usize>(src: &[u8], at: usize) -> V
     V::load(&src[at..])
 }
 
-/// Returns the text's last `count` bytes, with zeros after them.
+/// Returns a text of fewer bytes than a vector has, with zeros after it.
 #[inline(always)]
-pub(crate) fn load_last<V: Vector<N>, const N: usize>(src: &[u8], count: usize) -> V
-    requires few { count < N }
-    requires inside { count ≤ length src.now }
-    ensures { V.lanes result ≡ drop (length src.now - count) src.now ++ replicate (N - count) 0 }
+pub(crate) fn load_short<V: Vector<N>, const N: usize>(text: &[u8]) -> V
+    requires { length text.now < N }
+    ensures { V.lanes result ≡ text.now ++ replicate (N - length text.now) 0 }
 {
-    V::load_last(src, count)
+    V::load_last(text, text.len())
 }
 
 /// Stores a vector at `to`, whose first lanes are the bytes of `text`, for which a classifier answered.

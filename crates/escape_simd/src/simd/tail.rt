@@ -5,11 +5,11 @@ ghost use Rattle.escape_lanes.specs.Bits.{bits_of, none_set};
 ghost use Rattle.escape_lanes.specs.Classified.{asked_of};
 ghost use Rattle.escape_lanes.specs.Written.{bytes_of};
 ghost use Rattle.escape_simd.specs.Modes.{mode_numbered};
-ghost use Rattle.escape_simd.specs.Stretch.{AreTail, Escapes, HasRoom, HasTail, HoldsFlags, reach, state};
+ghost use Rattle.escape_simd.specs.Stretch.{AreTail, Escapes, HasRoom, HoldsFlags, reach, state};
 
 use crate::simd::Vector;
 use crate::simd::by_mask::escape_by_mask;
-use crate::simd::store::{load, load_last, store, store_lanes};
+use crate::simd::store::{load, load_short, store, store_lanes};
 use escape_lanes::simd::classify::{Classified, classify, classify_loaded};
 use escape_lanes::simd::lane_bits::shift_lanes;
 use escape_lanes::simd::target::{Target, Ticks};
@@ -35,23 +35,20 @@ impl TailFlags<'_> {
     }
 }
 
-/// Loads the text's bytes from `at` on, fewer than a vector has, and classifies them.
+/// Loads a text of fewer bytes than a vector has, and classifies it.
 #[inline(always)]
 pub(crate) fn classify_short<'a, V: Vector<N>, const MODE: u8, const N: usize>(
-    src: &'a [u8],
-    at: usize,
+    text: &'a [u8],
     ticks: &mut Ticks,
 ) -> (V, TailFlags<'a>)
-    requires inside { at ≤ length src.now }
-    requires few { length src.now < at + N }
-    ensures loaded { V.lanes result.0 ≡ drop at src.now ++ replicate (N - (length src.now - at)) 0 }
-    ensures flagged { AreTail (mode_numbered MODE) N (drop at src.now) (bits_of 64 result.1.first) (bits_of 64 result.1.last) (asked_of result.1.first_classified) (asked_of result.1.last_classified) }
+    requires { length text.now < N }
+    ensures loaded { V.lanes result.0 ≡ text.now ++ replicate (N - length text.now) 0 }
+    ensures flagged { AreTail (mode_numbered MODE) N text.now (bits_of 64 result.1.first) (bits_of 64 result.1.last) (asked_of result.1.first_classified) (asked_of result.1.last_classified) }
     ensures tick { ticks.new ≡ ticks.old + 1 }
 {
-    let count = src.len() - at;
-    let v = load_last::<V, N>(src, count);
-    let (flags, last_classified) = classify_loaded::<V, MODE, N>(&v, &src[at..], ticks);
-    let last = flags.bits().clear_high_bits(64 - count);
+    let v = load_short::<V, N>(text);
+    let (flags, last_classified) = classify_loaded::<V, MODE, N>(&v, text, ticks);
+    let last = flags.bits().clear_high_bits(64 - text.len());
     let first_classified = Classified::none();
     (
         v,
@@ -64,20 +61,19 @@ pub(crate) fn classify_short<'a, V: Vector<N>, const MODE: u8, const N: usize>(
     )
 }
 
-/// Classifies the text's bytes from `at` on, as many as a vector has or more, and fewer than two have.
+/// Classifies a text of as many bytes as a vector has or more, and of fewer than two have.
 #[inline(always)]
 pub(crate) fn classify_pair<'a, V: Vector<N>, const MODE: u8, const N: usize>(
-    src: &'a [u8],
-    at: usize,
+    text: &'a [u8],
     ticks: &mut Ticks,
 ) -> TailFlags<'a>
-    requires several { at + N ≤ length src.now }
-    requires few { length src.now < at + 2 * N }
-    ensures flagged { AreTail (mode_numbered MODE) N (drop at src.now) (bits_of 64 result.first) (bits_of 64 result.last) (asked_of result.first_classified) (asked_of result.last_classified) }
+    requires several { N ≤ length text.now }
+    requires few { length text.now < 2 * N }
+    ensures flagged { AreTail (mode_numbered MODE) N text.now (bits_of 64 result.first) (bits_of 64 result.last) (asked_of result.first_classified) (asked_of result.last_classified) }
     ensures ticks { ticks.new ≡ ticks.old + 2 }
 {
-    let (flags1, first_classified) = classify::<V, MODE, N>(src, at, ticks);
-    let (flags2, last_classified) = classify::<V, MODE, N>(src, src.len() - N, ticks);
+    let (flags1, first_classified) = classify::<V, MODE, N>(text, 0, ticks);
+    let (flags2, last_classified) = classify::<V, MODE, N>(text, text.len() - N, ticks);
     TailFlags {
         first: flags1.bits(),
         first_classified,
@@ -93,7 +89,7 @@ fn spill_last<V: Vector<N>, const N: usize>(text: &[u8]) -> [[u8; N]; 2]
 {
     let mut rows = [[0u8; N]; 2];
     if text.len() < N {
-        load_last::<V, N>(text, text.len()).put(&mut rows[0]);
+        load_short::<V, N>(text).put(&mut rows[0]);
     } else {
         load::<V, N>(text, text.len() - N).put(&mut rows[0]);
     }
@@ -162,63 +158,56 @@ pub(crate) fn escape_flagged_tail<V: Vector<N>, const MODE: u8, const N: usize>(
     .1
 }
 
-/// Stores the text's bytes from `at` on, fewer than two vectors have, if none of them is flagged. Returns the place after
-/// them, and else their flags.
+/// Stores a text of fewer bytes than two vectors have, if none of them is flagged. Returns the place after it, and else its
+/// flags.
 #[inline(always)]
 pub(crate) fn store_clean_tail<'a, V: Vector<N>, const MODE: u8, const N: usize>(
-    src: &'a [u8],
-    at: usize,
+    text: &'a [u8],
     target: &mut Target<'_, N>,
     to: usize,
     ticks: &mut Ticks,
 ) -> Result<usize, TailFlags<'a>>
-    requires { HasTail (mode_numbered MODE) N src.now at to (length (bytes_of target.old)) }
-    ensures clean { IfOk result (λ end. Escapes (mode_numbered MODE) (reach true N) (length src.now) ((length src.now - at) / N + 1) 0 src.now (state target.old at to ticks.old) (state target.new (length src.now) end ticks.new)) }
-    ensures flagged { IfErr result (λ flags. AreTail (mode_numbered MODE) N (drop at src.now) (bits_of 64 flags.first) (bits_of 64 flags.last) (asked_of flags.first_classified) (asked_of flags.last_classified)) }
+    requires few { length text.now < 2 * N }
+    requires room { HasRoom (mode_numbered MODE) (reach true N) text.now 0 (length text.now) to (length (bytes_of target.old)) }
+    ensures clean { IfOk result (λ end. Escapes (mode_numbered MODE) (reach true N) (length text.now) (length text.now / N + 1) 0 text.now (state target.old 0 to ticks.old) (state target.new (length text.now) end ticks.new)) }
+    ensures flagged { IfErr result (λ flags. AreTail (mode_numbered MODE) N text.now (bits_of 64 flags.first) (bits_of 64 flags.last) (asked_of flags.first_classified) (asked_of flags.last_classified)) }
     ensures unchanged { OnErr result (target.new ≡ target.old) }
-    ensures ticks { OnErr result (ticks.new ≡ ticks.old + ((length src.now - at) / N + 1)) }
+    ensures ticks { OnErr result (ticks.new ≡ ticks.old + (length text.now / N + 1)) }
 {
-    let count = src.len() - at;
+    let count = text.len();
     if count < N {
-        let (v, flags) = classify_short::<V, MODE, N>(src, at, ticks);
+        let (v, flags) = classify_short::<V, MODE, N>(text, ticks);
         if !flags.none() {
             return Err(flags);
         }
-        store_lanes::<V, N, true>(&v, &src[at..], flags.last_classified, target, to);
+        store_lanes::<V, N, true>(&v, text, flags.last_classified, target, to);
         return Ok(to + count);
     }
-    let flags = classify_pair::<V, MODE, N>(src, at, ticks);
+    let flags = classify_pair::<V, MODE, N>(text, ticks);
     if !flags.none() {
         return Err(flags);
     }
-    let last = src.len() - N;
-    store::<V, N, true>(src, at, N, flags.first_classified, target, to);
+    let last = count - N;
+    store::<V, N, true>(text, 0, N, flags.first_classified, target, to);
     // The last vector overlaps the first one.
-    store::<V, N, true>(
-        src,
-        last,
-        N,
-        flags.last_classified,
-        target,
-        to + (count - N),
-    );
+    store::<V, N, true>(text, last, N, flags.last_classified, target, to + last);
     Ok(to + count)
 }
 
-/// Escapes the text's bytes from `at` on, fewer than two vectors have. Returns the place after them.
+/// Escapes a text of fewer bytes than two vectors have. Returns the place after it.
 #[inline(always)]
 pub(crate) fn escape_tail<V: Vector<N>, const MODE: u8, const N: usize>(
-    src: &[u8],
-    at: usize,
+    text: &[u8],
     target: &mut Target<'_, N>,
     to: usize,
     ticks: &mut Ticks,
 ) -> usize
-    requires { HasTail (mode_numbered MODE) N src.now at to (length (bytes_of target.old)) }
-    ensures { Escapes (mode_numbered MODE) (reach true N) (length src.now) ((length src.now - at) / N + 1) 0 src.now (state target.old at to ticks.old) (state target.new (length src.now) result ticks.new) }
+    requires few { length text.now < 2 * N }
+    requires room { HasRoom (mode_numbered MODE) (reach true N) text.now 0 (length text.now) to (length (bytes_of target.old)) }
+    ensures { Escapes (mode_numbered MODE) (reach true N) (length text.now) (length text.now / N + 1) 0 text.now (state target.old 0 to ticks.old) (state target.new (length text.now) result ticks.new) }
 {
-    match store_clean_tail::<V, MODE, N>(src, at, target, to, ticks) {
+    match store_clean_tail::<V, MODE, N>(text, target, to, ticks) {
         Ok(end) => end,
-        Err(flags) => { escape_flagged_tail::<V, MODE, N>(&src[at..], flags, target, to, ticks) }
+        Err(flags) => escape_flagged_tail::<V, MODE, N>(text, flags, target, to, ticks),
     }
 }

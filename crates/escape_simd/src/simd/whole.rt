@@ -122,7 +122,7 @@ pub(crate) fn format_in_mode<V: Vector<N>, const MODE: u8, const N: usize>(
     let text = value.as_bytes();
     let mut target = Target::<N>::new(dst);
     let open = quote::<MODE, N>(&mut target, 0);
-    match store_clean_tail::<V, MODE, N>(text, 0, &mut target, open, &mut Ticks::new()) {
+    match store_clean_tail::<V, MODE, N>(text, &mut target, open, &mut Ticks::new()) {
         Ok(close) => quote::<MODE, N>(&mut target, close),
         Err(flags) => format_flagged::<V, MODE, N>(
             text,

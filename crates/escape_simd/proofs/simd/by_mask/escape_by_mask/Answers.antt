@@ -1,4 +1,4 @@
-use Rattle.escape_simd.proofs.Words.{◌+◌, ◌-◌, ◌∙◌, ℕ, not, nat_eq, List, length, length-drop, take, drop, sym, subst, arith, take_all, bits_of, bytes_of, mode_numbered, asked_of, Escapes, IsWithin, reach, state}
+use Rattle.escape_simd.proofs.Words.{◌+◌, ◌-◌, ◌∙◌, ℕ, not, nat_eq, List, length, length-drop, take, drop, sym, subst, arith, take_all, bits_of, bytes_of, mode_numbered, asked_of, Escapes, HasBlocks, IsWithin, reach, state}
 use denote.Param.{number, value_of}
 use Rattle.escape_simd.proofs.Lanes.{held-none}
 use Rattle.escape_simd.proofs.Stretches.{reach-bounds, room-near}
@@ -8,17 +8,18 @@ use Rattle.escape_simd.proofs.simd.by_mask.escape_by_mask.Goals as goal
 pub store-requires : goal.store-requires
 store-requires g c = (omega arith, (c.requires.classified, vector-stores c.requires.vector))
 
-pub escape_blocks-end-requires-clause-blocks : goal.escape_blocks-end-requires-clause-blocks
-escape_blocks-end-requires-clause-blocks g c =
+pub escape_blocks-end-requires : goal.escape_blocks-end-requires
+escape_blocks-end-requires g c =
     let v = c.requires.vector in let met = g.met.V.Vector in let far = reach-bounds (not (nat_eq (value_of (number g.row.LAST)) 0)) g.row.N met.several in
-    record {
+    let blocks : HasBlocks (mode_numbered g.row.MODE) c.args.src.now c.args.at c.args.valid c.args.to (length (bytes_of c.args.target.now)) (bits_of 64 c.args.mask) = record {
       flags = v.flags;
       some = sym c.all_zero.ensures ∙ c.if-all_zero.false;
       short = λ k few. c.are_short.ensures c.if-are_short.true k (omega (arith, few, v.few));
       few = omega (arith, v.few, met.most);
       inside = omega (arith, v.inside, met.several);
       room = room-near (c.args.at + c.args.valid) 16 (omega arith) (omega (arith, v.inside)) (omega (arith, far)) v.room;
-    }
+    } in
+    (omega arith, (c.requires.classified, (v.few, (met.sixteens, (met.most, (omega (arith, v.inside), blocks))))))
 
 pub returns-then-all_zero : goal.returns-then-all_zero
 returns-then-all_zero g c =

@@ -1,13 +1,33 @@
-use Rattle.escape_simd.proofs.Words.{◌≡◌, ◌≤◌, ℕ, ◌+◌, ◌*◌, ◌∙◌, List, length, refl, sym, arith, bytes_of, mode_numbered, Escapes, HasVectors, Mode, Target, state}
+use Rattle.escape_simd.proofs.Words.{◌≡◌, ◌≤◌, ℕ, ◌+◌, ◌*◌, ◌∙◌, List, length, refl, sym, arith, bytes_of, mode_numbered, CanStore, Escapes, HasVectors, Mode, Target, state}
 use Rattle.escape_simd.proofs.Lanes.{none_set-four, within-all}
 use Rattle.escape_simd.proofs.Stretches.{room-least, room-near, room-on}
 use Rattle.escape_simd.proofs.Vectors.{escapes-asked, escapes-begun, escapes-bordered, escapes-ended, escapes-onward, flags-clean, passed-to, vector-clean}
 use Rattle.escape_simd.proofs.simd.chunk.chunk.Goals as goal
 
+-- each of the vectors can be stored
+module _ {N vectors : ℕ} {mode : Mode} {src : List ℕ} {at to size : ℕ} (r : HasVectors mode N vectors src at at to size) where
+  store-at : (k i p : ℕ) (target : Target N) → i ≡ at + k → p ≡ to + k → k + N ≤ vectors * N → (vectors + 1) * N ≡ vectors * N + N → length (bytes_of target) ≡ size → CanStore N N src i N p (length (bytes_of target))
+  store-at k i p target is ends few more same =
+      let least = room-least (omega arith) (omega (arith, r.inside, more)) r.room in
+      record { few = omega arith; inside = omega (arith, is, few, r.inside, more); room = omega (arith, ends, few, least, same) }
+
 pub store-requires : goal.store-requires
-store-requires g c =
-    let n : ℕ = g.row.N in let i = c.requires.inside in let least = room-least (omega arith) (omega (arith, i)) c.requires.room in
-    (omega arith, (within-all _ _ c.classify-answer1.ensures.asked, record { few = omega arith; inside = omega (arith, i); room = omega (arith, least) }))
+store-requires g c = (omega arith, (within-all _ _ c.classify-answer1.ensures.asked, store-at c.requires 0 c.args.at c.args.to c.args.target.now (omega arith) (omega arith) (omega arith) (omega arith) refl))
+
+pub store-requires-then-none : goal.store-requires-then-none
+store-requires-then-none g c =
+    let n : ℕ = g.row.N in let s = c.store.ensures.same_slice in
+    (omega arith, (within-all _ _ c.classify-answer2.ensures.asked, store-at c.requires n (c.args.at + n) (c.args.to + n) c.store.new.target refl refl (omega arith) (omega arith) s.len))
+
+pub store-requires-then-none-2 : goal.store-requires-then-none-2
+store-requires-then-none-2 g c =
+    let n : ℕ = g.row.N in let s = c.store.ensures.same_slice in let s2 = c.store-then-none.ensures.same_slice in
+    (omega arith, (within-all _ _ c.classify-answer3.ensures.asked, store-at c.requires (2 * n) (c.args.at + n + n) (c.args.to + 2 * n) c.store-then-none.new.target (omega arith) refl (omega arith) (omega arith) (s2.len ∙ s.len)))
+
+pub store-requires-then-none-3 : goal.store-requires-then-none-3
+store-requires-then-none-3 g c =
+    let n : ℕ = g.row.N in let s = c.store.ensures.same_slice in let s2 = c.store-then-none.ensures.same_slice in let s3 = c.store-then-none-2.ensures.same_slice in
+    (omega arith, (within-all _ _ c.classify-answer4.ensures.asked, store-at c.requires (3 * n) (c.args.at + n + n + n) (c.args.to + 3 * n) c.store-then-none-2.new.target (omega arith) refl (omega arith) (omega arith) (s3.len ∙ s2.len ∙ s.len)))
 
 pub returns-then-none : goal.returns-then-none
 returns-then-none g c =

@@ -1,13 +1,13 @@
-use Rattle.std.proofs.Common.{ℕ, List, ◌++◌, false, refl, drop, replicate, length, ◌-◌, ◌∙◌, ap, arith}
+use Rattle.std.proofs.Common.{ℕ, List, ◌++◌, false, replicate, length, ◌-◌, ◌∙◌, ap, arith}
 use Rattle.escape_simd.proofs.Words.{bits_of, mode_numbered}
-use Rattle.escape_simd.proofs.Last.{last-long_text}
+use Rattle.escape_simd.proofs.Last.{last-pair}
 use Rattle.escape_simd.proofs.Vectors.{mask-held}
 use Rattle.escape_simd.proofs.simd.tail.classify_pair.Goals as goal
 
 pub returns-clause-flagged : goal.returns-clause-flagged
 returns-clause-flagged g c =
-    let mode = mode_numbered g.row.MODE in let n : ℕ = g.row.N in let src : List ℕ = c.args.src.now in let at : ℕ = c.args.at in let r = c.requires in let t = g.V.Flags.Flags.truths in
-    let lanes = g.met.V.Vector.flag_count in
-    let held1 = mask-held mode n src at (t c.classify-flags1.result.0) (bits_of 64 c.bits.result) g.met.V.Vector.most r.several c.classify-flags1.ensures.flagged (c.bits.ensures ∙ ap (λ m. t c.classify-flags1.result.0 ++ replicate (64 - m) false) lanes) in
-    let held2 = mask-held mode n src (length src - n) (t c.classify-flags2.result.0) (bits_of 64 c.bits-2.result) g.met.V.Vector.most (omega (arith, r.several)) c.classify-flags2.ensures.flagged (c.bits-2.ensures ∙ ap (λ m. t c.classify-flags2.result.0 ++ replicate (64 - m) false) lanes) in
-    last-long_text mode n src (drop at src) at (bits_of 64 c.bits.result) (bits_of 64 c.bits-2.result) _ _ refl r.several r.few held1 held2 c.classify-flags1.ensures.asked c.classify-flags2.ensures.asked
+    let mode = mode_numbered g.row.MODE in let n : ℕ = g.row.N in let text : List ℕ = c.args.text.now in let r = c.requires in let t = g.V.Flags.Flags.truths in
+    let lanes = g.met.V.Vector.flag_count in let narrow = g.met.V.Vector.most in
+    let held1 = mask-held mode n text 0 (t c.classify-flags1.result.0) (bits_of 64 c.bits.result) narrow (omega (arith, r.several)) c.classify-flags1.ensures.flagged (c.bits.ensures ∙ ap (λ m. t c.classify-flags1.result.0 ++ replicate (64 - m) false) lanes) in
+    let held2 = mask-held mode n text (length text - n) (t c.classify-flags2.result.0) (bits_of 64 c.bits-2.result) narrow (omega (arith, r.several)) c.classify-flags2.ensures.flagged (c.bits-2.ensures ∙ ap (λ m. t c.classify-flags2.result.0 ++ replicate (64 - m) false) lanes) in
+    last-pair r.several r.few held1 held2 c.classify-flags1.ensures.asked c.classify-flags2.ensures.asked

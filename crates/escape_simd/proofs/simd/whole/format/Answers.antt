@@ -1,9 +1,19 @@
-use Rattle.std.proofs.Common.{length, ap, subst, arith}
+use Rattle.std.proofs.Common.{ℕ, List, true, length, ap, subst, arith}
+use Rattle.escape_lanes.specs.Written.{bytes_of}
 use Rattle.escape_simd.specs.Modes.{mode_numbered}
 use Rattle.escape_simd.specs.Formatted.{IsFormatted}
-use Rattle.escape_simd.proofs.Stretches.{stretch-on}
+use Rattle.escape_simd.specs.Stretch.{reach}
+use Rattle.escape_simd.proofs.Stretches.{room-six, stretch-on}
 use Rattle.escape_simd.proofs.Whole.{whole_formatted, bound-quotes, quote-short}
 use Rattle.escape_simd.proofs.simd.whole.format.Goals as goal
+
+pub escape_bytes-close-requires : goal.escape_bytes-close-requires
+escape_bytes-close-requires g c =
+    let mode = mode_numbered g.row.MODE in let text : List ℕ = c.as_bytes.result.now in let o = c.quote-open.ensures in (
+      omega arith,
+      room-six mode (reach true g.row.N) text 0 (length text) c.quote-open.result (length (bytes_of c.quote-open.new.target)) (omega arith) (omega arith)
+          (omega (arith, bound-quotes mode (length c.args.value.now), quote-short mode, ap length c.as_bytes.ensures.value, o.quoted.ends, o.same_slice.len, c.requires)),
+    )
 
 pub quote-requires : goal.quote-requires
 quote-requires g c =

@@ -8,8 +8,9 @@ ghost use Rattle.escape_simd.specs.Parts.{IsPartAt};
 ghost use Rattle.escape_simd.specs.Stretch.{Escapes, HasRoom, reach, state};
 
 use crate::simd::Vector;
-use crate::simd::chunk::{chunk, whole_vector};
+use crate::simd::chunk::{chunk, vector_from};
 use crate::simd::tail::escape_tail;
+use escape_lanes::simd::classify::classify;
 use escape_lanes::simd::target::{Target, Ticks};
 
 /// Escapes the bytes to the target from `to` on, with no quotation marks. Returns the place after them.
@@ -29,7 +30,8 @@ pub(crate) fn escape_bytes<V: Vector<N>, const MODE: u8, const N: usize>(
         (at, end) = chunk::<V, MODE, N>(src, at, target, end, ticks);
     }
     'vectors: while 2 * N <= src.len() - at {
-        (at, end) = whole_vector::<V, MODE, N>(src, at, target, end, ticks);
+        let answer = classify::<V, MODE, N>(src, at, ticks);
+        (at, end) = vector_from::<V, MODE, N>(src, at, at, answer, target, end, ticks);
     }
     escape_tail::<V, MODE, N>(&src[at..], target, end, ticks)
 }

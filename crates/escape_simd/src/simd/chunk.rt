@@ -1,4 +1,4 @@
-//! Whole vectors of a text that have a further one behind them: a chunk of four, and one alone.
+//! Whole vectors of a text that have a further one behind them: one alone, and a chunk of four.
 ghost use Rattle.std.specs.Prelude.{◌≡◌, ◌+◌, ◌*◌, ◌≤◌, length, take, drop, map};
 ghost use Rattle.escape_lanes.specs.Classified.{asked_of};
 ghost use Rattle.escape_lanes.specs.Replacement.{needs_escape};
@@ -17,7 +17,7 @@ use escape_lanes::simd::target::{Target, Ticks};
 /// Escapes the text's vector at `at` from `from` on, of which a classifier answered: what came before it may have passed
 /// the rest of a separator. Returns the places after it.
 #[inline(always)]
-fn vector_from<V: Vector<N>, const MODE: u8, const N: usize>(
+pub(crate) fn vector_from<V: Vector<N>, const MODE: u8, const N: usize>(
     src: &[u8],
     at: usize,
     from: usize,
@@ -35,22 +35,6 @@ fn vector_from<V: Vector<N>, const MODE: u8, const N: usize>(
     let passed = from - at;
     let mask = shift_lanes(answer.0.bits(), passed);
     escape_by_mask::<V, MODE, N, false>(src, from, N - passed, mask, answer.1, target, to, ticks)
-}
-
-/// Escapes one vector of the text. Returns the places after it.
-#[inline(always)]
-pub(crate) fn whole_vector<V: Vector<N>, const MODE: u8, const N: usize>(
-    src: &[u8],
-    at: usize,
-    target: &mut Target<'_, N>,
-    to: usize,
-    ticks: &mut Ticks,
-) -> (usize, usize)
-    requires { HasVectors (mode_numbered MODE) N 1 src.now at at to (length (bytes_of target.old)) }
-    ensures { Escapes (mode_numbered MODE) N (at + N) 1 0 src.now (state target.old at to ticks.old) (state target.new result.0 result.1 ticks.new) }
-{
-    let answer = classify::<V, MODE, N>(src, at, ticks);
-    vector_from::<V, MODE, N>(src, at, at, answer, target, to, ticks)
 }
 
 /// Escapes four vectors of the text. They are classified at once, since most are clean. Returns the places after

@@ -11,15 +11,6 @@ use escape_lanes::simd::target::Target;
 /// How far a vector's store may reach past a text: kernels of more lanes store a text's last bytes exactly.
 const WIDEST_REACH: usize = 32;
 
-/// Returns the text's vector at `at`.
-#[inline(always)]
-pub(crate) fn load<V: Vector<N>, const N: usize>(src: &[u8], at: usize) -> V
-    requires { at + N ≤ length src.now }
-    ensures { V.lanes result ≡ take N (drop at src.now) }
-{
-    V::load(&src[at..])
-}
-
 /// Returns a text of fewer bytes than a vector has, with zeros after it.
 #[inline(always)]
 pub(crate) fn load_short<V: Vector<N>, const N: usize>(text: &[u8]) -> V
@@ -69,6 +60,6 @@ pub(crate) fn store<V: Vector<N>, const N: usize, const LAST: bool>(
     requires room { CanStore N (reach LAST N) src.now from left to (length (bytes_of target.old)) }
     ensures { IsStored (reach LAST N) src.now target.old target.new from left to }
 {
-    let v = load::<V, N>(src, from);
+    let v = V::load(&src[from..]);
     store_lanes::<V, N, LAST>(&v, &src[from..from + left], classified, target, to);
 }

@@ -9,7 +9,7 @@ ghost use Rattle.escape_simd.specs.Stretch.{AreTail, Escapes, HasRoom, HoldsFlag
 
 use crate::simd::Vector;
 use crate::simd::by_mask::escape_by_mask;
-use crate::simd::store::{load, load_short, store, store_lanes};
+use crate::simd::store::{load_short, store, store_lanes};
 use escape_lanes::simd::classify::{Classified, classify, classify_loaded};
 use escape_lanes::simd::lane_bits::shift_lanes;
 use escape_lanes::simd::target::{Target, Ticks};
@@ -91,7 +91,7 @@ fn spill_last<V: Vector<N>, const N: usize>(text: &[u8]) -> [[u8; N]; 2]
     if text.len() < N {
         load_short::<V, N>(text).put(&mut rows[0]);
     } else {
-        load::<V, N>(text, text.len() - N).put(&mut rows[0]);
+        V::load(&text[text.len() - N..]).put(&mut rows[0]);
     }
     rows
 }

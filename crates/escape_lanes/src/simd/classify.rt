@@ -8,7 +8,7 @@ ghost use Rattle.escape_lanes.specs.Replacement.{needs_escape};
 use crate::simd::ticks::Ticks;
 use crate::simd::vector::{HTML_MODE, JSON_MODE, Vector};
 
-/// Bytes for which a classifier answered. Only classifiers make one, and it can't be cloned.
+/// Bytes for which a classifier answered. Only the functions below make one, and it can't be cloned.
 ///
 /// A store of a vector takes one, and so does a block without an escape: so each of them was classified. Nothing reads
 /// the bytes, and the compiler removes them.

@@ -1,14 +1,9 @@
 -- The first texts of a list, joined.
-use Rattle.std.proofs.Common.{◌≡◌, ℕ, zero, suc, ◌+◌, ◌<◌, ◌≤◌, List, [], ◌∷◌, ◌++◌, length, map, take, get_or, sym, ap, ◌∙◌, append_assoc, append-nil, add-one, arith}
-use Rattle.escape_simd.proofs.Words.{concat, get_or_default, Mode, inner}
+use Rattle.std.proofs.Common.{◌≡◌, ℕ, ◌+◌, ◌<◌, ◌≤◌, List, ◌++◌, length, map, take, get_or, append_assoc, append-nil, arith}
+use Rattle.std.proofs.lemmas.List.{take_more}
+use Rattle.std.proofs.lemmas.List.Folds.{concat-append}
+use Rattle.escape_simd.proofs.Words.{concat, get_or_default, get_or-map, length-map, Mode, inner}
 use Rattle.escape_simd.proofs.OutputLemmas.{CanBeCutAfter, inner-append}
-
--- one more list, joined
-concat_suc : {X : Type 0} (f : X → List ℕ) (xs : List X) (n : ℕ) (d : X) → n < length xs → concat (take (suc n) (map f xs)) ≡ concat (take n (map f xs)) ++ f (get_or xs n d)
-concat_suc f [] n d inside = absurd (omega arith)
-concat_suc f (x ∷ xs) zero d inside = append-nil (f x)
-concat_suc f (x ∷ xs) (suc n) d inside =
-    ap (λ rest. f x ++ rest) (concat_suc f xs n d (omega arith)) ∙ sym (append_assoc (f x) (concat (take n (map f xs))) (f (get_or xs n d)))
 
 -- the bytes that a vector holds once one more text is written
 pub written_more : {X : Type 0} (mode : Mode) (f : X → List ℕ) (xs : List X) (n : ℕ) (d : X) (start before after : List ℕ) → n < length xs
@@ -16,7 +11,7 @@ pub written_more : {X : Type 0} (mode : Mode) (f : X → List ℕ) (xs : List X)
     → before ≡ start ++ inner mode (concat (take n (map f xs))) → after ≡ before ++ inner mode (f (get_or xs n d))
     → after ≡ start ++ inner mode (concat (take (n + 1) (map f xs)))
 written_more mode f xs n d start before after inside cut so_far more =
-    grind (arith, add-one, concat_suc, append_assoc, inner-append)
+    grind (arith, take_more (map f xs) n (f d) (omega (arith, length-map xs f)), get_or-map f xs n d (f d) inside, concat-append, append-nil, append_assoc, inner-append)
 
 -- what holds of each of the first values, once it holds of one more
 pub each_more : {X : Type 0} (f : X → ℕ) (most : ℕ) (xs : List X) (n : ℕ) (e : X) → n < length xs

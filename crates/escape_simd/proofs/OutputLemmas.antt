@@ -7,11 +7,11 @@ use Rattle.std.proofs.lemmas.Str.{IsUtf8-from_ascii}
 use Rattle.std.proofs.lemmas.Str.Ascii.{IsAscii-from_all}
 use Rattle.escape_simd.proofs.SpellingLemmas.{piece_cases}
 use Rattle.escape_simd.specs.Headline.{IsOnlyOutput}
-use Rattle.escape_simd.proofs.ReplacementLemmas.{inner-nil, inner-past, inner-script, hex_escape}
+use Rattle.escape_simd.proofs.ReplacementLemmas.{IsBytewise, inner-nil, inner-past, script_cases, hex_escape}
 use Rattle.escape_simd.proofs.Texts.{length-inner}
 use Rattle.escape_simd.proofs.HtmlLemmas.{IsOnlyHtml-plain, six_cases}
 use Rattle.escape_simd.proofs.JsonLemmas.{IsOnlyJson-plain, needed_cases, length-quoted}
-use Rattle.escape_simd.proofs.ScriptLemmas.{script_cases, IsOnlyScript-plain, script_denotes}
+use Rattle.escape_simd.proofs.ScriptLemmas.{IsOnlyScript-plain, script_denotes}
 
 -- the output for the bytes of a text, in each mode
 IsOnlyOutput-plain : (mode : Mode) (text : List ℕ) → all_scalars text ≡ true → IsOnlyOutput mode (plain mode (encode_utf8_all text)) text
@@ -39,20 +39,16 @@ IsTextOf-chars bytes utf8 = record { scalars = scalars-chars bytes utf8; encoded
 ascii_text : (bytes : List ℕ) → AllByRecursion (λ b. b < 128) bytes → IsUtf8 bytes
 ascii_text bytes h = IsUtf8-from_ascii bytes (IsAscii-from_all bytes (All-from_recursion (λ b. b < 128) bytes h))
 
--- what stands for a character is a text in JSON
-IsUtf8-json : (c : ℕ) → IsScalar c → IsUtf8 (inner json (encode_utf8 c))
+-- what stands for a character is a text, where its bytes are taken one by one
+IsUtf8-bytewise : (mode : Mode) → IsBytewise mode → (c : ℕ) → IsScalar c → IsUtf8 (inner mode (encode_utf8 c))
 unfolding replacement
-IsUtf8-json c character =
-    piece_cases json tt c IsUtf8 (λ need. ascii_text (replacement json c) (grind (arith, nat_tests, needed_cases))) (λ clean. IsUtf8-encode c character)
+IsUtf8-bytewise mode bytewise c character =
+    piece_cases mode bytewise c IsUtf8 (λ need. ascii_text (replacement mode c) (grind (arith, nat_tests, needed_cases, six_cases))) (λ clean. IsUtf8-encode c character)
 
 -- and in each mode
 IsUtf8-replacement : (mode : Mode) (c : ℕ) → IsScalar c → IsUtf8 (inner mode (encode_utf8 c))
-unfolding replacement
-IsUtf8-replacement json c character = IsUtf8-json c character
-IsUtf8-replacement html c character =
-    piece_cases html tt c IsUtf8 (λ need. ascii_text (replacement html c) (grind (arith, nat_tests, six_cases))) (λ clean. IsUtf8-encode c character)
-IsUtf8-replacement script c character =
-    rw (inner-script c) (script_cases c IsUtf8 (λ marked. ascii_text (hex_escape c) (grind (arith, nat_tests))) (λ other. IsUtf8-json c character))
+IsUtf8-replacement script c character = script_cases c IsUtf8 (λ marked. ascii_text (hex_escape c) (grind (arith, nat_tests))) (λ other. IsUtf8-bytewise json tt c character)
+IsUtf8-replacement mode c character = IsUtf8-bytewise mode tt c character
 
 -- what stands for the bytes of characters is a text
 IsUtf8-characters : (mode : Mode) (text : List ℕ) → all_scalars text ≡ true → IsUtf8 (inner mode (encode_utf8_all text))
@@ -117,10 +113,7 @@ JoinsTexts-output script bytes output same = λ first second text _ cut. same �
 -- as the clauses of a call have it: of the bytes of its `&str` and of its output
 module _ (mode : Mode) (bytes output : List ℕ) (same : output ≡ plain mode bytes) where
   pub HasOutputLength-output : HasOutputLength mode (length bytes) output
-  HasOutputLength-output =
-      let sizes = length-inner mode bytes in
-      let long = ap length same ∙ length-plain mode bytes in
-      record { at_least = omega arith; at_most = omega arith }
+  HasOutputLength-output = omega (arith, length-inner mode bytes, ap length same ∙ length-plain mode bytes)
 
   pub IsOfOneText-output : IsUtf8 bytes → IsOfOneText mode bytes output
   IsOfOneText-output utf8 other text e =

@@ -1,19 +1,16 @@
 -- Eight bytes put apart are what stands for a text's bytes, and how many blocks have a flag.
 use Rattle.std.proofs.Common.{◌≡◌, ◌≢◌, ℕ, zero, suc, ◌+◌, ◌-◌, ◌*◌, ◌<◌, ◌≤◌, Bool, true, false, cond, List, [], ◌∷◌, ◌++◌, length, take, drop, map, get_or, refl, sym, ap, ◌∙◌, inl, inr, arith}
-use Rattle.escape_simd.proofs.Words.{cases_lt, drop-drop, get_or-drop, get_or-take, get_or_past, nat_tests, sum_by-cons, true≢false, Mode, needs_escape, replacement, shortened, flag_count, flagged_blocks, put_apart, inner, escaped_count}
-use Rattle.std.proofs.lemmas.List.Sums.{get_or-le-sum_by}
+use Rattle.escape_simd.proofs.Words.{cases_lt, drop-drop, get_or-drop, get_or-take, get_or_past, nat_tests, Mode, needs_escape, replacement, shortened, flag_count, flagged_blocks, put_apart, inner, escaped_count}
+use Rattle.std.proofs.lemmas.List.Sums.{get_or-le-sum_by, sum_by-take-drop}
+use Rattle.escape_lanes.proofs.SpreadLemmas.{count-cons}
 use Rattle.escape_simd.proofs.ReplacementLemmas.{inner-one, inner-clean_byte}
 use Rattle.escape_simd.proofs.Shortened.{KeepsClean, passed-short, short-escape}
 use Rattle.escape_simd.proofs.Texts.{escaped-here, escaped_clean-here}
 
 -- Counts of flags
 
--- one more
-count-cons : (b : Bool) (bs : List Bool) → flag_count (b ∷ bs) ≡ cond b 1 0 + flag_count bs
-count-cons b bs = sum_by-cons (λ c. cond c 1 0) b bs
-
 -- none where none is set
-count-none : (flags : List Bool) → ((i : ℕ) → get_or flags i false ≢ true) → flag_count flags ≡ 0
+pub count-none : (flags : List Bool) → ((i : ℕ) → get_or flags i false ≢ true) → flag_count flags ≡ 0
 count-none [] none = omega arith
 count-none (true ∷ flags) none = absurd (none 0 refl)
 count-none (false ∷ flags) none = grind (arith, count-cons false flags, count-none flags (λ i. none (suc i)))
@@ -39,35 +36,24 @@ unfolding flagged_blocks
 blocks-most zero flags = omega arith
 blocks-most (suc n) flags = let rest = blocks-most n (drop 8 flags) in grind (arith, nat_tests, rest)
 
--- the front of lanes of which none is set
-none-front : (n i : ℕ) (flags : List Bool) → ((j : ℕ) → get_or flags j false ≢ true) → get_or (take n flags) i false ≢ true
-none-front zero i flags none h = true≢false (sym h)
-none-front (suc n) i [] none h = true≢false (sym h)
-none-front (suc n) zero (b ∷ flags) none h = none 0 h
-none-front (suc n) (suc i) (b ∷ flags) none h = none-front n i flags (λ j. none (suc j)) h
-
--- none where no lane is set
-pub blocks-none : (n : ℕ) (flags : List Bool) → ((i : ℕ) → get_or flags i false ≢ true) → flagged_blocks n flags ≡ 0
+-- none where there is no flag
+pub blocks-none : (n : ℕ) (flags : List Bool) → flag_count flags ≡ 0 → flagged_blocks n flags ≡ 0
 unfolding flagged_blocks
 blocks-none zero flags none = refl
 blocks-none (suc n) flags none =
-    let here : flag_count (take 8 flags) ≡ 0 = count-none (take 8 flags) (λ i. none-front 8 i flags none) in
-    let rest = blocks-none n (drop 8 flags) (λ i h. none (8 + i) (sym (get_or-drop 8 flags i false) ∙ h)) in
-    rw (here, rest) refl
+    let parts = sum_by-take-drop (λ b. cond b 1 0) flags 8 in
+    let here : flag_count (take 8 flags) ≡ 0 = omega (arith, parts, none) in
+    rw here (omega (arith, blocks-none n (drop 8 flags) (omega (arith, parts, none))))
 
 -- one at least where a lane is
 pub blocks-some : (n k : ℕ) (flags : List Bool) → k < 8 * n → get_or flags k false ≡ true → 1 ≤ flagged_blocks n flags
 unfolding flagged_blocks
 blocks-some zero k flags few set = absurd (omega arith)
 blocks-some (suc n) k flags few set = elim (cases_lt k 8) [
-  | inl here ↦
-      let one = get_or-le-sum_by (λ b. cond b 1 0) (take 8 flags) k false in
-      let there : get_or (take 8 flags) k false ≡ true = get_or-take 8 flags k false here ∙ set in
-      grind (arith, nat_tests, get_or_past, there, one)
+  | inl here ↦ grind (arith, nat_tests, get_or_past, get_or-take 8 flags k false here ∙ set, get_or-le-sum_by (λ b. cond b 1 0) (take 8 flags) k false)
   | inr past ↦
       let i : 8 + (k - 8) ≡ k = omega (arith, past) in
-      let rest = blocks-some n (k - 8) (drop 8 flags) (omega (arith, few, past)) (get_or-drop 8 flags (k - 8) false ∙ rw i set) in
-      omega (arith, rest)
+      omega (arith, blocks-some n (k - 8) (drop 8 flags) (omega (arith, few, past)) (get_or-drop 8 flags (k - 8) false ∙ rw i set))
 ]
 
 -- how many bytes they become

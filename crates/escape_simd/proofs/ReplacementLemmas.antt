@@ -1,5 +1,5 @@
 -- What stands for a byte, and for a character: its bytes' replacements, or the escape of a separator.
-use Rattle.std.proofs.Common.{◌≡◌, ◌≢◌, ℕ, zero, suc, ◌/◌, ◌%◌, ◌<◌, ◌≤◌, ◌⊎◌, true, false, List, [], ◌∷◌, ◌++◌, codes, length, drop, flat_map, encode_utf8_all, refl, append-nil, arith, inl, inr, ltb-true, ltb, if◌then◌else◌}
+use Rattle.std.proofs.Common.{◌≡◌, ◌≢◌, ℕ, ◌/◌, ◌%◌, ◌<◌, ◌≤◌, ◌⊎◌, true, false, List, [], ◌∷◌, ◌++◌, codes, length, drop, flat_map, encode_utf8_all, refl, append-nil, arith, inl, inr, ltb-true, ltb}
 use Rattle.escape_simd.proofs.Words.{encode_utf8, digit_char, AllByRecursion, encode_ascii, encode_same, cases_lt, cases_Bool, cond_both, nat_tests, flat_map-append, Mode, json, script, replacement, needs_escape, begins_separator, passed, script_inner_after, inner, is_script_marked}
 use Rattle.std.specs.Int.{IsInRange}
 
@@ -22,13 +22,6 @@ length-replacement script b = grind (arith, nat_tests)
 length-replacement mode b = grind (arith, nat_tests)
 
 -- Step by step
-
--- what stands for the bytes after the first n
-pub script_inner_after-drop : (n : ℕ) (bytes : List ℕ) → script_inner_after n bytes ≡ inner script (drop n bytes)
-unfolding script_inner_after
-script_inner_after-drop zero bytes = refl
-script_inner_after-drop (suc n) [] = refl
-script_inner_after-drop (suc n) (b ∷ bs) = script_inner_after-drop n bs
 
 -- nothing stands for no bytes
 pub inner-nil : (mode : Mode) → inner mode [] ≡ []
@@ -130,32 +123,14 @@ module _ (mode : Mode) (bytewise : IsBytewise mode) (c : ℕ) where
 abbrev pub hex_escape : ℕ → List ℕ
 hex_escape c = codes "\\u" ++ digit_char (c / 0x1000) ∷ digit_char (c / 0x100 % 16) ∷ digit_char (c / 0x10 % 16) ∷ digit_char (c % 16) ∷ []
 
--- what stands for the character: for the five that are marked their hex escapes, and for the others what JSON writes
-unfoldable pub script_replacement : ℕ → List ℕ
-script_replacement c = if is_script_marked c then hex_escape c else inner json (encode_utf8 c)
-
--- a marked character
-pub script_replacement-marked : (c : ℕ) → is_script_marked c ≡ true → script_replacement c ≡ hex_escape c
-unfolding script_replacement
-script_replacement-marked c marked = rw marked refl
-
--- any other
-pub script_replacement-other : (c : ℕ) → is_script_marked c ≡ false → script_replacement c ≡ inner json (encode_utf8 c)
-unfolding script_replacement
-script_replacement-other c other = rw other refl
-
 -- the five marked characters
 pub marked_cases : (c : ℕ) → is_script_marked c ≡ true → (P : ℕ → Type 0) → P 0x26 → P 0x3c → P 0x3e → P 0x2028 → P 0x2029 → P c
 marked_cases c marked P p1 p2 p3 p4 p5 = grind (arith, nat_tests)
 
 -- bytes that begin with a separator are the form of its character, and others
-pub begins_separator-form : (bytes : List ℕ) → begins_separator bytes ≡ true
-    → (rest : List ℕ) × ((bytes ≡ encode_utf8 0x2028 ++ rest) ⊎ (bytes ≡ encode_utf8 0x2029 ++ rest))
+begins_separator-form : (bytes : List ℕ) → begins_separator bytes ≡ true → (bytes ≡ encode_utf8 0x2028 ++ drop 3 bytes) ⊎ (bytes ≡ encode_utf8 0x2029 ++ drop 3 bytes)
 unfolding begins_separator encode_utf8
-begins_separator-form (a ∷ b ∷ c ∷ bs) h =
-    let front : (a ≡ 0xe2) × (b ≡ 0x80) = grind (arith, nat_tests) in
-    let last : (c ≡ 0xa8) ⊎ (c ≡ 0xa9) = grind (arith, nat_tests) in
-    elim last [ inl e ↦ (bs, inl (cc)) | inr e ↦ (bs, inr (cc)) ]
+begins_separator-form (a ∷ b ∷ c ∷ bs) h = grind (arith, nat_tests)
 begins_separator-form xs h = absurd (grind (arith, nat_tests))
 
 -- the character of an unmarked form is no separator
@@ -172,39 +147,28 @@ pub replacement-unmarked : (b : ℕ) → is_script_marked b ≡ false → replac
 unfolding replacement
 replacement-unmarked b other = grind (arith, nat_tests)
 
--- what stands for a character
-written-script : (c : ℕ) → IsWrittenAs script c (script_replacement c)
-written-script c =
-    elim (cases_Bool (is_script_marked c)) [
-      | inl marked ↦ rw (script_replacement-marked c marked) (written-marked c marked)
-      | inr other ↦
-          elim (cases_lt c 128) [
-            | inl low ↦ rw (script_replacement-other c other, inner-character json c (replacement json c) (written-low json c low), ← replacement-unmarked c other) (written-low script c low)
-            | inr high ↦ rw (script_replacement-other c other, inner-character json c (encode_utf8 c) (written-high json c high (λ rest. refl))) (written-high script c high (passed-unmarked c other))
-          ]
-    ]
+-- any other character is written as in JSON
+written-other : (c : ℕ) → is_script_marked c ≡ false → IsWrittenAs script c (inner json (encode_utf8 c))
+written-other c other = elim (cases_lt c 128) [
+  | inl low ↦ rw (inner-character json c (replacement json c) (written-low json c low), ← replacement-unmarked c other) (written-low script c low)
+  | inr high ↦ rw (inner-character json c (encode_utf8 c) (written-high json c high (λ rest. refl))) (written-high script c high (passed-unmarked c other))
+]
 
--- as it stands alone
-pub inner-script : (c : ℕ) → inner script (encode_utf8 c) ≡ script_replacement c
-inner-script c = inner-character script c (script_replacement c) (written-script c)
+-- what stands for a character is its hex escape where it is marked, and otherwise what JSON writes
+pub script_cases : (c : ℕ) (P : List ℕ → Type 0) → (is_script_marked c ≡ true → P (hex_escape c)) → (is_script_marked c ≡ false → P (inner json (encode_utf8 c))) → P (inner script (encode_utf8 c))
+script_cases c P marked other = elim (cases_Bool (is_script_marked c)) [
+  | inl is ↦ rw (inner-character script c (hex_escape c) (written-marked c is)) (marked is)
+  | inr isnt ↦ rw (inner-character script c (inner json (encode_utf8 c)) (written-other c isnt)) (other isnt)
+]
 
 -- Texts
 
 -- what stands for a character before others
-pub inner-past : (mode : Mode) (c : ℕ) (rest : List ℕ) → inner mode (encode_utf8 c ++ rest) ≡ inner mode (encode_utf8 c) ++ inner mode rest
-inner-past script c rest = rw (inner-script c) (written-script c rest)
-inner-past mode c rest = flat_map-append (replacement mode) (encode_utf8 c) rest
+pub inner-past : (mode : Mode) (c : ℕ) → IsWrittenAs mode c (inner mode (encode_utf8 c))
+inner-past script c = script_cases c (IsWrittenAs script c) (written-marked c) (written-other c)
+inner-past mode c = λ rest. flat_map-append (replacement mode) (encode_utf8 c) rest
 
--- what stands for the bytes of a text, where f is what stands for each character
-module _ (mode : Mode) (f : ℕ → List ℕ) (written : (c : ℕ) → IsWrittenAs mode c (f c)) where
-  inner-flat_map : (text : List ℕ) → inner mode (encode_utf8_all text) ≡ flat_map f text
-  inner-flat_map [] = inner-nil mode
-  inner-flat_map (c ∷ cs) = rw (← inner-flat_map cs) (written c (encode_utf8_all cs))
-
--- character by character
+-- what stands for the bytes of a text, character by character
 pub inner-pieces : (mode : Mode) (text : List ℕ) → inner mode (encode_utf8_all text) ≡ flat_map (λ c. inner mode (encode_utf8 c)) text
-inner-pieces mode text = inner-flat_map mode (λ c. inner mode (encode_utf8 c)) (inner-past mode) text
-
--- in a script literal, with the five marked characters written by hex escapes
-pub script_pieces : (text : List ℕ) → inner script (encode_utf8_all text) ≡ flat_map script_replacement text
-script_pieces text = inner-flat_map script script_replacement written-script text
+inner-pieces mode [] = inner-nil mode
+inner-pieces mode (c ∷ cs) = rw (← inner-pieces mode cs) (inner-past mode c (encode_utf8_all cs))

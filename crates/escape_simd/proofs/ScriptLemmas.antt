@@ -1,18 +1,14 @@
 -- Laws of JSON literals for script elements.
-use Rattle.std.proofs.Common.{◌≡◌, ◌≢◌, ℕ, zero, suc, ◌<◌, ◌≤◌, true, false, List, [], ◌∷◌, ◌++◌, length, codes, slice_index_or, ◌⊎◌, encode_utf8_all, flat_map, refl, sym, ap, subst, ◌∙◌, append_assoc, arith, inl, inr}
-use Rattle.escape_simd.proofs.Words.{IsOneLine, IsScalar, encode_utf8, all_scalars, AllByRecursion, cases_Bool, cond_both, true≢false, nat_tests, All-from_recursion, json, script, replacement, begins_separator, script_inner_after, inner, plain, quoted, IsJsonItem, raw, short, hex, pair, digits, IsLowerItem, JsonDenotes, short_escape, is_script_marked, HasNoRawMark, IsScriptItem, IsOnlyScript, IsSafeInScript}
-use Rattle.escape_simd.proofs.ReplacementLemmas.{hex_escape, script_replacement, script_replacement-marked, script_replacement-other, script_pieces, marked_cases, replacement-clean, replacement-high, replacement-unmarked, length-replacement}
+use Rattle.std.proofs.Common.{◌≡◌, ◌≢◌, ℕ, zero, suc, ◌<◌, ◌≤◌, true, false, List, [], ◌∷◌, ◌++◌, length, codes, slice_index_or, ◌⊎◌, encode_utf8_all, refl, sym, ap, ◌∙◌, append_assoc, arith, inl, inr}
+use Rattle.escape_simd.proofs.Words.{IsOneLine, IsScalar, encode_utf8, all_scalars, AllByRecursion, cond_both, true≢false, nat_tests, All-from_recursion, json, script, replacement, begins_separator, script_inner_after, inner, plain, IsJsonItem, raw, short, hex, pair, digits, IsLowerItem, JsonDenotes, short_escape, is_script_marked, HasNoRawMark, IsScriptItem, IsOnlyScript, IsSafeInScript}
+use Rattle.escape_simd.proofs.ReplacementLemmas.{script_cases, marked_cases, replacement-clean, replacement-high, replacement-unmarked, length-replacement}
 use Rattle.escape_simd.proofs.JsonLemmas as Json
 use Rattle.std.proofs.lemmas.List.Elements.{All-weaker}
 use Rattle.std.specs.List.{All}
 
--- what stands for a character in a script literal is its hex escape where it is marked, and otherwise what JSON writes
-pub script_cases : (c : ℕ) (P : List ℕ → Type 0) → (is_script_marked c ≡ true → P (hex_escape c)) → (is_script_marked c ≡ false → P (inner json (encode_utf8 c))) → P (script_replacement c)
-script_cases c P marked other =
-    elim (cases_Bool (is_script_marked c)) [
-      | inl is ↦ subst P (sym (script_replacement-marked c is)) (marked is)
-      | inr isnt ↦ subst P (sym (script_replacement-other c isnt)) (other isnt)
-    ]
+-- what stands for a character
+abbrev piece : ℕ → List ℕ
+piece c = inner script (encode_utf8 c)
 
 -- an item of a character that isn't marked is no raw mark
 unmarked_item : (i : List ℕ) (c : ℕ) (item : IsJsonItem i c) → is_script_marked c ≡ false → HasNoRawMark item
@@ -20,7 +16,7 @@ unmarked_item i c (raw _ _ _ _) other = other
 unmarked_item i c item other = tt
 
 -- what stands for a character is an item of it that is no raw mark and has no upper-case hex digit
-both_item : (c : ℕ) → IsScalar c → IsScriptItem (script_replacement c) c × IsLowerItem (script_replacement c) c
+both_item : (c : ℕ) → IsScalar c → IsScriptItem (piece c) c × IsLowerItem (piece c) c
 both_item c scalar =
     script_cases c (λ p. IsScriptItem p c × IsLowerItem p c)
     (λ marked.
@@ -30,7 +26,7 @@ both_item c scalar =
     (λ other. let item = Json.lower_item c scalar in ((item.0, unmarked_item (inner json (encode_utf8 c)) c item.0 other), item))
 
 -- what stands for a character is as short as it can be
-IsPiece-script : (c : ℕ) → Json.IsPiece (script_replacement c) c
+IsPiece-script : (c : ℕ) → Json.IsPiece (piece c) c
 unfolding short_escape
 IsPiece-script c =
     script_cases c (λ p. Json.IsPiece p c)
@@ -43,26 +39,30 @@ IsPiece-script c =
     (λ other. Json.IsPiece-json c)
 
 -- no item is shorter than what stands for the character
-least : (i : List ℕ) (c : ℕ) → IsScriptItem i c → length (script_replacement c) ≤ length i
-least i c (raw _ h k l, other) = omega (arith, ap length (script_replacement-other c other ∙ Json.piece-raw c h k l))
+least : (i : List ℕ) (c : ℕ) → IsScriptItem i c → length (piece c) ≤ length i
+least i c (raw _ h k l, other) = script_cases c (λ p. length p ≤ length (encode_utf8 c)) (λ marked. absurd (true≢false (sym marked ∙ other))) (λ _. omega (arith, ap length (Json.piece-raw c h k l)))
 least i c (short {b = b} s, _) = grind (arith, (IsPiece-script c).letter b s)
 least i c (hex (digits _ _ _ _) _, _) = (IsPiece-script c).most
 least i c (pair (digits _ _ _ _) (digits _ _ _ _) _ _, _) = omega (arith, (IsPiece-script c).most)
 
--- the output for the bytes of a text denotes it
+-- the output for the bytes of a text is the only shortest literal by such items
+only_script : (text : List ℕ) → all_scalars text ≡ true → Json.IsOnly IsScriptItem (plain script (encode_utf8_all text)) text
+only_script text scalars = Json.IsOnly-quoted IsScriptItem script (λ i c item. item.0) IsPiece-script least both_item text scalars
+
+-- it denotes the text
 pub script_denotes : (text : List ℕ) → all_scalars text ≡ true → JsonDenotes (plain script (encode_utf8_all text)) text
-script_denotes text scalars = rw (script_pieces text) (Json.literal-pieces IsJsonItem script_replacement (λ c scalar. (both_item c scalar).1.0) text scalars)
+script_denotes text scalars = (only_script text scalars).denotes
 
 -- and is the only one for it
 pub IsOnlyScript-plain : (text : List ℕ) → all_scalars text ≡ true → IsOnlyScript (plain script (encode_utf8_all text)) text
 IsOnlyScript-plain text scalars =
-    let h = Json.IsOnly-pieces IsScriptItem script_replacement (λ i c item. item.0) IsPiece-script least both_item text scalars in
-    subst (λ bytes. IsOnlyScript bytes text) (ap quoted (sym (script_pieces text))) (record {
+    let h = only_script text scalars in
+    record {
       shortest = record { free = h.literal; least = h.least };
       lower = h.lower;
-      only = λ other shortest lower. h.only other shortest.free lower (shortest.least (quoted (flat_map script_replacement text)) h.literal);
+      only = λ other shortest lower. h.only other shortest.free lower (shortest.least (plain script (encode_utf8_all text)) h.literal);
       one_text = h.one_text;
-    })
+    }
 
 -- Script elements
 

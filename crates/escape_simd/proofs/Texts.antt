@@ -1,7 +1,7 @@
 -- What a text still needs from a place on: its escaping, its escapes and its runs.
-use Rattle.std.proofs.Common.{◌≡◌, ℕ, zero, suc, ◌+◌, ◌-◌, ◌<◌, ◌≤◌, Bool, true, false, cond, List, [], ◌∷◌, ◌++◌, length, length-append, drop, get_or, length-drop, ◌*◌, refl, ap, ◌∙◌, arith, add-one}
-use Rattle.escape_simd.proofs.Words.{get_or_past, nat_tests, drop-drop, drop_all, sum_by-append, prefix_len-drop_yes, prefix_len-drop_no, drop-cons, Mode, script, needs_escape, inner, begins_separator, passed, first_replacement, script_inner_after, escaped_count, runs_after, run_count_after, run_count, script_escapes_after, script_runs_after, run_end}
-use Rattle.escape_simd.proofs.ReplacementLemmas.{script_inner_after-drop, inner-clean_byte, inner-nil, length-replacement}
+use Rattle.std.proofs.Common.{◌≡◌, ℕ, zero, suc, ◌+◌, ◌-◌, ◌<◌, ◌≤◌, Bool, true, false, not, ◌&&◌, if◌then◌else◌, cond, List, [], ◌∷◌, ◌++◌, length, length-append, drop, get_or, length-drop, ◌*◌, refl, ap, ◌∙◌, arith, add-one, inl, inr}
+use Rattle.escape_simd.proofs.Words.{cases_Bool, get_or_past, nat_tests, drop-drop, drop_all, sum_by-append, prefix_len-drop_yes, prefix_len-drop_no, drop-cons, Mode, script, needs_escape, inner, begins_separator, passed, first_replacement, script_inner_after, escaped_count, runs_after, run_count_after, run_count, script_escapes_after, script_runs_after, run_end}
+use Rattle.escape_simd.proofs.ReplacementLemmas.{inner-clean_byte, inner-nil, length-replacement}
 
 -- Separators
 
@@ -42,19 +42,12 @@ passed-between mode bytes k some h = absurd (omega arith)
 
 -- What stands for bytes, and its counts, one step on
 
--- script: the escapes after them
-escapes_after : (n : ℕ) (bs : List ℕ) → script_escapes_after n bs ≡ script_escapes_after 0 (drop n bs)
-unfolding script_escapes_after
-escapes_after zero bs = refl
-escapes_after (suc n) [] = refl
-escapes_after (suc n) (b ∷ bs) = escapes_after n bs
-
--- script: the runs after them, where they are in a run
-marked_after : (n : ℕ) (bs : List ℕ) → script_runs_after true n bs ≡ script_runs_after true 0 (drop n bs)
-unfolding script_runs_after
-marked_after zero bs = refl
-marked_after (suc n) [] = refl
-marked_after (suc n) (b ∷ bs) = marked_after n bs
+-- a recursion that passes over the first n bytes does as on the bytes after them
+after-drop : {X : Type 0} (f : ℕ → List ℕ → X) → ((n : ℕ) → f n [] ≡ f 0 []) → ((n b : ℕ) (bs : List ℕ) → f (suc n) (b ∷ bs) ≡ f n bs)
+    → (n : ℕ) (bs : List ℕ) → f n bs ≡ f 0 (drop n bs)
+after-drop f none past zero bs = refl
+after-drop f none past (suc n) [] = none (suc n)
+after-drop f none past (suc n) (b ∷ bs) = past n b bs ∙ after-drop f none past n bs
 
 module _ (mode : Mode) where
   -- no byte needs an escape
@@ -65,32 +58,24 @@ module _ (b : ℕ) (bs : List ℕ) where
   -- the first of what stands for bytes, and the rest
   pub inner-step : (mode : Mode) → inner mode (b ∷ bs) ≡ first_replacement mode (b ∷ bs) ++ inner mode (drop (passed mode (b ∷ bs) - 1) bs)
   unfolding script_inner_after
-  inner-step script = ap (λ xs. first_replacement script (b ∷ bs) ++ xs) (script_inner_after-drop (passed script (b ∷ bs) - 1) bs)
+  inner-step script = ap (λ xs. first_replacement script (b ∷ bs) ++ xs) (after-drop script_inner_after (λ _. refl) (λ _ _ _. refl) (passed script (b ∷ bs) - 1) bs)
   inner-step mode = refl
 
   -- one byte more, by whether it needs an escape
-  escaped-step : (mode : Mode) → escaped_count mode (b ∷ bs) ≡ escaped_count mode (drop (passed mode (b ∷ bs) - 1) bs) + cond (needs_escape mode b) 1 0
+  pub escaped-step : (mode : Mode) → escaped_count mode (b ∷ bs) ≡ escaped_count mode (drop (passed mode (b ∷ bs) - 1) bs) + cond (needs_escape mode b) 1 0
   unfolding script_escapes_after
-  escaped-step script = omega (arith, escapes_after (passed script (b ∷ bs) - 1) bs)
+  escaped-step script = omega (arith, after-drop script_escapes_after (λ _. refl) (λ _ _ _. refl) (passed script (b ∷ bs) - 1) bs)
   escaped-step mode = omega (arith, sum_by-append (λ x. cond (needs_escape mode x) 1 0) (b ∷ []) bs)
 
-  -- a clean byte begins no run, and ends one
-  pub runs-clean : (mode : Mode) (before : Bool) → needs_escape mode b ≡ false → run_count_after mode before (b ∷ bs) ≡ run_count mode bs
+  -- one run more where it needs an escape and the byte before it isn't marked
+  pub runs-step : (mode : Mode) (before : Bool) → run_count_after mode before (b ∷ bs)
+      ≡ (if needs_escape mode b && not before then 1 else 0) + run_count_after mode (needs_escape mode b) (drop (passed mode (b ∷ bs) - 1) bs)
   unfolding runs_after script_runs_after
-  runs-clean script before h = rw (h, passed-clean script b bs h) (omega arith)
-  runs-clean mode before h = rw h (omega arith)
-
-  -- a byte that needs an escape begins a run after a clean one
-  pub runs-first : (mode : Mode) → needs_escape mode b ≡ true → run_count mode (b ∷ bs) ≡ run_count_after mode true (drop (passed mode (b ∷ bs) - 1) bs) + 1
-  unfolding runs_after script_runs_after
-  runs-first script h = rw h (omega (arith, marked_after (passed script (b ∷ bs) - 1) bs))
-  runs-first mode h = rw h (omega arith)
-
-  -- and none within a run
-  pub runs-next : (mode : Mode) → needs_escape mode b ≡ true → run_count_after mode true (b ∷ bs) ≡ run_count_after mode true (drop (passed mode (b ∷ bs) - 1) bs)
-  unfolding runs_after script_runs_after
-  runs-next script h = rw h (omega (arith, marked_after (passed script (b ∷ bs) - 1) bs))
-  runs-next mode h = rw h (omega arith)
+  runs-step script before = elim (cases_Bool (needs_escape script b)) [
+    | inl needed ↦ rw needed (omega (arith, after-drop (script_runs_after true) (λ _. refl) (λ _ _ _. refl) (passed script (b ∷ bs) - 1) bs))
+    | inr clean ↦ rw (clean, passed-clean script b bs clean) refl
+  ]
+  runs-step mode before = refl
 
 -- no byte, no run
 pub runs-empty : (mode : Mode) (before : Bool) → run_count_after mode before [] ≡ 0
@@ -107,8 +92,8 @@ escaped-empty mode = refl
 module _ (mode : Mode) where
   -- within a run at most one run fewer begins
   pub runs_after-≤ : (bs : List ℕ) → run_count mode bs ≤ run_count_after mode true bs + 1
-  runs_after-≤ [] = rw (runs-empty mode true, runs-empty mode false) (omega arith)
-  runs_after-≤ (b ∷ bs) = grind (arith, nat_tests, runs-first, runs-next, runs-clean)
+  runs_after-≤ [] = grind (arith, runs-empty)
+  runs_after-≤ (b ∷ bs) = grind (arith, nat_tests, runs-step)
 
   -- clean bytes at the front
   module _ (ys : List ℕ) where
@@ -125,13 +110,18 @@ module _ (mode : Mode) where
     -- none of them begins a run
     pub run_count-clean : (xs : List ℕ) → IsClean mode xs → run_count mode (xs ++ ys) ≡ run_count mode ys
     run_count-clean [] h = refl
-    run_count-clean (x ∷ xs) h = runs-clean x (xs ++ ys) mode false (h 0 (omega arith)) ∙ run_count-clean xs (λ k l. h (suc k) (omega arith))
+    run_count-clean (x ∷ xs) h = grind (arith, nat_tests, runs-step, passed-clean, h 0 (omega arith), run_count-clean xs (λ k l. h (suc k) (omega arith)))
 
   -- the rest of a text, one step on
   module _ (src : List ℕ) (i : ℕ) (inside : i < length src) where
     -- the byte, and the rest
     here : drop i src ≡ get_or src i 0 ∷ drop (i + 1) src
     here = rw add-one (drop-cons src i 0 inside)
+
+    -- a byte that is passed alone begins a run where it needs an escape and the one before it isn't marked
+    pub runs-here : passed mode (drop i src) ≡ 1 → (before : Bool) → run_count_after mode before (drop i src)
+        ≡ (if needs_escape mode (get_or src i 0) && not before then 1 else 0) + run_count_after mode (needs_escape mode (get_or src i 0)) (drop (i + 1) src)
+    runs-here alone before = grind (arith, nat_tests, runs-step, here)
 
     -- what stands there, and for the rest
     pub inner-here : inner mode (drop i src) ≡ first_replacement mode (drop i src) ++ inner mode (drop (i + passed mode (drop i src)) src)
@@ -144,11 +134,11 @@ module _ (mode : Mode) where
 
       -- it begins a run where none is open
       pub first-here : run_count mode (drop i src) ≡ run_count_after mode true (drop (i + passed mode (drop i src)) src) + 1
-      first-here = grind (arith, nat_tests, runs-first, here, one≤passed, drop-drop)
+      first-here = grind (arith, nat_tests, runs-step, here, one≤passed, drop-drop)
 
       -- it goes on with an open run
       pub next-here : run_count_after mode true (drop i src) ≡ run_count_after mode true (drop (i + passed mode (drop i src)) src)
-      next-here = grind (arith, nat_tests, runs-next, here, one≤passed, drop-drop)
+      next-here = grind (arith, nat_tests, runs-step, here, one≤passed, drop-drop)
 
       -- the run goes on past it
       pub run_end-here : run_end mode src i ≡ run_end mode src (i + 1)
@@ -157,7 +147,7 @@ module _ (mode : Mode) where
     module _ (clean : needs_escape mode (get_or src i 0) ≡ false) where
       -- it ends an open run
       pub runs_stop-here : run_count_after mode true (drop i src) ≡ run_count mode (drop i src)
-      runs_stop-here = grind (arith, nat_tests, runs-clean, here)
+      runs_stop-here = grind (arith, nat_tests, runs-step, here)
 
       -- it is passed alone
       pub passed_clean-here : passed mode (drop i src) ≡ 1
@@ -169,7 +159,7 @@ module _ (mode : Mode) where
 
       -- it begins no run
       pub runs_clean-here : run_count mode (drop i src) ≡ run_count mode (drop (i + 1) src)
-      runs_clean-here = grind (arith, runs-clean, here)
+      runs_clean-here = grind (arith, nat_tests, runs-step, passed_clean-here, here)
 
       -- a run ends there
       pub run_end-stop : run_end mode src i ≡ i

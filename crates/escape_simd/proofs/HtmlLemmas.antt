@@ -1,8 +1,8 @@
 -- Laws of HTML texts: the output reads as the text, holds no markup, and is the only one that does.
 use Rattle.std.proofs.Common.{Option, Some, None, drop, ap₂, ◌≡◌, ◌≢◌, ℕ, true, false, ◌==◌, cond, List, [], ◌∷◌, ◌++◌, length, get_or, flat_map, encode_utf8, encode_utf8_all, refl, sym, ap, ◌∙◌, arith, inl, inr}
-use Rattle.escape_simd.proofs.Words.{IsScalar, all_scalars, AllByRecursion, cases_Bool, nat_tests, recursion_from_All, encode_ascii, html, replacement, needs_escape, inner, plain, IsHtmlItem, entity_of, entity, HtmlReads, is_markup, IsMarkupFree, IsOnlyHtml, AmpersandsBeginEntities}
+use Rattle.escape_simd.proofs.Words.{IsScalar, all_scalars, AllByRecursion, AllZip, concat, cases_Bool, nat_tests, recursion_from_All, encode_ascii, html, replacement, needs_escape, inner, plain, IsHtmlItem, entity_of, entity, HtmlReads, is_markup, IsMarkupFree, IsOnlyHtml, AmpersandsBeginEntities}
 use Rattle.escape_simd.specs.Html.{raw}
-use Rattle.escape_simd.proofs.SpellingLemmas.{each_flat_map, piece_cases, not_begun, Reads, Reads-Spells, Tells, Spells-flat_map, Spells-one_text}
+use Rattle.escape_simd.proofs.SpellingLemmas.{each_flat_map, piece_cases, not_begun, Tells, Spells-flat_map, Spells-one_text}
 use Rattle.std.proofs.Math.Seq.{take-append_seam, drop-append_seam}
 use Rattle.std.proofs.lemmas.List.Elements.{All-take, All-drop}
 use Rattle.escape_simd.proofs.ReplacementLemmas.{inner_needed, inner-pieces, needs_escape_low, replacement-clean}
@@ -45,12 +45,13 @@ markup_free_item i c (raw scalar other) free =
     piece_cases html tt c (λ p. encode_utf8 c ≡ p) (λ need. grind (arith, nat_tests, encode_ascii, needs_escape_low, free)) (λ clean. refl)
 
 -- what reads as characters and holds no markup is what stands for them
-only_pieces : (bytes text : List ℕ) → Reads IsHtmlItem bytes text → IsMarkupFree bytes → bytes ≡ flat_map piece text
-only_pieces bytes [] h free = h
-only_pieces bytes (c ∷ cs) (i, rest, item, is, h) free =
-    let free_item = rw (is, take-append_seam) at (All-take (λ x. is_markup x ≡ false) (length i) bytes free) in
-    let free_rest = rw (is, drop-append_seam) at (All-drop (λ x. is_markup x ≡ false) (length i) bytes free) in
-    is ∙ ap₂ (λ a b. a ++ b) (markup_free_item i c item (recursion_from_All (λ x. is_markup x ≡ false) i free_item)) (only_pieces rest cs h free_rest)
+only_pieces : (items : List (List ℕ)) (text : List ℕ) → AllZip IsHtmlItem items text → IsMarkupFree (concat items) → concat items ≡ flat_map piece text
+only_pieces [] [] h free = refl
+only_pieces (i ∷ is) (c ∷ cs) h free =
+    let free_item = rw take-append_seam at (All-take (λ x. is_markup x ≡ false) (length i) (i ++ concat is) free) in
+    let free_rest = rw drop-append_seam at (All-drop (λ x. is_markup x ≡ false) (length i) (i ++ concat is) free) in
+    ap₂ (λ a b. a ++ b) (markup_free_item i c h.0 (recursion_from_All (λ x. is_markup x ≡ false) i free_item)) (only_pieces is cs h.1 free_rest)
+only_pieces is cs h free = absurd h
 
 -- the character of the entity that begins the bytes, if one does, and what comes after it
 read : List ℕ → Option ℕ × List ℕ
@@ -76,7 +77,7 @@ IsOnlyHtml-plain text scalars =
     record {
       reads = reads;
       markup_free = plain_markup_free (encode_utf8_all text);
-      only = λ other spelled free. only_pieces other text (Reads-Spells IsHtmlItem other text spelled) free ∙ sym pieces;
+      only = λ other spelled free. spelled.joined ∙ only_pieces spelled.items text spelled.each (rw spelled.joined at free) ∙ sym pieces;
       one_text = λ other spelled. Spells-one_text IsHtmlItem read tells refl (plain html (encode_utf8_all text)) other text spelled reads;
     }
 

@@ -1,7 +1,7 @@
 -- Laws of JSON literals.
 use Rattle.std.proofs.Common.{◌≡◌, ◌≢◌, ℕ, ◌+◌, ◌-◌, ◌*◌, ◌/◌, ◌%◌, ◌<◌, ◌≤◌, ◌⊎◌, ◌==◌, cond, true, List, [], ◌∷◌, length, drop, get_or, length-append, flat_map, encode_utf8, encode_utf8_all, Option, Some, None, refl, sym, ap, subst, ◌∙◌, arith, inl, inr, le_antisymm}
 use Rattle.escape_simd.proofs.Words.{IsScalar, digit_value, digit_char, all_scalars, cases_lt, ne_eqb, nat_tests, append_cancel_right, length-encode, len_utf8_bounds, len_utf8_ascii, digit_value-digit_char, Mode, json, replacement, needs_escape, control_escape, inner, plain, quoted, IsJsonItem, raw, short, hex, pair, IsHexForm, digits, IsHexDigit, short_escape, IsLiteral, JsonDenotes, IsNotUpper, HasLowerDigits, IsLowerItem, IsLower, IsOnlyJson, Spells}
-use Rattle.escape_simd.proofs.SpellingLemmas.{piece_cases, not_begun, Reads-Spells, Spells-flat_map, Spells-one_text, pieces_le, Tells, only_pieces}
+use Rattle.escape_simd.proofs.SpellingLemmas.{piece_cases, not_begun, Spells-flat_map, Spells-one_text, pieces_le, Tells, only_pieces}
 use Rattle.escape_simd.proofs.ReplacementLemmas.{inner_clean, inner-pieces, hex_escape, length-replacement}
 
 -- what stands for a character
@@ -161,12 +161,12 @@ IsOnly-quoted Item mode json_item is_piece least both text scalars =
       literal = literal-pieces Item f (λ c scalar. (both c scalar).0) text scalars;
       denotes = denotes;
       lower = literal-pieces IsLowerItem f (λ c scalar. (both c scalar).1) text scalars;
-      least = λ other h. omega (arith, length-quoted inside, length-quoted h.inside, ap length h.between, pieces_le Item f least h.inside text (Reads-Spells Item h.inside text h.spelled));
+      least = λ other h. omega (arith, length-quoted inside, length-quoted h.inside, ap length h.between, ap length h.spelled.joined, pieces_le Item f least h.spelled.items text h.spelled.each);
       only = λ other h lower small.
-          let spelled = Reads-Spells IsLowerItem h.inside text (spelled_too Item IsLowerItem other text text h lower) in
+          let s = h.spelled in let l = spelled_too Item IsLowerItem other text text h lower in
           let same = only_pieces IsJsonItem read tells Item IsLowerItem json_item (λ i c item. item.0) f least (λ i c item. only i (f c) c (is_piece c) item)
-          h.inside text (Reads-Spells Item h.inside text h.spelled) spelled (omega (arith, length-quoted inside, length-quoted h.inside, ap length h.between)) in
-          h.between ∙ ap quoted same;
+          s.items l.items text s.each l.each (sym s.joined ∙ l.joined) (omega (arith, length-quoted inside, length-quoted h.inside, ap length h.between, ap length s.joined)) in
+          h.between ∙ ap quoted (s.joined ∙ same);
       one_text = λ other q. Spells-one_text IsJsonItem read tells refl q.inside other text q.spelled (spelled_too IsJsonItem IsJsonItem (quoted inside) other text q denotes);
     })
 

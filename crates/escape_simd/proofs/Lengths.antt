@@ -15,17 +15,12 @@ module _ (mode : Mode) (src : List ℕ) (at : ℕ) (inside : at < length src) wh
   -- the rest of a text, and its first byte left out
   rest-added : rest_length mode src at + passed mode (drop at src) ≡ length (first_replacement mode (drop at src)) + (rest_length mode src (at + 1) + 1)
   rest-added =
-      let e = inner-here mode src at inside in let clean = passed-clean_rest mode src at inside in let a = rest-is mode src at in let b = rest-is mode src (at + passed mode (drop at src)) in
-      let long = ap length e in
-      let sum = length-append (first_replacement mode (drop at src)) (inner mode (drop (at + passed mode (drop at src)) src)) in
-      omega (arith, long, sum, a, b, clean)
+      grind (arith, inner-here mode src at inside, passed-clean_rest mode src at inside, rest-is, length-append {A = ℕ})
 
   -- a byte's entry counts what stands for it
   pub added-alone : needs_escape mode (get_or src at 0) ≡ true → (mode ≡ script → begins_separator (drop at src) ≡ false) → (count : ℕ) → count ≡ entry_count mode (get_or src at 0) → (1 ≤ count) × IsPartLength mode src at (at + 1) count
   added-alone needed none count is =
-      let one = passed-alone mode src at none in let first = ap length (first-alone mode src at none) in let counts = entry-counts mode (get_or src at 0) needed in
-      let some = length-replacement mode (get_or src at 0) in
-      (omega (arith, is, counts, some), omega (arith, rest-added, one, first, is, counts))
+      omega (arith, rest-added, passed-alone mode src at none, ap length (first-alone mode src at none), entry-counts mode (get_or src at 0) needed, length-replacement mode (get_or src at 0), is)
 
   -- six bytes stand for a separator, and two for the rest of it alone
   pub added-separator : mode ≡ script → begins_separator (drop at src) ≡ true → IsPartLength mode src at (at + 1) 4
@@ -78,8 +73,7 @@ module _ (mode : Mode) (src : List ℕ) (at valid : ℕ) (inside : at + valid �
     -- six bytes at most stand for each
     pub counted-few : len ≤ 6 * valid
     counted-few =
-        let all = rest-between mode src at (at + valid) (omega arith) inside in let left = rest-between mode src so_far.next (at + valid) so_far.before inside in
-        omega (arith, all, left, so_far.counted, so_far.after, so_far.before)
+        omega (arith, rest-between mode src at (at + valid) (omega arith) inside, rest-between mode src so_far.next (at + valid) so_far.before inside, so_far.counted, so_far.after)
 
     -- all of them
     pub counted-end : none_set bits ≡ true → IsPartLength mode src at (at + valid) len

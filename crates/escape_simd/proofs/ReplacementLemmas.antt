@@ -6,19 +6,16 @@ use Rattle.std.specs.Int.{IsInRange}
 -- a byte that needs no escape stands for itself
 pub replacement-clean : (mode : Mode) (b : ℕ) → needs_escape mode b ≡ false → replacement mode b ≡ b ∷ []
 unfolding replacement
-replacement-clean script b h = grind (arith, nat_tests)
 replacement-clean mode b h = grind (arith, nat_tests)
 
 -- and so does a byte from 128 on
 pub replacement-high : (mode : Mode) (b : ℕ) → 128 ≤ b → replacement mode b ≡ b ∷ []
 unfolding replacement
-replacement-high script b h = grind (arith, nat_tests)
 replacement-high mode b h = grind (arith, nat_tests)
 
 -- a byte is written by one to six bytes
 pub length-replacement : (mode : Mode) (b : ℕ) → (1 ≤ length (replacement mode b)) × (length (replacement mode b) ≤ 6)
 unfolding replacement
-length-replacement script b = grind (arith, nat_tests)
 length-replacement mode b = grind (arith, nat_tests)
 
 -- Step by step

@@ -3,18 +3,6 @@ use Rattle.std.proofs.Common.{◌≡◌, ℕ, zero, suc, ◌+◌, ◌-◌, ◌<�
 use Rattle.escape_simd.proofs.Words.{cases_Bool, get_or_past, nat_tests, drop-drop, drop_all, sum_by-append, prefix_len-drop_yes, prefix_len-drop_no, drop-cons, Mode, script, needs_escape, inner, begins_separator, passed, first_replacement, script_inner_after, escaped_count, runs_after, run_count_after, run_count, script_escapes_after, script_runs_after, run_end}
 use Rattle.escape_simd.proofs.ReplacementLemmas.{inner-clean_byte, inner-nil, length-replacement}
 
--- Separators
-
--- where a byte is not flagged no separator begins
-pub no_separator : (b : ℕ) (bs : List ℕ) → needs_escape script b ≡ false → begins_separator (b ∷ bs) ≡ false
-unfolding begins_separator
-no_separator b bs clean = grind (arith, nat_tests)
-
--- a separator has three bytes
-separator-long : (bytes : List ℕ) → begins_separator bytes ≡ true → 3 ≤ length bytes
-unfolding begins_separator
-separator-long bytes h = grind (arith, nat_tests, get_or_past bytes 2 0)
-
 -- How far the first of what stands for bytes goes
 
 -- one byte or three
@@ -24,12 +12,14 @@ one≤passed mode bytes = (omega arith, omega arith)
 
 -- bytes of the list
 pub passed≤length : (mode : Mode) (bytes : List ℕ) → 0 < length bytes → passed mode bytes ≤ length bytes
-passed≤length script bytes some = grind (arith, nat_tests, separator-long)
+unfolding begins_separator
+passed≤length script bytes some = grind (arith, nat_tests, get_or_past bytes 2 0)
 passed≤length mode bytes some = omega arith
 
 -- where no escape is needed, one
 passed-clean : (mode : Mode) (b : ℕ) (bs : List ℕ) → needs_escape mode b ≡ false → passed mode (b ∷ bs) ≡ 1
-passed-clean script b bs clean = grind (arith, nat_tests, no_separator)
+unfolding begins_separator
+passed-clean script b bs clean = grind (arith, nat_tests)
 passed-clean mode b bs clean = refl
 
 -- a byte that is passed with the one before it needs no escape
@@ -157,21 +147,13 @@ module _ (mode : Mode) where
       pub escaped_clean-here : escaped_count mode (drop i src) ≡ escaped_count mode (drop (i + 1) src)
       escaped_clean-here = grind (arith, nat_tests, escaped-step, passed_clean-here, here)
 
-      -- it begins no run
-      pub runs_clean-here : run_count mode (drop i src) ≡ run_count mode (drop (i + 1) src)
-      runs_clean-here = grind (arith, nat_tests, runs-step, passed_clean-here, here)
-
       -- a run ends there
       pub run_end-stop : run_end mode src i ≡ i
       run_end-stop = omega (arith, prefix_len-drop_no (needs_escape mode) src i 0 inside clean)
 
   -- the same at the end
   module _ (src : List ℕ) (i : ℕ) (over : length src ≤ i) where
-    -- the end ends an open run
-    pub runs_stop-end : run_count_after mode true (drop i src) ≡ run_count mode (drop i src)
-    runs_stop-end = rw (drop_all i src over, runs-empty mode true, runs-empty mode false) refl
-
-    -- and it is the end of a run
+    -- it is the end of a run
     pub run_end-end : run_end mode src i ≡ i
     run_end-end = rw (drop_all i src over) (omega arith)
 

@@ -1,7 +1,7 @@
 -- Eight bytes put apart are what stands for a text's bytes, and how many blocks have a flag.
 use Rattle.std.proofs.Common.{◌≡◌, ◌≢◌, ℕ, zero, suc, ◌+◌, ◌-◌, ◌*◌, ◌<◌, ◌≤◌, Bool, true, false, cond, List, [], ◌∷◌, ◌++◌, length, take, drop, map, get_or, refl, sym, ap, ◌∙◌, inl, inr, arith}
-use Rattle.escape_simd.proofs.Words.{cases_lt, drop-drop, get_or-drop, get_or-take, get_or_past, nat_tests, Mode, needs_escape, replacement, shortened, flag_count, flagged_blocks, put_apart, inner, escaped_count}
-use Rattle.std.proofs.lemmas.List.Sums.{get_or-le-sum_by, sum_by-take-drop}
+use Rattle.escape_simd.proofs.Words.{cases_lt, drop-drop, get_or-drop, get_or-take, get_or_default, get_or_past, nat_tests, Mode, needs_escape, replacement, shortened, flag_count, flagged_blocks, put_apart, inner, escaped_count}
+use Rattle.std.proofs.lemmas.List.Sums.{get_or-le-sum_by, sum_by-le, sum_by-take-drop}
 use Rattle.escape_lanes.proofs.SpreadLemmas.{count-cons}
 use Rattle.escape_simd.proofs.ReplacementLemmas.{inner-one, inner-clean_byte}
 use Rattle.escape_simd.proofs.Shortened.{KeepsClean, passed-short, short-escape}
@@ -11,9 +11,7 @@ use Rattle.escape_simd.proofs.Texts.{escaped-here, escaped_clean-here}
 
 -- none where none is set
 pub count-none : (flags : List Bool) → ((i : ℕ) → get_or flags i false ≢ true) → flag_count flags ≡ 0
-count-none [] none = omega arith
-count-none (true ∷ flags) none = absurd (none 0 refl)
-count-none (false ∷ flags) none = grind (arith, count-cons false flags, count-none flags (λ i. none (suc i)))
+count-none flags none = omega (arith, sum_by-le (λ b. cond b 1 0) 0 flags (λ k d inside. grind (arith, nat_tests, none k, get_or_default flags k false d inside)))
 
 -- the blocks that have one, in two parts
 pub blocks-onward : (n m : ℕ) (flags : List Bool) → flagged_blocks (n + m) flags ≡ flagged_blocks n flags + flagged_blocks m (drop (8 * n) flags)
@@ -22,8 +20,7 @@ blocks-onward zero m flags = let e : 0 + m ≡ m = omega arith in rw e (omega ar
 blocks-onward (suc n) m flags =
     let e : suc n + m ≡ suc (n + m) = omega arith in
     let wide : 8 + 8 * n ≡ 8 * suc n = omega arith in
-    let rest = rw (drop-drop (8 * n) 8 flags, wide) at (blocks-onward n m (drop 8 flags)) in
-    rw e (omega (arith, rest))
+    rw e (omega (arith, rw (drop-drop (8 * n) 8 flags, wide) at (blocks-onward n m (drop 8 flags))))
 
 -- one block
 pub blocks-one : (flags : List Bool) → flagged_blocks 1 flags + (1 - flag_count (take 8 flags)) ≡ 1

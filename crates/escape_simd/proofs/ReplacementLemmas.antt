@@ -1,5 +1,5 @@
 -- What stands for a byte, and for a character: its bytes' replacements, or the escape of a separator.
-use Rattle.std.proofs.Common.{◌≡◌, ◌≢◌, ℕ, ◌/◌, ◌%◌, ◌<◌, ◌≤◌, ◌⊎◌, true, false, List, [], ◌∷◌, ◌++◌, codes, length, drop, flat_map, encode_utf8_all, refl, append-nil, arith, inl, inr, ltb-true, ltb}
+use Rattle.std.proofs.Common.{◌≡◌, ◌≢◌, ℕ, ◌/◌, ◌%◌, ◌<◌, ◌≤◌, ◌⊎◌, true, false, List, [], ◌∷◌, ◌++◌, codes, length, get_or, drop, flat_map, encode_utf8_all, refl, append-nil, arith, inl, inr, ltb-true, ltb}
 use Rattle.escape_simd.proofs.Words.{encode_utf8, digit_char, AllByRecursion, encode_ascii, encode_same, cases_lt, cases_Bool, cond_both, nat_tests, flat_map-append, Mode, json, script, replacement, needs_escape, begins_separator, passed, script_inner_after, inner, is_script_marked}
 use Rattle.std.specs.Int.{IsInRange}
 
@@ -23,20 +23,17 @@ length-replacement mode b = grind (arith, nat_tests)
 -- nothing stands for no bytes
 pub inner-nil : (mode : Mode) → inner mode [] ≡ []
 unfolding script_inner_after
-inner-nil script = refl
-inner-nil mode = refl
+inner-nil mode = grind arith
 
 -- what stands for a byte that begins no separator, and for those after it
 pub inner-one : (mode : Mode) (b : ℕ) (bs : List ℕ) → passed mode (b ∷ bs) ≡ 1 → inner mode (b ∷ bs) ≡ replacement mode b ++ inner mode bs
 unfolding script_inner_after
-inner-one script b bs h = grind (arith, nat_tests)
-inner-one mode b bs h = refl
+inner-one mode b bs h = grind (arith, nat_tests)
 
 -- a separator begins with e2
 pub passed-one : (mode : Mode) (b : ℕ) (bs : List ℕ) → b ≢ 0xe2 → passed mode (b ∷ bs) ≡ 1
 unfolding begins_separator
-passed-one script b bs other = grind (arith, nat_tests)
-passed-one mode b bs other = refl
+passed-one mode b bs other = grind (arith, nat_tests)
 
 -- a byte that needs no escape, before others
 pub inner-clean_byte : (mode : Mode) (b : ℕ) (bs : List ℕ) → needs_escape mode b ≡ false → inner mode (b ∷ bs) ≡ b ∷ inner mode bs
@@ -50,16 +47,12 @@ AreContinued bytes = AllByRecursion (λ b. IsInRange 128 191 b) bytes
 
 -- a byte from 128 on, and the bytes of a character after its first
 abbrev IsHighForm : List ℕ → Type 0
-IsHighForm bytes = (first : ℕ) × (rest : List ℕ) × (bytes ≡ first ∷ rest) × (128 ≤ first) × AreContinued rest
+IsHighForm bytes = (bytes ≡ get_or bytes 0 0 ∷ drop 1 bytes) × (128 ≤ get_or bytes 0 0) × AreContinued (drop 1 bytes)
 
 -- such are the bytes of a character from U+0080 on
 encode_utf8-high : (c : ℕ) → 128 ≤ c → IsHighForm (encode_utf8 c)
 unfolding encode_utf8
-encode_utf8-high c h =
-    cond_both (ltb c 128) _ _ IsHighForm (λ low. absurd (omega (arith, ltb-true c 128 low)))
-    (λ _. cond_both (ltb c 2048) _ _ IsHighForm (λ _. (_, _, refl, omega arith, omega arith))
-    (λ _. cond_both (ltb c 65536) _ _ IsHighForm (λ _. (_, _, refl, omega arith, omega arith))
-    (λ _. (_, _, refl, omega arith, omega arith))))
+encode_utf8-high c h = grind (arith, nat_tests)
 
 -- what stands for the character, whatever comes after it
 abbrev pub IsWrittenAs : Mode → ℕ → List ℕ → Type 0
@@ -78,8 +71,8 @@ module _ (mode : Mode) (c : ℕ) where
   -- one from there on stands for itself, unless it is a separator
   pub written-high : 128 ≤ c → ((rest : List ℕ) → passed mode (encode_utf8 c ++ rest) ≡ 1) → IsWrittenAs mode c (encode_utf8 c)
   written-high high alone rest =
-      let form = encode_utf8-high c high in
-      rw form.2 (grind (arith, inner-one mode form.0 (form.1 ++ rest) (rw form.2 at (alone rest)), replacement-high, inner-continued mode form.1 rest form.4))
+      let bytes : List ℕ = encode_utf8 c in let form = encode_utf8-high c high in
+      grind (arith, form, inner-one mode (get_or bytes 0 0) (drop 1 bytes ++ rest) (rw form.0 at (alone rest)), replacement-high, inner-continued mode (drop 1 bytes) rest form.2)
 
   -- what stands for the character alone
   pub inner-character : (bytes : List ℕ) → IsWrittenAs mode c bytes → inner mode (encode_utf8 c) ≡ bytes
@@ -92,14 +85,8 @@ abbrev pub IsBytewise : Mode → Type 0
 IsBytewise script = ⊥
 IsBytewise mode = Unit {0}
 
--- each byte is passed alone
-passed-bytewise : (mode : Mode) → IsBytewise mode → (bytes : List ℕ) → passed mode bytes ≡ 1
-passed-bytewise script h bytes = absurd h
-passed-bytewise mode h bytes = refl
-
 -- only ASCII needs an escape
 pub needs_escape_low : (mode : Mode) → IsBytewise mode → (c : ℕ) → needs_escape mode c ≡ true → c < 128
-needs_escape_low script h c need = absurd h
 needs_escape_low mode h c need = grind (arith, nat_tests)
 
 module _ (mode : Mode) (bytewise : IsBytewise mode) (c : ℕ) where
@@ -107,7 +94,7 @@ module _ (mode : Mode) (bytewise : IsBytewise mode) (c : ℕ) where
   pub inner_clean : needs_escape mode c ≡ false → inner mode (encode_utf8 c) ≡ encode_utf8 c
   inner_clean clean = elim (cases_lt c 128) [
     | inl low ↦ grind (arith, inner-character, written-low, replacement-clean, encode_ascii)
-    | inr high ↦ inner-character mode c (encode_utf8 c) (written-high mode c high (λ rest. passed-bytewise mode bytewise (encode_utf8 c ++ rest)))
+    | inr high ↦ inner-character mode c (encode_utf8 c) (written-high mode c high (λ rest. grind arith))
   ]
 
   -- a character that needs one is a byte, and has that byte's replacement

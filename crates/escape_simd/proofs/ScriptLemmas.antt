@@ -1,6 +1,6 @@
 -- Laws of JSON literals for script elements.
 use Rattle.std.proofs.Common.{◌≡◌, ◌≢◌, ℕ, zero, suc, ◌<◌, ◌≤◌, true, false, List, [], ◌∷◌, ◌++◌, length, codes, slice_index_or, ◌⊎◌, encode_utf8_all, refl, sym, ap, ◌∙◌, append_assoc, arith, inl, inr}
-use Rattle.escape_simd.proofs.Words.{IsOneLine, IsScalar, encode_utf8, all_scalars, AllByRecursion, cond_both, true≢false, nat_tests, All-from_recursion, json, script, replacement, begins_separator, script_inner_after, inner, plain, IsJsonItem, raw, short, hex, pair, digits, IsLowerItem, JsonDenotes, short_escape, is_script_marked, HasNoRawMark, IsScriptItem, IsOnlyScript, IsSafeInScript}
+use Rattle.escape_simd.proofs.Words.{get_or_append_left, IsOneLine, IsScalar, encode_utf8, all_scalars, AllByRecursion, cond_both, true≢false, nat_tests, All-from_recursion, json, script, replacement, begins_separator, script_inner_after, inner, plain, IsJsonItem, raw, short, hex, pair, digits, IsLowerItem, JsonDenotes, short_escape, is_script_marked, HasNoRawMark, IsScriptItem, IsOnlyScript, IsSafeInScript}
 use Rattle.escape_simd.proofs.ReplacementLemmas.{script_cases, marked_cases, replacement-clean, replacement-high, replacement-unmarked, length-replacement}
 use Rattle.escape_simd.proofs.JsonLemmas as Json
 use Rattle.std.proofs.lemmas.List.Elements.{All-weaker}
@@ -75,7 +75,7 @@ abbrev IsSafeByte : ℕ → Type 0
 IsSafeByte b = (b < 128) × IsHarmlessByte b
 
 -- such is what stands for each byte below 128
-replacement_safe : (b : ℕ) → b < 128 → AllByRecursion IsSafeByte (replacement script b)
+replacement_safe : (b : ℕ) → b < 128 → AllByRecursion IsSafeByte (replacement script b) × (slice_index_or (replacement script b) 0 0 < 128)
 unfolding replacement
 replacement_safe b low = grind (arith, nat_tests, marked_cases, replacement-unmarked, Json.needed_cases, replacement-clean)
 
@@ -96,21 +96,16 @@ closed n bytes = script_inner_after n bytes ++ 0x22 ∷ []
 
 -- What is written for bytes begins with safe bytes, the replacement of the first or of a separator, or with a byte from 128 on that
 -- stands for itself and begins no separator.
-first_step : (b : ℕ) (bs : List ℕ) → ((xs : List ℕ) × (n : ℕ) × AllByRecursion IsSafeByte xs × (0 < length xs) × (inner script (b ∷ bs) ≡ xs ++ script_inner_after n bs))
+first_step : (b : ℕ) (bs : List ℕ) → ((xs : List ℕ) × (n : ℕ) × AllByRecursion IsSafeByte xs × (0 < length xs) × (slice_index_or xs 0 0 < 128) × (inner script (b ∷ bs) ≡ xs ++ script_inner_after n bs))
     ⊎ ((128 ≤ b) × (begins_separator (b ∷ bs) ≡ false) × (inner script (b ∷ bs) ≡ b ∷ inner script bs))
 unfolding script_inner_after
 first_step b bs = grind (arith, nat_tests, slice_index_or, codes, cond_both, replacement_safe, length-replacement, replacement-high)
-
--- safe bytes begin below 128
-low_first : (xs ys : List ℕ) → AllByRecursion IsSafeByte xs → 0 < length xs → slice_index_or (xs ++ ys) 0 0 < 128
-low_first [] ys safe some = absurd (omega arith)
-low_first (x ∷ xs) ys safe some = safe.0.0
 
 -- so this begins below 128, or as the bytes do
 first_of : (bytes : List ℕ) → (slice_index_or (closed 0 bytes) 0 0 < 128) ⊎ ((b : ℕ) × (bs : List ℕ) × (bytes ≡ b ∷ bs) × (closed 0 bytes ≡ b ∷ closed 0 bs))
 unfolding script_inner_after
 first_of [] = inl (omega arith)
-first_of (b ∷ bs) = grind (arith, first_step, low_first, append_assoc)
+first_of (b ∷ bs) = grind (arith, first_step, get_or_append_left, append_assoc)
 
 -- what begins a separator there began it in the text
 separator_kept : (b : ℕ) (bs : List ℕ) → begins_separator (b ∷ bs) ≡ false → begins_separator (b ∷ closed 0 bs) ≡ false
@@ -124,7 +119,7 @@ inner_safe n [] = safe_before (0x22 ∷ []) [] (omega arith) tt
 inner_safe (suc n) (b ∷ bs) = inner_safe n bs
 inner_safe zero (b ∷ bs) =
     elim (first_step b bs) [
-      | inl (xs, n, safe, some, written) ↦ rw (written, append_assoc) (safe_before xs (closed n bs) safe (inner_safe n bs))
+      | inl (xs, n, safe, some, low, written) ↦ rw (written, append_assoc) (safe_before xs (closed n bs) safe (inner_safe n bs))
       | inr (high, other, written) ↦ rw written (omega arith, separator_kept b bs other, inner_safe 0 bs)
     ]
 

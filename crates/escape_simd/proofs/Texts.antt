@@ -7,28 +7,22 @@ use Rattle.escape_simd.proofs.ReplacementLemmas.{inner-clean_byte, inner-nil, le
 
 -- one byte or three
 pub one≤passed : (mode : Mode) (bytes : List ℕ) → (1 ≤ passed mode bytes) × (passed mode bytes ≤ 3)
-one≤passed script bytes = grind (arith, nat_tests)
-one≤passed mode bytes = (omega arith, omega arith)
+one≤passed mode bytes = grind (arith, nat_tests)
 
 -- bytes of the list
 pub passed≤length : (mode : Mode) (bytes : List ℕ) → 0 < length bytes → passed mode bytes ≤ length bytes
 unfolding begins_separator
-passed≤length script bytes some = grind (arith, nat_tests, get_or_past bytes 2 0)
-passed≤length mode bytes some = omega arith
+passed≤length mode bytes some = grind (arith, nat_tests, get_or_past bytes 2 0)
 
 -- where no escape is needed, one
 passed-clean : (mode : Mode) (b : ℕ) (bs : List ℕ) → needs_escape mode b ≡ false → passed mode (b ∷ bs) ≡ 1
 unfolding begins_separator
-passed-clean script b bs clean = grind (arith, nat_tests)
-passed-clean mode b bs clean = refl
+passed-clean mode b bs clean = grind (arith, nat_tests)
 
 -- a byte that is passed with the one before it needs no escape
 pub passed-between : (mode : Mode) (bytes : List ℕ) (k : ℕ) → 0 < k → k < passed mode bytes → needs_escape mode (get_or bytes k 0) ≡ false
 unfolding begins_separator
-passed-between script bytes (suc zero) some h = grind (arith, nat_tests)
-passed-between script bytes (suc (suc zero)) some h = grind (arith, nat_tests)
-passed-between script bytes k some h = absurd (grind (arith, nat_tests))
-passed-between mode bytes k some h = absurd (omega arith)
+passed-between mode bytes k some h = grind (arith, nat_tests)
 
 -- What stands for bytes, and its counts, one step on
 
@@ -39,10 +33,9 @@ after-drop f none past zero bs = refl
 after-drop f none past (suc n) [] = none (suc n)
 after-drop f none past (suc n) (b ∷ bs) = past n b bs ∙ after-drop f none past n bs
 
-module _ (mode : Mode) where
-  -- no byte needs an escape
-  abbrev pub IsClean : List ℕ → Type 0
-  IsClean xs = (k : ℕ) → k < length xs → needs_escape mode (get_or xs k 0) ≡ false
+-- no byte needs an escape
+abbrev pub IsClean : Mode → List ℕ → Type 0
+IsClean mode xs = (k : ℕ) → k < length xs → needs_escape mode (get_or xs k 0) ≡ false
 
 module _ (b : ℕ) (bs : List ℕ) where
   -- the first of what stands for bytes, and the rest
@@ -70,14 +63,12 @@ module _ (b : ℕ) (bs : List ℕ) where
 -- no byte, no run
 pub runs-empty : (mode : Mode) (before : Bool) → run_count_after mode before [] ≡ 0
 unfolding runs_after script_runs_after
-runs-empty script before = refl
-runs-empty mode before = refl
+runs-empty mode before = grind arith
 
 -- no byte, no escape
 pub escaped-empty : (mode : Mode) → escaped_count mode [] ≡ 0
 unfolding script_escapes_after
-escaped-empty script = refl
-escaped-empty mode = refl
+escaped-empty mode = grind arith
 
 module _ (mode : Mode) where
   -- within a run at most one run fewer begins
@@ -151,11 +142,9 @@ module _ (mode : Mode) where
       pub run_end-stop : run_end mode src i ≡ i
       run_end-stop = omega (arith, prefix_len-drop_no (needs_escape mode) src i 0 inside clean)
 
-  -- the same at the end
-  module _ (src : List ℕ) (i : ℕ) (over : length src ≤ i) where
-    -- it is the end of a run
-    pub run_end-end : run_end mode src i ≡ i
-    run_end-end = rw (drop_all i src over) (omega arith)
+  -- the end of a text is the end of a run
+  pub run_end-end : (src : List ℕ) (i : ℕ) → length src ≤ i → run_end mode src i ≡ i
+  run_end-end src i over = rw (drop_all i src over) (omega arith)
 
 -- How long what stands for bytes is
 
@@ -165,8 +154,7 @@ length-separator bytes begins = grind (arith, nat_tests)
 
 -- the first of what stands for bytes has as many bytes at least as it stands for, and six times as many at most
 pub length-first : (mode : Mode) (bytes : List ℕ) → (passed mode bytes ≤ length (first_replacement mode bytes)) × (length (first_replacement mode bytes) ≤ 6 * passed mode bytes)
-length-first script bytes = grind (arith, nat_tests, length-separator, length-replacement)
-length-first mode bytes = length-replacement mode (get_or bytes 0 0)
+length-first mode bytes = grind (arith, nat_tests, length-separator, length-replacement)
 
 -- bytes are written by as many bytes at least, and six times as many at most
 pub length-inner : (mode : Mode) (bytes : List ℕ) → (length bytes ≤ length (inner mode bytes)) × (length (inner mode bytes) ≤ 6 * length bytes)

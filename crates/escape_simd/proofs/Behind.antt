@@ -5,13 +5,9 @@ use Rattle.escape_simd.proofs.ReplacementLemmas.{inner-nil}
 use Rattle.escape_simd.proofs.Texts.{passed≤length, inner-step, escaped-step, runs-step, runs-empty, escaped-empty}
 
 module _ (k : ℕ) where
-  -- what is read past the zeros is zero, and so is each of them
-  get_or-zeros : (i : ℕ) → ◌≡◌ {A = ℕ} (get_or (replicate k 0) i 0) 0
-  get_or-zeros i = grind (arith, get_or_past, length-replicate, get_or-replicate)
-
   -- each byte stays, and what is read past them is zero
   pub get_or-behind : (xs : List ℕ) (i : ℕ) → get_or (xs ++ replicate k 0) i 0 ≡ get_or xs i 0
-  get_or-behind xs i = grind (arith, get_or-append_right, get_or-zeros, get_or_past, get_or_append_left)
+  get_or-behind xs i = grind (arith, get_or-append_right, get_or-replicate, length-replicate, get_or_past, get_or_append_left)
 
   -- the first of what stands for them goes as far, and is the same
   first-behind : (mode : Mode) (xs : List ℕ) → (passed mode (xs ++ replicate k 0) ≡ passed mode xs) × (first_replacement mode (xs ++ replicate k 0) ≡ first_replacement mode xs)

@@ -19,11 +19,7 @@ pub record BodySoFar {N : ℕ} (mode : Mode) (src : List ℕ) (old new : Target 
 -- one cost and the next
 cost-onward : {N : ℕ} {mode : Mode} {src : List ℕ} {at i next v1 v2 : ℕ} {old mid new : Target N} {t0 t1 t2 : ℕ} (vectors : ℕ) → v1 + v2 ≤ vectors
     → Cost mode src at i v1 0 old mid t0 t1 → Cost mode src i next v2 0 mid new t1 t2 → Cost mode src at next vectors 0 old new t0 t2
-cost-onward vectors few a b = record {
-  stored = omega (arith, a.stored, b.stored, few);
-  covered = omega (arith, a.covered, b.covered);
-  classified = omega (arith, a.classified, b.classified, few);
-}
+cost-onward vectors few a b = omega arith
 
 module _ {N : ℕ} (mode : Mode) (src : List ℕ) (old mid new : Target N) (at to end t0 t1 : ℕ) (several : 16 ≤ N) (so_far : BodySoFar mode src old mid at to end t0 t1) where
   -- there is room for vectors that follow

@@ -5,8 +5,6 @@ use Rattle.escape_simd.proofs.HtmlLemmas.{plain_ampersands, plain_markup_free}
 use Rattle.escape_simd.specs.Markup.{markup_of}
 use Rattle.escape_simd.proofs.MarkupLaws.{html_has_no_markup}
 use Rattle.escape_simd.proofs.OutputLemmas.{IsTextOf-chars, IsUtf8-output, IsOnlyOutput-output, IsOfOneText-output, HasOutputLength-output, JoinsTexts-output}
-use Rattle.escape_simd.proofs.JsonLemmas.{needed_cases}
-use Rattle.escape_simd.proofs.ReplacementLemmas.{replacement-clean}
 use Rattle.escape_simd.proofs.ScriptLemmas.{IsSafeInScript-output, script_one_line}
 use Rattle.escape_simd.proofs.SpellingLemmas.{each_flat_map}
 use Rattle.std.proofs.lemmas.List.Elements.{All-append}
@@ -14,7 +12,7 @@ use Rattle.std.proofs.lemmas.List.Elements.{All-append}
 -- what stands for a byte in JSON has no control character
 json_printed : (b : ℕ) → AllByRecursion (λ x. 0x20 ≤ x) (replacement json b)
 unfolding replacement
-json_printed b = grind (arith, nat_tests, needed_cases, replacement-clean)
+json_printed b = grind (arith, nat_tests)
 
 -- so a JSON literal stands on one line
 pub json_one_line : (bytes output : List ℕ) → output ≡ plain json bytes → IsOneLine output

@@ -11,19 +11,15 @@ use Rattle.escape_simd.proofs.ReplacementLemmas.{inner_needed, inner-pieces, nee
 abbrev piece : ℕ → List ℕ
 piece c = inner html (encode_utf8 c)
 
--- one of the six characters that have an entity
-pub six_cases : (c : ℕ) → needs_escape html c ≡ true → (P : ℕ → Type 0) → P 0x22 → P 0x26 → P 0x27 → P 0x2f → P 0x3c → P 0x3e → P c
-six_cases c need P p1 p2 p3 p4 p5 p6 = grind (arith, nat_tests)
-
 -- a character that has an entity needs an escape, and the entity is what is written for it
 pub entity_is : (c : ℕ) (i : List ℕ) → entity_of c ≡ Some i → (needs_escape html c ≡ true) × (i ≡ replacement html c)
 unfolding entity_of replacement
-entity_is c i e = (grind (arith, nat_tests), grind (arith, nat_tests))
+entity_is c i e = grind (arith, nat_tests)
 
 -- a character that needs an escape has an entity, which is what is written for it
 entity_of_needed : (c : ℕ) → needs_escape html c ≡ true → entity_of c ≡ Some (replacement html c)
 unfolding entity_of replacement
-entity_of_needed c need = six_cases c need (λ x. entity_of x ≡ Some (replacement html x)) refl refl refl refl refl refl
+entity_of_needed c need = grind (arith, nat_tests)
 
 -- what stands for a character reads as it
 piece_item : (c : ℕ) → IsScalar c → IsHtmlItem (piece c) c
@@ -32,7 +28,7 @@ piece_item c scalar = piece_cases html tt c (λ p. IsHtmlItem p c) (λ need. ent
 -- what stands for a byte holds no markup
 replacement_markup_free : (b : ℕ) → AllByRecursion (λ x. is_markup x ≡ false) (replacement html b)
 unfolding replacement
-replacement_markup_free b = grind (arith, nat_tests, six_cases, replacement-clean)
+replacement_markup_free b = grind (arith, nat_tests)
 
 -- the output holds no markup
 pub plain_markup_free : (bytes : List ℕ) → IsMarkupFree (plain html bytes)
@@ -65,8 +61,7 @@ tells : Tells IsHtmlItem read
 unfolding read replacement
 tells i x c (raw _ other) = inl (refl, rw (not_begun c 0x26 x (omega arith) other))
 tells i x c (entity e) =
-    let h = entity_is c i e in
-    inr (rw h.1 (six_cases c h.0 (λ y. read (replacement html y ++ x) ≡ (Some y, x)) refl refl refl refl refl refl))
+    inr (grind (arith, nat_tests, entity_is c i e))
 
 -- the output for the bytes of a text
 pub IsOnlyHtml-plain : (text : List ℕ) → all_scalars text ≡ true → IsOnlyHtml (plain html (encode_utf8_all text)) text
@@ -93,7 +88,7 @@ past_letters (x ∷ xs) tail h begins (f ∷ fs) rest e = past_letters xs tail h
 letters_of : (c : ℕ) → needs_escape html c ≡ true
     → (replacement html c ≡ 0x26 ∷ drop 1 (replacement html c)) × AllByRecursion (λ b. b ≢ 0x26) (drop 1 (replacement html c))
 unfolding replacement
-letters_of c need = grind (arith, nat_tests, six_cases)
+letters_of c need = grind (arith, nat_tests)
 
 -- an entity before others
 past_entity : (c : ℕ) (letters tail : List ℕ) → needs_escape html c ≡ true → replacement html c ≡ 0x26 ∷ letters → AllByRecursion (λ b. b ≢ 0x26) letters

@@ -12,9 +12,3 @@ pub written_more : {X : Type 0} (mode : Mode) (f : X → List ℕ) (xs : List X)
     → after ≡ start ++ inner mode (concat (take (n + 1) (map f xs)))
 written_more mode f xs n d start before after inside cut so_far more =
     grind (arith, take_more (map f xs) n (f d) (omega (arith, length-map xs f)), get_or-map f xs n d (f d) inside, concat-append, append-nil, append_assoc, inner-append)
-
--- what holds of each of the first values, once it holds of one more
-pub each_more : {X : Type 0} (f : X → ℕ) (most : ℕ) (xs : List X) (n : ℕ) (e : X) → n < length xs
-    → ((k : ℕ) (d : X) → k < n → f (get_or xs k d) ≤ most) → f (get_or xs n e) ≤ most
-    → (k : ℕ) (d : X) → k < n + 1 → f (get_or xs k d) ≤ most
-each_more f most xs n e inside below here k d under = grind (arith, get_or_default)

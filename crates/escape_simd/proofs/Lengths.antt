@@ -132,26 +132,22 @@ rest-past mode src at past = omega (arith, rest-bounds mode src at, past)
 -- what stands for a byte alone is one byte only where it is the byte
 replacement-same : (mode : Mode) (b : ℕ) → length (replacement mode b) ≡ 1 → replacement mode b ≡ b ∷ []
 unfolding replacement
-replacement-same script b one = grind (arith, nat_tests)
 replacement-same mode b one = grind (arith, nat_tests)
 
--- and the first of what stands for bytes is no longer than what it stands for only where it is one byte
+-- the first of what stands for bytes is no longer than what it stands for only where it is one byte, and that byte
 first-same : (mode : Mode) (b : ℕ) (bs : List ℕ) → length (first_replacement mode (b ∷ bs)) ≡ passed mode (b ∷ bs) → (passed mode (b ∷ bs) ≡ 1) × (first_replacement mode (b ∷ bs) ≡ b ∷ [])
-first-same script b bs same = grind (arith, nat_tests, length-separator, replacement-same)
-first-same mode b bs same = (omega arith, replacement-same mode b same)
+first-same mode b bs same = grind (arith, nat_tests, length-separator, replacement-same)
 
 -- where what stands for bytes is no longer than they are, it is they
 pub same-length : (mode : Mode) (bytes : List ℕ) → length (inner mode bytes) ≡ length bytes → inner mode bytes ≡ bytes
 same-length mode [] long = inner-nil mode
 same-length mode (b ∷ bs) long =
-    let step = inner-step b bs mode in let few = passed≤length mode (b ∷ bs) (omega arith) in let one = one≤passed mode (b ∷ bs) in
-    let first = length-first mode (b ∷ bs) in let rest = length-inner mode (drop (passed mode (b ∷ bs) - 1) bs) in
-    let sum = ap length step ∙ length-append (first_replacement mode (b ∷ bs)) (inner mode (drop (passed mode (b ∷ bs) - 1) bs)) in
-    let same : length (first_replacement mode (b ∷ bs)) ≡ passed mode (b ∷ bs) = omega (arith, long, sum, few, one, first, rest, length-drop (passed mode (b ∷ bs) - 1) bs) in
+    let n : ℕ = passed mode (b ∷ bs) - 1 in let step = inner-step b bs mode in
+    let same : length (first_replacement mode (b ∷ bs)) ≡ passed mode (b ∷ bs) =
+    omega (arith, long, ap length step, length-append (first_replacement mode (b ∷ bs)) (inner mode (drop n bs)), passed≤length mode (b ∷ bs), one≤passed mode (b ∷ bs), length-first mode (b ∷ bs), length-inner mode (drop n bs), length-drop n bs) in
     let alone = first-same mode b bs same in
-    let behind : drop (passed mode (b ∷ bs) - 1) bs ≡ bs = ap (λ k. drop (k - 1) bs) alone.0 in
-    let left : length (inner mode bs) ≡ length bs = omega (arith, long, sum, same, alone.0, ap (λ xs. length (inner mode xs)) behind) in
-    step ∙ ap (λ xs. xs ++ inner mode (drop (passed mode (b ∷ bs) - 1) bs)) alone.1 ∙ ap (λ xs. b ∷ inner mode xs) behind ∙ ap (λ xs. b ∷ xs) (same-length mode bs left)
+    let next = rw (alone.1, alone.0) at step in
+    next ∙ ap (λ xs. b ∷ xs) (same-length mode bs (omega (arith, long, ap length next)))
 
 -- where a text's bytes from a place on become longer, and those before it are clean, it becomes longer
 pub part-grown : (mode : Mode) (value src : List ℕ) (at end : ℕ) → src ≡ value → IsFront mode src at end → at + rest_length mode src at ≡ rest_length mode src 0 → length src - end < rest_length mode src end → length value < length (inner mode value)

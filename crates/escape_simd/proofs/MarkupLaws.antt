@@ -1,10 +1,9 @@
 -- The laws of markup. Under `#[tactic(auto, using(escape_simd::proofs::MarkupLaws::markup))]` a caller has the clause
 -- that the markup of a page is that of its template.
-use Rattle.std.proofs.Common.{Bor, ◌≡◌, ℕ, false, List, [], ◌∷◌, ◌++◌, flat_map, refl, append-nil}
+use Rattle.std.proofs.Common.{Bor, ◌≡◌, ℕ, false, List, [], ◌∷◌, ◌++◌, flat_map, refl, append-nil, arith}
 use Rattle.std.proofs.lemmas.List.Elements.{filter-append}
 use Rattle.std.specs.List.{join_by}
-use Rattle.escape_simd.proofs.Words.{AllByRecursion, recursion_from_All, html, plain, is_markup}
-use Rattle.escape_simd.proofs.HtmlLemmas.{plain_markup_free}
+use Rattle.escape_simd.proofs.Words.{nat_tests, html, replacement, plain, is_markup}
 unfoldable use Rattle.escape_simd.specs.Markup.{markup_of}
 
 -- the markup of joined bytes is that of the first, and then that of the second
@@ -12,14 +11,11 @@ pub markup_of-append : (xs ys : List ℕ) → markup_of (xs ++ ys) ≡ markup_of
 unfolding markup_of
 markup_of-append xs ys = filter-append is_markup xs ys
 
-none_of_clean : (bytes : List ℕ) → AllByRecursion (λ b. is_markup b ≡ false) bytes → markup_of bytes ≡ []
-unfolding markup_of
-none_of_clean [] clean = refl
-none_of_clean (b ∷ bytes) clean = rw clean.0 (none_of_clean bytes clean.1)
-
 -- an escaped text has none
 pub html_has_no_markup : (bytes : List ℕ) → markup_of (plain html bytes) ≡ []
-html_has_no_markup bytes = none_of_clean (plain html bytes) (recursion_from_All (λ b. is_markup b ≡ false) (plain html bytes) (plain_markup_free bytes))
+unfolding markup_of replacement
+html_has_no_markup [] = refl
+html_has_no_markup (b ∷ bytes) = grind (arith, nat_tests, filter-append is_markup (replacement html b) (plain html bytes), html_has_no_markup bytes)
 
 -- an escaped text adds none
 pub markup-after_html : (before bytes : List ℕ) → markup_of (before ++ plain html bytes) ≡ markup_of before

@@ -9,8 +9,8 @@ use Rattle.escape_simd.proofs.SpellingLemmas.{piece_cases}
 use Rattle.escape_simd.specs.Headline.{IsOnlyOutput}
 use Rattle.escape_simd.proofs.ReplacementLemmas.{IsBytewise, inner-nil, inner-past, script_cases, hex_escape}
 use Rattle.escape_simd.proofs.Texts.{length-inner}
-use Rattle.escape_simd.proofs.HtmlLemmas.{IsOnlyHtml-plain, six_cases}
-use Rattle.escape_simd.proofs.JsonLemmas.{IsOnlyJson-plain, needed_cases, length-quoted}
+use Rattle.escape_simd.proofs.HtmlLemmas.{IsOnlyHtml-plain}
+use Rattle.escape_simd.proofs.JsonLemmas.{IsOnlyJson-plain, length-quoted}
 use Rattle.escape_simd.proofs.ScriptLemmas.{IsOnlyScript-plain, script_denotes}
 
 -- the output for the bytes of a text, in each mode
@@ -43,7 +43,7 @@ ascii_text bytes h = IsUtf8-from_ascii bytes (IsAscii-from_all bytes (All-from_r
 IsUtf8-bytewise : (mode : Mode) → IsBytewise mode → (c : ℕ) → IsScalar c → IsUtf8 (inner mode (encode_utf8 c))
 unfolding replacement
 IsUtf8-bytewise mode bytewise c character =
-    piece_cases mode bytewise c IsUtf8 (λ need. ascii_text (replacement mode c) (grind (arith, nat_tests, needed_cases, six_cases))) (λ clean. IsUtf8-encode c character)
+    piece_cases mode bytewise c IsUtf8 (λ need. ascii_text (replacement mode c) (grind (arith, nat_tests))) (λ clean. IsUtf8-encode c character)
 
 -- and in each mode
 IsUtf8-replacement : (mode : Mode) (c : ℕ) → IsScalar c → IsUtf8 (inner mode (encode_utf8 c))

@@ -46,12 +46,6 @@ pub record BlocksSoFar {N : ℕ} (mode : Mode) (src : List ℕ) (bits : List Boo
   pub some : used ≡ true → stored_of old + 1 ≤ stored_of new
   pub counted : ticks_new + cond used 1 0 + stored_of old ≡ ticks_old + stored_of new
 
--- how a block changes the counts
-pub block-counts : (before ticks ticks2 count s0 s1 s2 : ℕ) (used flagged used2 : Bool) → flagged ≡ not (nat_eq count 0) → used2 ≡ (used || not flagged) → ticks2 ≡ ticks + cond (not flagged && used) 1 0 → s2 ≡ s1 + cond (nat_eq count 0) 1 0
-    → (used ≡ false → s1 ≡ s0) → (used ≡ true → s0 + 1 ≤ s1) → ticks + cond used 1 0 + s0 ≡ before + s1
-    → (used2 ≡ false → s2 ≡ s0) × (used2 ≡ true → s0 + 1 ≤ s2) × (ticks2 + cond used2 1 0 + s0 ≡ before + s2)
-block-counts before ticks ticks2 count s0 s1 s2 used flagged used2 f u t s none some c = grind (arith, nat_tests)
-
 module _ {mode : Mode} {src : List ℕ} (f : ℕ) {at valid to size : ℕ} (h : HasBlocks mode src at valid to size (bits_of 64 f)) where
   -- the flags
   abbrev bits : List Bool
@@ -141,13 +135,12 @@ module _ {mode : Mode} {src : List ℕ} (f : ℕ) {at valid to size : ℕ} (h : 
       → IsBlock fs (take 8 (map shortened (take 16 (drop (at + 8 * block) src)))) mid new p end → flagged ≡ not (nat_eq (flag_count fs) 0) → used2 ≡ (used || not flagged) → ticks2 ≡ ticks + cond (not flagged && used) 1 0
       → (used2 ≡ false → IsWithin (take valid (drop at src)) own2) → BlocksSoFar mode src bits old new at valid to end (block + 1) own2 used2 ticks_old ticks2
   blocks-next {old = old} {mid = mid} {new = new} {ticks_old = ticks_old} {ticks = ticks} {ticks2 = ticks2} {used = used} {flagged = flagged} {used2 = used2} {fs = fs} bytes size_is b more told w f u t left =
-      let counts = block-counts ticks_old ticks ticks2 (flag_count fs) (stored_of old) (stored_of mid) (stored_of new) used flagged used2 f u t w.written.stored b.unused b.some b.counted in
       record {
         done = done-block bytes size_is b.done more refl told w;
         own_left = left;
-        unused = counts.0;
-        some = counts.1;
-        counted = counts.2;
+        unused = grind (arith, nat_tests, w.written.stored, b.unused, b.some, b.counted);
+        some = grind (arith, nat_tests, w.written.stored, b.unused, b.some, b.counted);
+        counted = grind (arith, nat_tests, w.written.stored, b.unused, b.some, b.counted);
       }
 
   -- the last block

@@ -91,8 +91,6 @@ marked-apart mode clean flags zero xs fill m =
     let none : flag_count flags ≡ 0 = count-none flags (λ i h. absurd (let s = m.set i h in omega (arith, s))) in
     let n : 0 + flag_count flags ≡ 0 = omega (arith, none) in
     (rw n refl, omega (arith, none))
-marked-apart mode clean [] (suc k) xs fill m = absurd (omega (arith, m.few))
-marked-apart mode clean (b ∷ flags) (suc k) [] fill m = absurd (omega (arith, m.inside))
 marked-apart mode clean (true ∷ flags) (suc k) (x ∷ xs) fill m =
     let needed = (m.set 0 refl).1 in
     let short = m.short 0 refl in
@@ -108,3 +106,4 @@ marked-apart mode clean (false ∷ flags) (suc k) (x ∷ xs) fill m =
     let n : suc k + flag_count (false ∷ flags) ≡ suc (k + flag_count flags) = omega (arith, count-cons false flags) in
     let here = ap (λ y. y ∷ inner mode xs) (clean x none) ∙ sym (inner-clean_byte mode x xs none) in
     (rw n (ap (λ ys. shortened x ∷ ys) rest.0 ∙ here), omega (arith, rest.1, escaped_clean-here mode (x ∷ xs) 0 (omega arith) none, count-cons false flags))
+marked-apart mode clean flags k xs fill m = absurd (omega (arith, m.few, m.inside))

@@ -107,10 +107,6 @@ module _ (mode : Mode) (bytewise : IsBytewise mode) (c : ℕ) where
 abbrev pub hex_escape : ℕ → List ℕ
 hex_escape c = codes "\\u" ++ digit_char (c / 0x1000) ∷ digit_char (c / 0x100 % 16) ∷ digit_char (c / 0x10 % 16) ∷ digit_char (c % 16) ∷ []
 
--- the five marked characters
-pub marked_cases : (c : ℕ) → is_script_marked c ≡ true → (P : ℕ → Type 0) → P 0x26 → P 0x3c → P 0x3e → P 0x2028 → P 0x2029 → P c
-marked_cases c marked P p1 p2 p3 p4 p5 = grind (arith, nat_tests)
-
 -- bytes that begin with a separator are the form of its character, and others
 begins_separator-form : (bytes : List ℕ) → begins_separator bytes ≡ true → (bytes ≡ encode_utf8 0x2028 ++ drop 3 bytes) ⊎ (bytes ≡ encode_utf8 0x2029 ++ drop 3 bytes)
 unfolding begins_separator encode_utf8
@@ -124,7 +120,7 @@ passed-unmarked c other rest = grind (arith, nat_tests, begins_separator-form, e
 -- what stands for a marked character
 written-marked : (c : ℕ) → is_script_marked c ≡ true → IsWrittenAs script c (hex_escape c)
 unfolding script_inner_after begins_separator replacement encode_utf8
-written-marked c marked = grind (arith, nat_tests, marked_cases)
+written-marked c marked = grind (arith, nat_tests)
 
 -- a byte that isn't marked stands for what it does in JSON
 pub replacement-unmarked : (b : ℕ) → is_script_marked b ≡ false → replacement script b ≡ replacement json b

@@ -1,7 +1,7 @@
 -- Laws of JSON literals for script elements.
 use Rattle.std.proofs.Common.{◌≡◌, ◌≢◌, ℕ, zero, suc, ◌<◌, ◌≤◌, true, false, List, [], ◌∷◌, ◌++◌, length, codes, slice_index_or, ◌⊎◌, encode_utf8_all, refl, sym, ap, ◌∙◌, append_assoc, arith, inl, inr}
 use Rattle.escape_simd.proofs.Words.{get_or_append_left, IsOneLine, IsScalar, encode_utf8, all_scalars, AllByRecursion, cond_both, true≢false, nat_tests, All-from_recursion, json, script, replacement, begins_separator, script_inner_after, inner, plain, IsJsonItem, raw, short, hex, pair, digits, IsLowerItem, JsonDenotes, short_escape, is_script_marked, HasNoRawMark, IsScriptItem, IsOnlyScript, IsSafeInScript}
-use Rattle.escape_simd.proofs.ReplacementLemmas.{script_cases, marked_cases, replacement-clean, replacement-high, replacement-unmarked, length-replacement}
+use Rattle.escape_simd.proofs.ReplacementLemmas.{script_cases, replacement-high, length-replacement}
 use Rattle.escape_simd.proofs.JsonLemmas as Json
 use Rattle.std.proofs.lemmas.List.Elements.{All-weaker}
 use Rattle.std.specs.List.{All}
@@ -77,7 +77,7 @@ IsSafeByte b = (b < 128) × IsHarmlessByte b
 -- such is what stands for each byte below 128
 replacement_safe : (b : ℕ) → b < 128 → AllByRecursion IsSafeByte (replacement script b) × (slice_index_or (replacement script b) 0 0 < 128)
 unfolding replacement
-replacement_safe b low = grind (arith, nat_tests, marked_cases, replacement-unmarked, Json.needed_cases, replacement-clean)
+replacement_safe b low = grind (arith, nat_tests)
 
 -- harmless bytes, of which none begins a separator
 abbrev IsSafe : List ℕ → Type 0

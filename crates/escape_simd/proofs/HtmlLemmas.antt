@@ -84,28 +84,20 @@ past_letters [] tail h begins front rest e = begins front rest e
 past_letters (x ∷ xs) tail h begins [] rest e = absurd (h.0 (cc))
 past_letters (x ∷ xs) tail h begins (f ∷ fs) rest e = past_letters xs tail h.1 begins fs rest (cc)
 
--- an entity has one ampersand, its first byte
-letters_of : (c : ℕ) → needs_escape html c ≡ true
-    → (replacement html c ≡ 0x26 ∷ drop 1 (replacement html c)) × AllByRecursion (λ b. b ≢ 0x26) (drop 1 (replacement html c))
-unfolding replacement
-letters_of c need = grind (arith, nat_tests)
+-- what stands for a byte has an ampersand only as the first byte of an entity
+letters_of : (b : ℕ) → (replacement html b ≡ get_or (replacement html b) 0 0 ∷ drop 1 (replacement html b)) × AllByRecursion (λ x. x ≢ 0x26) (drop 1 (replacement html b))
+    × (get_or (replacement html b) 0 0 ≡ 0x26 → entity_of b ≡ Some (replacement html b))
+unfolding replacement entity_of
+letters_of b = grind (arith, nat_tests)
 
--- an entity before others
-past_entity : (c : ℕ) (letters tail : List ℕ) → needs_escape html c ≡ true → replacement html c ≡ 0x26 ∷ letters → AllByRecursion (λ b. b ≢ 0x26) letters
-    → AmpersandsBeginEntities tail → AmpersandsBeginEntities (0x26 ∷ (letters ++ tail))
-past_entity c letters tail need is h begins [] rest e = (c, replacement html c, tail, entity_of_needed c need, sym e ∙ ap (λ bytes. bytes ++ tail) (sym is))
-past_entity c letters tail need is h begins (f ∷ fs) rest e = past_letters letters tail h begins fs rest (cc)
-
--- what stands for a byte before others
-ampersand_step : (b : ℕ) (tail : List ℕ) → AmpersandsBeginEntities tail → AmpersandsBeginEntities (replacement html b ++ tail)
-ampersand_step b tail begins =
-    elim (cases_Bool (needs_escape html b)) [
-      | inl need ↦ grind (arith, nat_tests, letters_of, past_entity)
-      | inr clean ↦ rw (replacement-clean html b clean) (past_letters (b ∷ []) tail (grind (arith, nat_tests), tt) begins)
-    ]
+-- such bytes before others
+past_first : (b x : ℕ) (bytes letters tail : List ℕ) → bytes ≡ x ∷ letters → AllByRecursion (λ y. y ≢ 0x26) letters → (x ≡ 0x26 → entity_of b ≡ Some bytes)
+    → AmpersandsBeginEntities tail → AmpersandsBeginEntities (bytes ++ tail)
+past_first b x bytes letters tail is h whole begins [] rest e = (b, bytes, tail, whole (cc), sym e)
+past_first b x bytes letters tail is h whole begins (f ∷ fs) rest e = past_letters letters tail h begins fs rest (cc)
 
 -- each ampersand of the output begins an entity
 pub plain_ampersands : (bytes : List ℕ) → AmpersandsBeginEntities (plain html bytes)
 plain_ampersands [] [] rest e = absurd (cc)
 plain_ampersands [] (f ∷ fs) rest e = absurd (cc)
-plain_ampersands (b ∷ bs) front rest e = ampersand_step b (inner html bs) (plain_ampersands bs) front rest e
+plain_ampersands (b ∷ bs) front rest e = let l = letters_of b in past_first b _ _ _ (plain html bs) l.0 l.1 l.2 (plain_ampersands bs) front rest e

@@ -62,16 +62,14 @@ pub IsUtf8-inner : (mode : Mode) (bytes : List ℕ) → IsUtf8 bytes → IsUtf8 
 IsUtf8-inner mode bytes utf8 = rw (encodes-chars bytes utf8) at (IsUtf8-characters mode (chars bytes) (scalars-chars bytes utf8))
 
 -- a quotation mark is a text
-pub IsUtf8-quote : (mode : Mode) → IsUtf8 (quote_of mode)
-IsUtf8-quote html = IsUtf8-nil
-IsUtf8-quote mode = ascii_text (0x22 ∷ []) (omega arith, tt)
+IsUtf8-quote : IsUtf8 (0x22 ∷ [])
+IsUtf8-quote = ascii_text (0x22 ∷ []) (omega arith, tt)
 
 -- the output for the bytes of a text is a text
 pub IsUtf8-output : (mode : Mode) (bytes output : List ℕ) → IsUtf8 bytes → output ≡ plain mode bytes → IsUtf8 output
 IsUtf8-output html bytes output utf8 same = rw same (IsUtf8-inner html bytes utf8)
 IsUtf8-output mode bytes output utf8 same =
-    let quote = IsUtf8-quote mode in
-    rw same (IsUtf8-append (0x22 ∷ []) (inner mode bytes ++ 0x22 ∷ []) quote (IsUtf8-append (inner mode bytes) (0x22 ∷ []) (IsUtf8-inner mode bytes utf8) quote))
+    rw same (IsUtf8-append (0x22 ∷ []) (inner mode bytes ++ 0x22 ∷ []) IsUtf8-quote (IsUtf8-append (inner mode bytes) (0x22 ∷ []) (IsUtf8-inner mode bytes utf8) IsUtf8-quote))
 
 -- an output is of one text
 same_characters : (mode : Mode) (output t u : List ℕ) → all_scalars t ≡ true → output ≡ plain mode (encode_utf8_all t) → IsOnlyOutput mode output t → IsOnlyOutput mode output u → t ≡ u

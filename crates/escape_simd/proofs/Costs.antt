@@ -1,11 +1,7 @@
 -- How far the body has come in a text, and at what cost.
 use Rattle.std.proofs.Common.{◌≡◌, ℕ, ◌+◌, ◌-◌, ◌*◌, ◌/◌, ◌<◌, ◌≤◌, true, List, length, arith}
+use Rattle.escape_simd.proofs.Words.{le-div, Mode, bytes_of, Target, Cost, Escapes, HasTail, HasVectors, Stretch, reach, rest_length, state}
 use Rattle.std.proofs.Math.Nat.{div-mul-le_self}
-use Rattle.std.proofs.lemmas.Nat.{le-div}
-use Rattle.escape_lanes.specs.Mode.{Mode}
-use Rattle.escape_lanes.specs.Written.{bytes_of}
-use Rattle.escape_lanes.specs.declared.simd.target.Target.{Target}
-use Rattle.escape_simd.specs.Stretch.{Cost, Escapes, HasTail, HasVectors, Stretch, reach, rest_length, state}
 use Rattle.escape_simd.proofs.RestSteps.{rest-bounds}
 use Rattle.escape_simd.proofs.Stretches.{onward_to, reach-bounds, stretch-on}
 use Rattle.escape_simd.proofs.Vectors.{passed-to}

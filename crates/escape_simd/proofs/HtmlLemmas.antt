@@ -1,10 +1,8 @@
 -- Laws of HTML texts: the output reads as the text, holds no markup, and is the only one that does.
 use Rattle.std.proofs.Common.{Option, Some, None, drop, ap₂, ◌≡◌, ◌≢◌, ℕ, true, false, ◌==◌, cond, List, [], ◌∷◌, ◌++◌, length, get_or, flat_map, encode_utf8, encode_utf8_all, refl, sym, ap, ◌∙◌, arith, inl, inr}
-use Rattle.escape_simd.proofs.Words.{IsScalar, all_scalars, AllByRecursion, AllZip, concat, cases_Bool, nat_tests, recursion_from_All, encode_ascii, html, replacement, needs_escape, inner, plain, IsHtmlItem, entity_of, entity, HtmlReads, is_markup, IsMarkupFree, IsOnlyHtml, AmpersandsBeginEntities}
+use Rattle.escape_simd.proofs.Words.{IsScalar, all_scalars, AllByRecursion, AllZip, concat, cases_Bool, nat_tests, recursion_from_All, encode_ascii, html, replacement, needs_escape, inner, plain, IsHtmlItem, entity_of, entity, HtmlReads, is_markup, IsMarkupFree, IsOnlyHtml, AmpersandsBeginEntities, take-append_seam, drop-append_seam, All-take, All-drop}
 use Rattle.escape_simd.specs.Html.{raw}
 use Rattle.escape_simd.proofs.SpellingLemmas.{each_flat_map, piece_cases, not_begun, Tells, Spells-flat_map, Spells-one_text}
-use Rattle.std.proofs.Math.Seq.{take-append_seam, drop-append_seam}
-use Rattle.std.proofs.lemmas.List.Elements.{All-take, All-drop}
 use Rattle.escape_simd.proofs.ReplacementLemmas.{inner_needed, inner-pieces, needs_escape_low, replacement-clean}
 
 -- what stands for a character
@@ -31,8 +29,8 @@ unfolding replacement
 replacement_markup_free b = grind (arith, nat_tests)
 
 -- the output holds no markup
-pub plain_markup_free : (bytes : List ℕ) → IsMarkupFree (plain html bytes)
-plain_markup_free bytes = each_flat_map (λ x. is_markup x ≡ false) (replacement html) replacement_markup_free bytes
+pub html_is_markup_free : (bytes : List ℕ) → IsMarkupFree (plain html bytes)
+html_is_markup_free bytes = each_flat_map (λ x. is_markup x ≡ false) (replacement html) replacement_markup_free bytes
 
 -- an item without markup is what stands for the character
 markup_free_item : (i : List ℕ) (c : ℕ) → IsHtmlItem i c → AllByRecursion (λ x. is_markup x ≡ false) i → i ≡ piece c
@@ -71,7 +69,7 @@ IsOnlyHtml-plain text scalars =
     let reads : HtmlReads (plain html (encode_utf8_all text)) text = rw pieces (Spells-flat_map IsHtmlItem piece piece_item text scalars) in
     record {
       reads = reads;
-      markup_free = plain_markup_free (encode_utf8_all text);
+      markup_free = html_is_markup_free (encode_utf8_all text);
       only = λ other spelled free. spelled.joined ∙ only_pieces spelled.items text spelled.each (rw spelled.joined at free) ∙ sym pieces;
       one_text = λ other spelled. Spells-one_text IsHtmlItem read tells refl (plain html (encode_utf8_all text)) other text spelled reads;
     }
@@ -97,7 +95,7 @@ past_first b x bytes letters tail is h whole begins [] rest e = (b, bytes, tail,
 past_first b x bytes letters tail is h whole begins (f ∷ fs) rest e = past_letters letters tail h begins fs rest (cc)
 
 -- each ampersand of the output begins an entity
-pub plain_ampersands : (bytes : List ℕ) → AmpersandsBeginEntities (plain html bytes)
-plain_ampersands [] [] rest e = absurd (cc)
-plain_ampersands [] (f ∷ fs) rest e = absurd (cc)
-plain_ampersands (b ∷ bs) front rest e = let l = letters_of b in past_first b _ _ _ (plain html bs) l.0 l.1 l.2 (plain_ampersands bs) front rest e
+pub html_ampersands_begin_entities : (bytes : List ℕ) → AmpersandsBeginEntities (plain html bytes)
+html_ampersands_begin_entities [] [] rest e = absurd (cc)
+html_ampersands_begin_entities [] (f ∷ fs) rest e = absurd (cc)
+html_ampersands_begin_entities (b ∷ bs) front rest e = let l = letters_of b in past_first b _ _ _ (plain html bs) l.0 l.1 l.2 (html_ampersands_begin_entities bs) front rest e

@@ -1,5 +1,5 @@
 -- How long what stands for parts of a text is, and for the whole.
-use Rattle.std.proofs.Common.{◌≡◌, ℕ, zero, suc, ◌+◌, ◌-◌, ◌*◌, ◌<◌, ◌≤◌, Bool, true, false, List, [], ◌∷◌, ◌++◌, length, drop, get_or, replicate, ap, ◌∙◌, arith, length-append, length-drop, inl, inr}
+use Rattle.std.proofs.Common.{◌≡◌, ℕ, zero, suc, ◌+◌, ◌-◌, ◌*◌, ◌<◌, ◌≤◌, Bool, true, false, List, [], ◌∷◌, ◌++◌, length, drop, get_or, replicate, ap, ◌∙◌, arith, rules, length-append, length-drop, inl, inr}
 use Rattle.escape_simd.proofs.Words.{cases_lt, count_by, nat_tests, first_set, none_set, clear_first, clear_last, entry_count, map, take-append-le, Mode, script, needs_escape, replacement, inner, begins_separator, passed, first_replacement, plain, quote_count, rest_length, HoldsFlags, IsFlaggedAt, IsFront, IsPartLength}
 use Rattle.escape_simd.proofs.Escapes.{entry-counts, first-alone, passed-alone}
 use Rattle.escape_simd.proofs.Lanes.{CleanFrom, held-cut, cleared-later, first-set, first_set-here, held-cleared, held-first, held-further, held-none}
@@ -60,14 +60,7 @@ first_set-past (suc n) bits = omega (arith, first_set-past n bits)
 module _ (mode : Mode) (src : List ℕ) (at valid : ℕ) (inside : at + valid ≤ length src) where
   -- none yet
   pub counted-begin : (bits : List Bool) → HoldsFlags mode src at valid at bits → CountedSoFar mode src at valid valid bits
-  counted-begin bits held = record {
-    next = at;
-    after = omega arith;
-    before = omega arith;
-    flags = held;
-    cleared = λ k set. omega arith;
-    counted = omega arith;
-  }
+  counted-begin bits held = search (rules, held)
 
   module _ (len : ℕ) (bits : List Bool) (so_far : CountedSoFar mode src at valid len bits) where
     -- six bytes at most stand for each

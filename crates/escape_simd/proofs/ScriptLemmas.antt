@@ -1,10 +1,8 @@
 -- Laws of JSON literals for script elements.
-use Rattle.std.proofs.Common.{◌≡◌, ◌≢◌, ℕ, zero, suc, ◌<◌, ◌≤◌, true, false, List, [], ◌∷◌, ◌++◌, length, codes, slice_index_or, ◌⊎◌, encode_utf8_all, refl, sym, ap, ◌∙◌, append_assoc, arith, inl, inr}
-use Rattle.escape_simd.proofs.Words.{get_or_append_left, IsOneLine, IsScalar, encode_utf8, all_scalars, AllByRecursion, cond_both, true≢false, nat_tests, All-from_recursion, json, script, replacement, begins_separator, script_inner_after, inner, plain, IsJsonItem, raw, short, hex, pair, digits, IsLowerItem, JsonDenotes, short_escape, is_script_marked, HasNoRawMark, IsScriptItem, IsOnlyScript, IsSafeInScript}
+use Rattle.std.proofs.Common.{◌≡◌, ◌≢◌, ℕ, zero, suc, ◌<◌, ◌≤◌, true, false, List, [], ◌∷◌, ◌++◌, length, codes, slice_index_or, ◌⊎◌, encode_utf8_all, refl, sym, ap, subst, ◌∙◌, append_assoc, arith, inl, inr}
+use Rattle.escape_simd.proofs.Words.{get_or_append_left, IsOneLine, IsScalar, encode_utf8, all_scalars, AllByRecursion, cond_both, true≢false, nat_tests, All-from_recursion, json, script, replacement, begins_separator, script_inner_after, inner, plain, IsJsonItem, raw, short, hex, pair, digits, IsLowerItem, JsonDenotes, short_escape, is_script_marked, HasNoRawMark, IsScriptItem, IsOnlyScript, IsSafeInScript, All-weaker, All}
 use Rattle.escape_simd.proofs.ReplacementLemmas.{script_cases, replacement-high, length-replacement}
 use Rattle.escape_simd.proofs.JsonLemmas as Json
-use Rattle.std.proofs.lemmas.List.Elements.{All-weaker}
-use Rattle.std.specs.List.{All}
 
 -- what stands for a character
 abbrev piece : ℕ → List ℕ
@@ -134,23 +132,27 @@ unfolding begins_separator
 no_separator [] rest x begins safe = true≢false (sym begins ∙ safe.1)
 no_separator (_ ∷ front) rest x begins safe = no_separator front rest x begins safe.2
 
-module _ (bytes output : List ℕ) (same : output ≡ plain script bytes) where
+module _ (bytes : List ℕ) where
   -- the output for any bytes is safe
-  output_safe : IsSafe output
-  output_safe = rw same (safe_before (0x22 ∷ []) (closed 0 bytes) (omega arith) (inner_safe 0 bytes))
+  output_safe : IsSafe (plain script bytes)
+  output_safe = safe_before (0x22 ∷ []) (closed 0 bytes) (omega arith) (inner_safe 0 bytes)
 
-  output_harmless : All IsHarmlessByte output
-  output_harmless = All-from_recursion IsHarmlessByte output (harmless output output_safe)
+  output_harmless : All IsHarmlessByte (plain script bytes)
+  output_harmless = All-from_recursion IsHarmlessByte (plain script bytes) (harmless (plain script bytes) output_safe)
 
   -- so it stands on one line
-  pub script_one_line : IsOneLine output
-  script_one_line = All-weaker IsHarmlessByte (λ b. 0x20 ≤ b) (λ b h. h.0) output output_harmless
+  pub script_is_one_line : IsOneLine (plain script bytes)
+  script_is_one_line = All-weaker IsHarmlessByte (λ b. 0x20 ≤ b) (λ b h. h.0) (plain script bytes) output_harmless
 
   -- and can stand in a script element
-  pub IsSafeInScript-output : IsSafeInScript output
+  pub script_is_safe : IsSafeInScript (plain script bytes)
   unfolding begins_separator
-  IsSafeInScript-output = record {
-    no_markup = All-weaker IsHarmlessByte (λ b. (b ≢ 0x3c) × (b ≢ 0x3e) × (b ≢ 0x26)) (λ b h. (h.1, h.2, h.3)) output output_harmless;
-    no_line_separator = λ front rest is. no_separator front rest 0xa8 refl (rw is at output_safe);
-    no_paragraph_separator = λ front rest is. no_separator front rest 0xa9 refl (rw is at output_safe);
+  script_is_safe = record {
+    no_markup = All-weaker IsHarmlessByte (λ b. (b ≢ 0x3c) × (b ≢ 0x3e) × (b ≢ 0x26)) (λ b h. (h.1, h.2, h.3)) (plain script bytes) output_harmless;
+    no_line_separator = λ front rest is. no_separator front rest 0xa8 refl (subst IsSafe is output_safe);
+    no_paragraph_separator = λ front rest is. no_separator front rest 0xa9 refl (subst IsSafe is output_safe);
   }
+
+  -- the same of an output
+  pub IsSafeInScript-output : (output : List ℕ) → output ≡ plain script bytes → IsSafeInScript output
+  IsSafeInScript-output output same = rw same script_is_safe

@@ -23,14 +23,10 @@ entity_of_needed c need = grind (arith, nat_tests)
 piece_item : (c : ℕ) → IsScalar c → IsHtmlItem (piece c) c
 piece_item c scalar = piece_cases html tt c (λ p. IsHtmlItem p c) (λ need. entity (entity_of_needed c need)) (λ clean. raw scalar (grind (arith, nat_tests)))
 
--- what stands for a byte holds no markup
-replacement_markup_free : (b : ℕ) → AllByRecursion (λ x. is_markup x ≡ false) (replacement html b)
-unfolding replacement
-replacement_markup_free b = grind (arith, nat_tests)
-
 -- the output holds no markup
 pub html_is_markup_free : (bytes : List ℕ) → IsMarkupFree (plain html bytes)
-html_is_markup_free bytes = each_flat_map (λ x. is_markup x ≡ false) (replacement html) replacement_markup_free bytes
+unfolding replacement
+html_is_markup_free bytes = each_flat_map (λ x. is_markup x ≡ false) (replacement html) (λ b. grind (arith, nat_tests)) bytes
 
 -- an item without markup is what stands for the character
 markup_free_item : (i : List ℕ) (c : ℕ) → IsHtmlItem i c → AllByRecursion (λ x. is_markup x ≡ false) i → i ≡ piece c

@@ -75,12 +75,7 @@ IsPiece-json c =
       most = (length-replacement json c).1;
       six = λ long. grind (arith, nat_tests, needed_cases, control_hex);
     })
-    (λ clean. record {
-      itself = λ h k l small. refl;
-      letter = λ b e. inl (length-encode c ∙ len_utf8_ascii c (grind (arith, nat_tests)));
-      most = omega (arith, length-encode c, (len_utf8_bounds c).1);
-      six = λ long. absurd (omega (arith, length-encode c, (len_utf8_bounds c).1));
-    })
+    (λ clean. grind (arith, nat_tests, length-encode, len_utf8_bounds, len_utf8_ascii))
 
 -- a raw character of JSON stands for itself
 pub piece-raw : (c : ℕ) → 32 ≤ c → c ≢ 0x22 → c ≢ 0x5c → piece c ≡ encode_utf8 c

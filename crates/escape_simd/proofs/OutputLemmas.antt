@@ -7,7 +7,7 @@ use Rattle.escape_simd.proofs.ReplacementLemmas.{IsBytewise, inner-nil, inner-pa
 use Rattle.escape_simd.proofs.Texts.{length-inner}
 use Rattle.escape_simd.proofs.HtmlLemmas.{IsOnlyHtml-plain}
 use Rattle.escape_simd.proofs.JsonLemmas.{IsOnlyJson-plain, length-quoted}
-use Rattle.escape_simd.proofs.ScriptLemmas.{IsOnlyScript-plain, script_denotes}
+use Rattle.escape_simd.proofs.ScriptLemmas.{IsOnlyScript-plain, only_script}
 
 -- the output for the bytes of a text, in each mode
 IsOnlyOutput-plain : (mode : Mode) (text : List ℕ) → all_scalars text ≡ true → IsOnlyOutput mode (plain mode (encode_utf8_all text)) text
@@ -71,7 +71,7 @@ IsUtf8-output mode bytes output utf8 same =
 same_characters : (mode : Mode) (output t u : List ℕ) → all_scalars t ≡ true → output ≡ plain mode (encode_utf8_all t) → IsOnlyOutput mode output t → IsOnlyOutput mode output u → t ≡ u
 same_characters json output t u scalars e p q = q.one_text t p.shortest.denotes
 same_characters html output t u scalars e p q = q.one_text t p.reads
-same_characters script output t u scalars e p q = q.one_text t (rw e (script_denotes t scalars))
+same_characters script output t u scalars e p q = q.one_text t (rw e (only_script t scalars).denotes)
 
 -- How long the output is
 

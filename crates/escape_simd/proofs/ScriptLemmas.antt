@@ -28,12 +28,7 @@ IsPiece-script : (c : ℕ) → Json.IsPiece (piece c) c
 unfolding short_escape
 IsPiece-script c =
     script_cases c (λ p. Json.IsPiece p c)
-    (λ marked. record {
-      itself = λ h k l small. absurd (omega arith);
-      letter = λ b s. absurd (grind (arith, nat_tests));
-      most = omega arith;
-      six = λ long. refl;
-    })
+    (λ marked. grind (arith, nat_tests))
     (λ other. Json.IsPiece-json c)
 
 -- no item is shorter than what stands for the character
@@ -44,14 +39,10 @@ least i c (hex (digits _ _ _ _) _, _) = (IsPiece-script c).most
 least i c (pair (digits _ _ _ _) (digits _ _ _ _) _ _, _) = omega (arith, (IsPiece-script c).most)
 
 -- the output for the bytes of a text is the only shortest literal by such items
-only_script : (text : List ℕ) → all_scalars text ≡ true → Json.IsOnly IsScriptItem (plain script (encode_utf8_all text)) text
+pub only_script : (text : List ℕ) → all_scalars text ≡ true → Json.IsOnly IsScriptItem (plain script (encode_utf8_all text)) text
 only_script text scalars = Json.IsOnly-quoted IsScriptItem script (λ i c item. item.0) IsPiece-script least both_item text scalars
 
--- it denotes the text
-pub script_denotes : (text : List ℕ) → all_scalars text ≡ true → JsonDenotes (plain script (encode_utf8_all text)) text
-script_denotes text scalars = (only_script text scalars).denotes
-
--- and is the only one for it
+-- and so it is the only one for the text
 pub IsOnlyScript-plain : (text : List ℕ) → all_scalars text ≡ true → IsOnlyScript (plain script (encode_utf8_all text)) text
 IsOnlyScript-plain text scalars =
     let h = only_script text scalars in

@@ -21,14 +21,11 @@ module _ {N : ℕ} (mode : Mode) (src : List ℕ) (old mid new : Target N) (at t
   -- there is room for vectors that follow
   pub body-vectors : (vectors size : ℕ) → to + 6 * length src + 32 ≤ size → size ≡ length (bytes_of mid) → at + (vectors + 1) * N ≤ length src → at + 6 * (vectors * N) + N ≤ at + 6 * ((vectors + 1) * N) → HasVectors N vectors src at at end (length (bytes_of mid))
   body-vectors vectors size room sized inside more =
-      let on = stretch-on so_far.stretch in let e : at + vectors * N - at ≡ vectors * N = omega arith in
-      record { inside = inside; room = omega (arith, room, sized, inside, on, e, more) }
+      let e : at + vectors * N - at ≡ vectors * N = omega arith in omega (arith, stretch-on so_far.stretch, e)
 
   -- and for the last bytes
   pub body-rest : (size : ℕ) → to + 6 * length src + 32 ≤ size → size ≡ length (bytes_of mid) → length src < at + 2 * N → HasTail N src at end (length (bytes_of mid))
-  body-rest size room sized few =
-      let on = stretch-on so_far.stretch in let i = so_far.stretch.inside in
-      record { inside = i; few = few; room = omega (arith, room, sized, on, i) }
+  body-rest size room sized few = omega (arith, stretch-on so_far.stretch, so_far.stretch.inside)
 
   -- so many vectors were passed
   pub body-on : (vectors next close t2 : ℕ) → at + (vectors + 1) * N ≤ length src → at + (vectors + 1) * N ≡ at + vectors * N + N → (at / N + vectors) * N ≡ at / N * N + vectors * N → Escapes mode N (at + vectors * N) vectors 0 src (state mid at end t1) (state new next close t2) → BodySoFar mode src old new next to close t0 t2

@@ -77,8 +77,7 @@ same_characters script output t u scalars e p q = q.one_text t (rw e (only_scrip
 
 -- with the quotation marks of a literal
 pub length-plain : (mode : Mode) (bytes : List ℕ) → length (plain mode bytes) ≡ length (inner mode bytes) + quote_count mode
-length-plain html bytes = omega arith
-length-plain mode bytes = length-quoted (inner mode bytes)
+length-plain mode bytes = grind (arith, length-quoted)
 
 -- Texts that are cut in two
 

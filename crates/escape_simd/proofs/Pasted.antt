@@ -132,7 +132,7 @@ module _ {mode : Mode} {src : List ℕ} (f : ℕ) {at valid to size : ℕ} (h : 
       → BlocksSoFar mode src bits old mid at valid to p block own used ticks_old ticks → 8 * block < valid → fs ≡ take 8 (drop (8 * block) bits)
       → IsBlock fs (take 8 (map shortened (take 16 (drop (at + 8 * block) src)))) mid new p end → flagged ≡ not (nat_eq (flag_count fs) 0) → used2 ≡ (used || not flagged) → ticks2 ≡ ticks + cond (not flagged && used) 1 0
       → (used2 ≡ false → IsWithin (take valid (drop at src)) own2) → BlocksSoFar mode src bits old new at valid to end (block + 1) own2 used2 ticks_old ticks2
-  blocks-next {old = old} {mid = mid} {new = new} {ticks_old = ticks_old} {ticks = ticks} {ticks2 = ticks2} {used = used} {flagged = flagged} {used2 = used2} {fs = fs} bytes size_is b more told w f u t left =
+  blocks-next bytes size_is b more told w f u t left =
       record {
         done = done-block bytes size_is b.done more refl told w;
         own_left = left;
@@ -157,5 +157,4 @@ module _ {mode : Mode} {src : List ℕ} (f : ℕ) {at valid to size : ℕ} (h : 
 
     -- each of them but the first was classified
     pub done-ticks : {own : List ℕ} {used : Bool} {ticks_old ticks_new : ℕ} → BlocksSoFar mode src bits old new at valid to end blocks own used ticks_old ticks_new → ticks_new ≡ ticks_old + ((valid + 7) / 8 - (flagged_blocks 8 bits + 1))
-    done-ticks {used = true} b = omega (arith, b.counted, b.some refl, done-stored)
-    done-ticks {used = false} b = omega (arith, b.counted, b.unused refl, done-stored)
+    done-ticks b = grind (arith, nat_tests, b.counted, b.some, b.unused, done-stored)

@@ -14,8 +14,7 @@ short-escape mode b h needed two = grind (arith, nat_tests)
 -- it begins no separator: e2 alone has one byte
 pub passed-short : (mode : Mode) (b : ℕ) (bs : List ℕ) → length (replacement mode b) ≡ 2 → passed mode (b ∷ bs) ≡ 1
 unfolding replacement
-passed-short script b bs two = passed-one script b bs (λ e. absurd (let h = rw e at two in omega (arith, h)))
-passed-short mode b bs two = refl
+passed-short mode b bs two = grind (arith, nat_tests, passed-one)
 
 -- a byte that needs no escape is not changed, as it is in each mode whose control characters need one
 abbrev pub KeepsClean : Mode → Type 0
@@ -24,7 +23,6 @@ KeepsClean mode = (b : ℕ) → needs_escape mode b ≡ false → shortened b �
 -- so does each that has an escape of two bytes
 pub keeps-clean : (mode : Mode) (b : ℕ) → length (replacement mode b) ≡ 2 → KeepsClean mode
 unfolding shortened replacement
-keeps-clean html b two = absurd (grind (arith, nat_tests))
 keeps-clean mode b two = λ x clean. grind (arith, nat_tests)
 
 -- the half of a piece that is the block of that number

@@ -1,6 +1,7 @@
 -- What a text still needs from a place on: its escaping, its escapes and its runs.
-use Rattle.std.proofs.Common.{◌≡◌, ℕ, zero, suc, ◌+◌, ◌-◌, ◌<◌, ◌≤◌, Bool, true, false, not, ◌&&◌, if◌then◌else◌, cond, List, [], ◌∷◌, ◌++◌, length, length-append, drop, get_or, length-drop, ◌*◌, refl, ap, ◌∙◌, arith, add-one, inl, inr}
-use Rattle.escape_simd.proofs.Words.{cases_Bool, get_or_past, nat_tests, drop-drop, drop_all, sum_by-append, prefix_len-drop_yes, prefix_len-drop_no, drop-cons, Mode, script, needs_escape, inner, begins_separator, passed, first_replacement, script_inner_after, escaped_count, runs_after, run_count_after, run_count, script_escapes_after, script_runs_after, run_end}
+use Rattle.std.proofs.Common.{◌≡◌, ℕ, zero, suc, ◌+◌, ◌-◌, ◌<◌, ◌≤◌, Bool, true, false, not, ◌&&◌, if◌then◌else◌, cond, List, [], ◌∷◌, ◌++◌, length, length-append, drop, get_or, length-drop, ◌*◌, refl, ap, ◌∙◌, arith, inl, inr}
+use Rattle.escape_simd.proofs.Words.{cases_Bool, get_or_past, nat_tests, drop-drop, drop_all, sum_by-append, prefix_len-drop_yes, prefix_len-drop_no, Mode, script, needs_escape, inner, begins_separator, passed, first_replacement, script_inner_after, escaped_count, runs_after, run_count_after, run_count, script_escapes_after, script_runs_after, run_end}
+use Rattle.std.proofs.lemmas.List.{drop_more}
 use Rattle.escape_simd.proofs.ReplacementLemmas.{inner-clean_byte, inner-nil, length-replacement}
 
 -- How far the first of what stands for bytes goes
@@ -95,31 +96,27 @@ module _ (mode : Mode) where
 
   -- the rest of a text, one step on
   module _ (src : List ℕ) (i : ℕ) (inside : i < length src) where
-    -- the byte, and the rest
-    here : drop i src ≡ get_or src i 0 ∷ drop (i + 1) src
-    here = rw add-one (drop-cons src i 0 inside)
-
     -- a byte that is passed alone begins a run where it needs an escape and the one before it isn't marked
     pub runs-here : passed mode (drop i src) ≡ 1 → (before : Bool) → run_count_after mode before (drop i src)
         ≡ (if needs_escape mode (get_or src i 0) && not before then 1 else 0) + run_count_after mode (needs_escape mode (get_or src i 0)) (drop (i + 1) src)
-    runs-here alone before = grind (arith, nat_tests, runs-step, here)
+    runs-here alone before = grind (arith, nat_tests, runs-step, drop_more src i 0 inside)
 
     -- what stands there, and for the rest
     pub inner-here : inner mode (drop i src) ≡ first_replacement mode (drop i src) ++ inner mode (drop (i + passed mode (drop i src)) src)
-    inner-here = grind (arith, here, inner-step, one≤passed, drop-drop)
+    inner-here = grind (arith, drop_more src i 0 inside, inner-step, one≤passed, drop-drop)
 
     module _ (needed : needs_escape mode (get_or src i 0) ≡ true) where
       -- one more that is escaped
       pub escaped-here : escaped_count mode (drop i src) ≡ escaped_count mode (drop (i + passed mode (drop i src)) src) + 1
-      escaped-here = grind (arith, nat_tests, escaped-step, here, one≤passed, drop-drop)
+      escaped-here = grind (arith, nat_tests, escaped-step, drop_more src i 0 inside, one≤passed, drop-drop)
 
       -- it begins a run where none is open
       pub first-here : run_count mode (drop i src) ≡ run_count_after mode true (drop (i + passed mode (drop i src)) src) + 1
-      first-here = grind (arith, nat_tests, runs-step, here, one≤passed, drop-drop)
+      first-here = grind (arith, nat_tests, runs-step, drop_more src i 0 inside, one≤passed, drop-drop)
 
       -- it goes on with an open run
       pub next-here : run_count_after mode true (drop i src) ≡ run_count_after mode true (drop (i + passed mode (drop i src)) src)
-      next-here = grind (arith, nat_tests, runs-step, here, one≤passed, drop-drop)
+      next-here = grind (arith, nat_tests, runs-step, drop_more src i 0 inside, one≤passed, drop-drop)
 
       -- the run goes on past it
       pub run_end-here : run_end mode src i ≡ run_end mode src (i + 1)
@@ -128,15 +125,15 @@ module _ (mode : Mode) where
     module _ (clean : needs_escape mode (get_or src i 0) ≡ false) where
       -- it ends an open run
       pub runs_stop-here : run_count_after mode true (drop i src) ≡ run_count mode (drop i src)
-      runs_stop-here = grind (arith, nat_tests, runs-step, here)
+      runs_stop-here = grind (arith, nat_tests, runs-step, drop_more src i 0 inside)
 
       -- it is passed alone
       pub passed_clean-here : passed mode (drop i src) ≡ 1
-      passed_clean-here = rw here (passed-clean mode (get_or src i 0) (drop (i + 1) src) clean)
+      passed_clean-here = rw (drop_more src i 0 inside) (passed-clean mode (get_or src i 0) (drop (i + 1) src) clean)
 
       -- it is not escaped
       pub escaped_clean-here : escaped_count mode (drop i src) ≡ escaped_count mode (drop (i + 1) src)
-      escaped_clean-here = grind (arith, nat_tests, escaped-step, passed_clean-here, here)
+      escaped_clean-here = grind (arith, nat_tests, escaped-step, passed_clean-here, drop_more src i 0 inside)
 
       -- a run ends there
       pub run_end-stop : run_end mode src i ≡ i

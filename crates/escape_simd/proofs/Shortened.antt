@@ -1,9 +1,7 @@
 -- Bytes with a short escape, and what stands for them.
-use Rattle.std.proofs.Common.{◌≡◌, ℕ, ◌+◌, ◌*◌, ◌/◌, ◌%◌, ◌<◌, Bool, true, false, not, ◌&&◌, ◌||◌, List, [], ◌∷◌, length, take, drop, map, nat_eq, refl, sym, ap, ◌∙◌, arith}
+use Rattle.std.proofs.Common.{◌≡◌, ℕ, ◌+◌, ◌*◌, ◌/◌, ◌%◌, ◌<◌, true, false, List, [], ◌∷◌, length, take, drop, map, ◌∙◌, arith}
 use Rattle.escape_simd.proofs.Lanes.{part-later}
-use Rattle.escape_simd.proofs.Words.{drop-map, take-map, take-take, agree_below, agree_below_at, nat_tests, Mode, json, html, script, needs_escape, replacement, shortened, passed}
-use Rattle.std.proofs.lemmas.Slice.Eq.{bytes_eq-Decides}
-use Rattle.std.specs.Str.{bytes_eq}
+use Rattle.escape_simd.proofs.Words.{drop-map, take-map, take-take, nat_tests, Mode, needs_escape, replacement, shortened, passed}
 use Rattle.escape_simd.proofs.ReplacementLemmas.{passed-one}
 
 -- a short escape is a reverse solidus and the shortened byte

@@ -1,12 +1,7 @@
 -- How far the body has come in a text, and at what cost.
 use Rattle.std.proofs.Common.{◌≡◌, ℕ, ◌+◌, ◌-◌, ◌*◌, ◌/◌, ◌<◌, ◌≤◌, true, List, length, length-drop, take, drop, refl, ap, arith}
-use Rattle.std.proofs.lemmas.List.{take_all}
+use Rattle.escape_simd.proofs.Words.{le-div, take_all, Mode, bytes_of, Target, Cost, Escapes, HasRoom, HasVectors, Stretch, reach, rest_length, state}
 use Rattle.std.proofs.Math.Nat.{div-mul-le_self}
-use Rattle.std.proofs.lemmas.Nat.{le-div}
-use Rattle.escape_lanes.specs.Mode.{Mode}
-use Rattle.escape_lanes.specs.Written.{bytes_of}
-use Rattle.escape_lanes.specs.declared.simd.target.Target.{Target}
-use Rattle.escape_simd.specs.Stretch.{Cost, Escapes, HasRoom, HasVectors, Stretch, reach, rest_length, state}
 use Rattle.escape_simd.proofs.RestSteps.{rest-bounds}
 use Rattle.escape_simd.proofs.Stretches.{onward_to, reach-bounds, room-later, room-near, room-on}
 use Rattle.escape_simd.proofs.Vectors.{escapes-ended, escapes-later, passed-to}
@@ -20,11 +15,7 @@ pub record BodySoFar {N : ℕ} (mode : Mode) (src : List ℕ) (old new : Target 
 -- one cost and the next
 cost-onward : {N : ℕ} {mode : Mode} {src : List ℕ} {at i next v1 v2 : ℕ} {old mid new : Target N} {t0 t1 t2 : ℕ} (vectors : ℕ) → v1 + v2 ≤ vectors
     → Cost mode src at i v1 0 old mid t0 t1 → Cost mode src i next v2 0 mid new t1 t2 → Cost mode src at next vectors 0 old new t0 t2
-cost-onward vectors few a b = record {
-  stored = omega (arith, a.stored, b.stored, few);
-  covered = omega (arith, a.covered, b.covered);
-  classified = omega (arith, a.classified, b.classified, few);
-}
+cost-onward vectors few a b = omega arith
 
 module _ {N : ℕ} {mode : Mode} {src : List ℕ} {old mid : Target N} {at to end t0 t1 : ℕ} (so_far : BodySoFar mode src old mid at to end t0 t1) where
   -- there is room for vectors that follow

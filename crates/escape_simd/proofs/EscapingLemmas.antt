@@ -1,53 +1,30 @@
 -- The laws of every output, in one record.
-use Rattle.std.proofs.Common.{◌≡◌, ℕ, ◌≤◌, List, [], ◌∷◌, ◌++◌, IsUtf8, sym, subst, arith}
-use Rattle.escape_simd.proofs.Words.{drop_at, drop, length, ap, refl, ◌∙◌, IsMarkupFree, AllByRecursion, nat_tests, All-from_recursion, replacement, Mode, json, html, script, IsOneLine, IsHarmless, IsEscaping, AmpersandsBeginEntities, appended, inner, plain}
-use Rattle.escape_simd.proofs.HtmlLemmas.{plain_ampersands, plain_markup_free}
-use Rattle.escape_simd.specs.Markup.{markup_of}
+use Rattle.std.proofs.Common.{◌≡◌, ℕ, ◌≤◌, List, [], ◌∷◌, ◌++◌, IsUtf8, arith}
+use Rattle.escape_simd.proofs.Words.{drop_at, drop, length, ap, refl, ◌∙◌, nat_tests, All-from_recursion, replacement, Mode, json, html, script, IsOneLine, IsHarmless, IsEscaping, appended, inner, plain, All-append}
+use Rattle.escape_simd.proofs.HtmlLemmas.{html_ampersands_begin_entities, html_is_markup_free}
 use Rattle.escape_simd.proofs.MarkupLaws.{html_has_no_markup}
 use Rattle.escape_simd.proofs.OutputLemmas.{IsTextOf-chars, IsUtf8-output, IsOnlyOutput-output, IsOfOneText-output, HasOutputLength-output, JoinsTexts-output}
-use Rattle.escape_simd.proofs.JsonLemmas.{needed_cases}
-use Rattle.escape_simd.proofs.ReplacementLemmas.{replacement-clean}
-use Rattle.escape_simd.proofs.ScriptLemmas.{IsSafeInScript-output, script_one_line}
+use Rattle.escape_simd.proofs.ScriptLemmas.{script_is_one_line, script_is_safe}
 use Rattle.escape_simd.proofs.SpellingLemmas.{each_flat_map}
-use Rattle.std.proofs.lemmas.List.Elements.{All-append}
 
--- what stands for a byte in JSON has no control character
-json_printed : (b : ℕ) → AllByRecursion (λ x. 0x20 ≤ x) (replacement json b)
+-- a JSON literal stands on one line
+pub json_is_one_line : (bytes : List ℕ) → IsOneLine (plain json bytes)
 unfolding replacement
-json_printed b = grind (arith, nat_tests, needed_cases, replacement-clean)
-
--- so a JSON literal stands on one line
-pub json_one_line : (bytes output : List ℕ) → output ≡ plain json bytes → IsOneLine output
-json_one_line bytes output same =
-    let printed = each_flat_map (λ x. 0x20 ≤ x) (replacement json) json_printed bytes in
+json_is_one_line bytes =
+    let printed = each_flat_map (λ x. 0x20 ≤ x) (replacement json) (λ b. grind (arith, nat_tests)) bytes in
     let quote = All-from_recursion (λ x. 0x20 ≤ x) (0x22 ∷ []) (omega arith, tt) in
-    rw same (All-append (λ x. 0x20 ≤ x) (0x22 ∷ []) (inner json bytes ++ 0x22 ∷ []) quote (All-append (λ x. 0x20 ≤ x) (inner json bytes) (0x22 ∷ []) printed quote))
+    All-append (λ x. 0x20 ≤ x) (0x22 ∷ []) (inner json bytes ++ 0x22 ∷ []) quote (All-append (λ x. 0x20 ≤ x) (inner json bytes) (0x22 ∷ []) printed quote)
 
 -- the output for a text can stand in its place
 IsHarmless-output : (mode : Mode) (bytes output : List ℕ) → output ≡ plain mode bytes → IsHarmless mode output
-IsHarmless-output json bytes output same = json_one_line bytes output same
-IsHarmless-output html bytes output same = record {
-  markup_free = subst IsMarkupFree (sym same) (plain_markup_free bytes);
-  ampersands = subst AmpersandsBeginEntities (sym same) (plain_ampersands bytes);
-  no_markup = ap markup_of same ∙ html_has_no_markup bytes;
-}
-IsHarmless-output script bytes output same = record {
-  one_line = script_one_line bytes output same;
-  safe = IsSafeInScript-output bytes output same;
-}
+IsHarmless-output json bytes output same = rw same (json_is_one_line bytes)
+IsHarmless-output html bytes output same = rw same (search (html_is_markup_free, html_ampersands_begin_entities, html_has_no_markup))
+IsHarmless-output script bytes output same = rw same (search (script_is_one_line, script_is_safe))
 
 -- the output for the bytes of a `&str`
 pub IsEscaping-output : (mode : Mode) (bytes output : List ℕ) → output ≡ plain mode bytes → IsUtf8 bytes → IsEscaping mode bytes output
-IsEscaping-output mode bytes output same utf8 = record {
-  characters = IsTextOf-chars bytes utf8;
-  exact = same;
-  headline = IsOnlyOutput-output mode bytes output same utf8;
-  utf8 = IsUtf8-output mode bytes output utf8 same;
-  harmless = IsHarmless-output mode bytes output same;
-  joined = JoinsTexts-output mode bytes output same;
-  equal_texts = IsOfOneText-output mode bytes output same utf8;
-  len = HasOutputLength-output mode bytes output same;
-}
+IsEscaping-output mode bytes output same utf8 =
+    search (IsTextOf-chars, IsOnlyOutput-output, IsUtf8-output, IsHarmless-output, JoinsTexts-output, IsOfOneText-output, HasOutputLength-output)
 
 -- what was appended to the bytes of a vector
 pub IsEscaping-appended : (mode : Mode) (bytes old new : List ℕ) → new ≡ old ++ plain mode bytes → IsUtf8 bytes → IsEscaping mode bytes (appended old new)

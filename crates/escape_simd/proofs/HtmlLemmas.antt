@@ -1,42 +1,32 @@
 -- Laws of HTML texts: the output reads as the text, holds no markup, and is the only one that does.
-use Rattle.std.proofs.Common.{Option, Some, None, drop, ap₂, ◌≡◌, ◌≢◌, ℕ, true, false, ◌==◌, cond, List, [], ◌∷◌, ◌++◌, length, get_or, flat_map, encode_utf8, encode_utf8_all, refl, sym, ap, ◌∙◌, arith, inl, inr}
-use Rattle.escape_simd.proofs.Words.{IsScalar, all_scalars, AllByRecursion, cases_Bool, nat_tests, recursion_from_All, encode_ascii, html, replacement, needs_escape, inner, plain, IsHtmlItem, entity_of, entity, HtmlReads, is_markup, IsMarkupFree, IsOnlyHtml, AmpersandsBeginEntities}
+use Rattle.std.proofs.Common.{Option, Some, None, drop, ap₂, ◌≡◌, ◌≢◌, ℕ, true, false, ◌==◌, cond, List, [], ◌∷◌, ◌++◌, length, get_or, flat_map, encode_utf8, encode_utf8_all, refl, sym, ◌∙◌, arith, inl, inr}
+use Rattle.escape_simd.proofs.Words.{IsScalar, all_scalars, AllByRecursion, AllZip, concat, nat_tests, recursion_from_All, encode_ascii, html, replacement, needs_escape, inner, plain, IsHtmlItem, entity_of, entity, HtmlReads, is_markup, IsMarkupFree, IsOnlyHtml, AmpersandsBeginEntities, take-append_seam, drop-append_seam, All-take, All-drop}
 use Rattle.escape_simd.specs.Html.{raw}
-use Rattle.escape_simd.proofs.SpellingLemmas.{each_flat_map, piece_cases, not_begun, Reads, Reads-Spells, Tells, Spells-flat_map, Spells-one_text}
-use Rattle.std.proofs.Math.Seq.{take-append_seam, drop-append_seam}
-use Rattle.std.proofs.lemmas.List.Elements.{All-take, All-drop}
-use Rattle.escape_simd.proofs.ReplacementLemmas.{inner_needed, inner-pieces, needs_escape_low, replacement-clean}
+use Rattle.escape_simd.proofs.SpellingLemmas.{each_flat_map, piece_cases, not_begun, Tells, Spells-flat_map, Spells-one_text}
+use Rattle.escape_simd.proofs.ReplacementLemmas.{inner_needed, inner-pieces, needs_escape_low}
 
 -- what stands for a character
 abbrev piece : ℕ → List ℕ
 piece c = inner html (encode_utf8 c)
 
--- one of the six characters that have an entity
-pub six_cases : (c : ℕ) → needs_escape html c ≡ true → (P : ℕ → Type 0) → P 0x22 → P 0x26 → P 0x27 → P 0x2f → P 0x3c → P 0x3e → P c
-six_cases c need P p1 p2 p3 p4 p5 p6 = grind (arith, nat_tests)
-
 -- a character that has an entity needs an escape, and the entity is what is written for it
 pub entity_is : (c : ℕ) (i : List ℕ) → entity_of c ≡ Some i → (needs_escape html c ≡ true) × (i ≡ replacement html c)
 unfolding entity_of replacement
-entity_is c i e = (grind (arith, nat_tests), grind (arith, nat_tests))
+entity_is c i e = grind (arith, nat_tests)
 
 -- a character that needs an escape has an entity, which is what is written for it
 entity_of_needed : (c : ℕ) → needs_escape html c ≡ true → entity_of c ≡ Some (replacement html c)
 unfolding entity_of replacement
-entity_of_needed c need = six_cases c need (λ x. entity_of x ≡ Some (replacement html x)) refl refl refl refl refl refl
+entity_of_needed c need = grind (arith, nat_tests)
 
 -- what stands for a character reads as it
 piece_item : (c : ℕ) → IsScalar c → IsHtmlItem (piece c) c
 piece_item c scalar = piece_cases html tt c (λ p. IsHtmlItem p c) (λ need. entity (entity_of_needed c need)) (λ clean. raw scalar (grind (arith, nat_tests)))
 
--- what stands for a byte holds no markup
-replacement_markup_free : (b : ℕ) → AllByRecursion (λ x. is_markup x ≡ false) (replacement html b)
-unfolding replacement
-replacement_markup_free b = grind (arith, nat_tests, six_cases, replacement-clean)
-
 -- the output holds no markup
-pub plain_markup_free : (bytes : List ℕ) → IsMarkupFree (plain html bytes)
-plain_markup_free bytes = each_flat_map (λ x. is_markup x ≡ false) (replacement html) replacement_markup_free bytes
+pub html_is_markup_free : (bytes : List ℕ) → IsMarkupFree (plain html bytes)
+unfolding replacement
+html_is_markup_free bytes = each_flat_map (λ x. is_markup x ≡ false) (replacement html) (λ b. grind (arith, nat_tests)) bytes
 
 -- an item without markup is what stands for the character
 markup_free_item : (i : List ℕ) (c : ℕ) → IsHtmlItem i c → AllByRecursion (λ x. is_markup x ≡ false) i → i ≡ piece c
@@ -45,12 +35,13 @@ markup_free_item i c (raw scalar other) free =
     piece_cases html tt c (λ p. encode_utf8 c ≡ p) (λ need. grind (arith, nat_tests, encode_ascii, needs_escape_low, free)) (λ clean. refl)
 
 -- what reads as characters and holds no markup is what stands for them
-only_pieces : (bytes text : List ℕ) → Reads IsHtmlItem bytes text → IsMarkupFree bytes → bytes ≡ flat_map piece text
-only_pieces bytes [] h free = h
-only_pieces bytes (c ∷ cs) (i, rest, item, is, h) free =
-    let free_item = rw (is, take-append_seam) at (All-take (λ x. is_markup x ≡ false) (length i) bytes free) in
-    let free_rest = rw (is, drop-append_seam) at (All-drop (λ x. is_markup x ≡ false) (length i) bytes free) in
-    is ∙ ap₂ (λ a b. a ++ b) (markup_free_item i c item (recursion_from_All (λ x. is_markup x ≡ false) i free_item)) (only_pieces rest cs h free_rest)
+only_pieces : (items : List (List ℕ)) (text : List ℕ) → AllZip IsHtmlItem items text → IsMarkupFree (concat items) → concat items ≡ flat_map piece text
+only_pieces [] [] h free = refl
+only_pieces (i ∷ is) (c ∷ cs) h free =
+    let free_item = rw take-append_seam at (All-take (λ x. is_markup x ≡ false) (length i) (i ++ concat is) free) in
+    let free_rest = rw drop-append_seam at (All-drop (λ x. is_markup x ≡ false) (length i) (i ++ concat is) free) in
+    ap₂ (λ a b. a ++ b) (markup_free_item i c h.0 (recursion_from_All (λ x. is_markup x ≡ false) i free_item)) (only_pieces is cs h.1 free_rest)
+only_pieces is cs h free = absurd h
 
 -- the character of the entity that begins the bytes, if one does, and what comes after it
 read : List ℕ → Option ℕ × List ℕ
@@ -64,8 +55,7 @@ tells : Tells IsHtmlItem read
 unfolding read replacement
 tells i x c (raw _ other) = inl (refl, rw (not_begun c 0x26 x (omega arith) other))
 tells i x c (entity e) =
-    let h = entity_is c i e in
-    inr (rw h.1 (six_cases c h.0 (λ y. read (replacement html y ++ x) ≡ (Some y, x)) refl refl refl refl refl refl))
+    inr (grind (arith, nat_tests, entity_is c i e))
 
 -- the output for the bytes of a text
 pub IsOnlyHtml-plain : (text : List ℕ) → all_scalars text ≡ true → IsOnlyHtml (plain html (encode_utf8_all text)) text
@@ -75,8 +65,8 @@ IsOnlyHtml-plain text scalars =
     let reads : HtmlReads (plain html (encode_utf8_all text)) text = rw pieces (Spells-flat_map IsHtmlItem piece piece_item text scalars) in
     record {
       reads = reads;
-      markup_free = plain_markup_free (encode_utf8_all text);
-      only = λ other spelled free. only_pieces other text (Reads-Spells IsHtmlItem other text spelled) free ∙ sym pieces;
+      markup_free = html_is_markup_free (encode_utf8_all text);
+      only = λ other spelled free. spelled.joined ∙ only_pieces spelled.items text spelled.each (rw spelled.joined at free) ∙ sym pieces;
       one_text = λ other spelled. Spells-one_text IsHtmlItem read tells refl (plain html (encode_utf8_all text)) other text spelled reads;
     }
 
@@ -88,28 +78,20 @@ past_letters [] tail h begins front rest e = begins front rest e
 past_letters (x ∷ xs) tail h begins [] rest e = absurd (h.0 (cc))
 past_letters (x ∷ xs) tail h begins (f ∷ fs) rest e = past_letters xs tail h.1 begins fs rest (cc)
 
--- an entity has one ampersand, its first byte
-letters_of : (c : ℕ) → needs_escape html c ≡ true
-    → (replacement html c ≡ 0x26 ∷ drop 1 (replacement html c)) × AllByRecursion (λ b. b ≢ 0x26) (drop 1 (replacement html c))
-unfolding replacement
-letters_of c need = grind (arith, nat_tests, six_cases)
+-- what stands for a byte has an ampersand only as the first byte of an entity
+letters_of : (b : ℕ) → (replacement html b ≡ get_or (replacement html b) 0 0 ∷ drop 1 (replacement html b)) × AllByRecursion (λ x. x ≢ 0x26) (drop 1 (replacement html b))
+    × (get_or (replacement html b) 0 0 ≡ 0x26 → entity_of b ≡ Some (replacement html b))
+unfolding replacement entity_of
+letters_of b = grind (arith, nat_tests)
 
--- an entity before others
-past_entity : (c : ℕ) (letters tail : List ℕ) → needs_escape html c ≡ true → replacement html c ≡ 0x26 ∷ letters → AllByRecursion (λ b. b ≢ 0x26) letters
-    → AmpersandsBeginEntities tail → AmpersandsBeginEntities (0x26 ∷ (letters ++ tail))
-past_entity c letters tail need is h begins [] rest e = (c, replacement html c, tail, entity_of_needed c need, sym e ∙ ap (λ bytes. bytes ++ tail) (sym is))
-past_entity c letters tail need is h begins (f ∷ fs) rest e = past_letters letters tail h begins fs rest (cc)
-
--- what stands for a byte before others
-ampersand_step : (b : ℕ) (tail : List ℕ) → AmpersandsBeginEntities tail → AmpersandsBeginEntities (replacement html b ++ tail)
-ampersand_step b tail begins =
-    elim (cases_Bool (needs_escape html b)) [
-      | inl need ↦ grind (arith, nat_tests, letters_of, past_entity)
-      | inr clean ↦ rw (replacement-clean html b clean) (past_letters (b ∷ []) tail (grind (arith, nat_tests), tt) begins)
-    ]
+-- such bytes before others
+past_first : (b x : ℕ) (bytes letters tail : List ℕ) → bytes ≡ x ∷ letters → AllByRecursion (λ y. y ≢ 0x26) letters → (x ≡ 0x26 → entity_of b ≡ Some bytes)
+    → AmpersandsBeginEntities tail → AmpersandsBeginEntities (bytes ++ tail)
+past_first b x bytes letters tail is h whole begins [] rest e = (b, bytes, tail, whole (cc), sym e)
+past_first b x bytes letters tail is h whole begins (f ∷ fs) rest e = past_letters letters tail h begins fs rest (cc)
 
 -- each ampersand of the output begins an entity
-pub plain_ampersands : (bytes : List ℕ) → AmpersandsBeginEntities (plain html bytes)
-plain_ampersands [] [] rest e = absurd (cc)
-plain_ampersands [] (f ∷ fs) rest e = absurd (cc)
-plain_ampersands (b ∷ bs) front rest e = ampersand_step b (inner html bs) (plain_ampersands bs) front rest e
+pub html_ampersands_begin_entities : (bytes : List ℕ) → AmpersandsBeginEntities (plain html bytes)
+html_ampersands_begin_entities [] [] rest e = absurd (cc)
+html_ampersands_begin_entities [] (f ∷ fs) rest e = absurd (cc)
+html_ampersands_begin_entities (b ∷ bs) front rest e = let l = letters_of b in past_first b _ _ _ (plain html bs) l.0 l.1 l.2 (html_ampersands_begin_entities bs) front rest e

@@ -1,7 +1,7 @@
 -- Laws of JSON literals.
 use Rattle.std.proofs.Common.{◌≡◌, ◌≢◌, ℕ, ◌+◌, ◌-◌, ◌*◌, ◌/◌, ◌%◌, ◌<◌, ◌≤◌, ◌⊎◌, ◌==◌, cond, true, List, [], ◌∷◌, length, drop, get_or, length-append, flat_map, encode_utf8, encode_utf8_all, Option, Some, None, refl, sym, ap, subst, ◌∙◌, arith, inl, inr, le_antisymm}
-use Rattle.escape_simd.proofs.Words.{IsScalar, digit_value, digit_char, all_scalars, cases_lt, ne_eqb, nat_tests, append_cancel_right, length-encode, len_utf8_bounds, len_utf8_ascii, digit_value-digit_char, json, replacement, needs_escape, control_escape, inner, plain, quoted, IsJsonItem, raw, short, hex, pair, IsHexForm, digits, IsHexDigit, short_escape, IsLiteral, JsonDenotes, IsNotUpper, HasLowerDigits, IsLowerItem, IsLower, IsOnlyJson, Spells}
-use Rattle.escape_simd.proofs.SpellingLemmas.{piece_cases, not_begun, Reads-Spells, Spells-flat_map, Spells-one_text, pieces_le, Tells, only_pieces}
+use Rattle.escape_simd.proofs.Words.{IsScalar, digit_value, digit_char, all_scalars, cases_lt, ne_eqb, nat_tests, append_cancel_right, length-encode, len_utf8_bounds, len_utf8_ascii, digit_value-digit_char, Mode, json, replacement, needs_escape, control_escape, inner, plain, quoted, IsJsonItem, raw, short, hex, pair, IsHexForm, digits, IsHexDigit, short_escape, IsLiteral, JsonDenotes, IsNotUpper, HasLowerDigits, IsLowerItem, IsLower, IsOnlyJson, Spells}
+use Rattle.escape_simd.proofs.SpellingLemmas.{piece_cases, not_begun, Spells-flat_map, Spells-one_text, pieces_le, Tells, only_pieces}
 use Rattle.escape_simd.proofs.ReplacementLemmas.{inner_clean, inner-pieces, hex_escape, length-replacement}
 
 -- what stands for a character
@@ -13,11 +13,6 @@ pub needed_cases : (c : ℕ) → needs_escape json c ≡ true → (P : ℕ → T
     → (c < 32 → replacement json c ≡ control_escape c → P c) → P c
 unfolding replacement
 needed_cases c need P p1 p2 p3 p4 p5 p6 p7 other = grind (arith, nat_tests)
-
--- the eight short forms
-pub short_cases : (b c : ℕ) → short_escape b ≡ Some c → (P : ℕ → ℕ → Type 0) → P 0x22 0x22 → P 0x5c 0x5c → P 0x2f 0x2f → P 0x62 0x08 → P 0x66 0x0c → P 0x6e 0x0a → P 0x72 0x0d → P 0x74 0x09 → P b c
-unfolding short_escape
-short_cases b c e P p1 p2 p3 p4 p5 p6 p7 p8 = grind (arith, nat_tests)
 
 -- a hex digit that isn't upper-case is the one that writes its value
 lower_digit : (d v : ℕ) → IsHexDigit d → IsNotUpper d → digit_value d ≡ v → d ≡ digit_char v
@@ -34,7 +29,7 @@ hex_form c low =
     omega (arith, digit_value-digit_char) in
     subst (λ n. (form : IsHexForm (hex_escape c) n) × HasLowerDigits form) worth (
       digits (omega (arith, digit_value-digit_char)) (omega (arith, digit_value-digit_char)) (omega (arith, digit_value-digit_char)) (omega (arith, digit_value-digit_char)),
-      (digit_char_not_upper (c / 0x1000) (omega arith), digit_char_not_upper (c / 0x100 % 16) (omega arith), digit_char_not_upper (c / 0x10 % 16) (omega arith), digit_char_not_upper (c % 16) (omega arith)),
+      grind (arith, digit_char_not_upper),
     )
 
 -- and the only such form
@@ -69,37 +64,18 @@ pub record IsPiece (bytes : List ℕ) (c : ℕ) : Type 0 where
   pub most : length bytes ≤ 6
   pub six : 6 ≤ length bytes → bytes ≡ hex_escape c
 
--- a character with a short form that needs an escape is written so
-short_written : (b c : ℕ) → short_escape b ≡ Some c → needs_escape json c ≡ true → replacement json c ≡ 0x5c ∷ b ∷ []
-unfolding replacement short_escape
-short_written b c e need = grind (arith, nat_tests)
-
--- a character with a short form is below U+0080
-short_low : (b c : ℕ) → short_escape b ≡ Some c → c < 128
-unfolding short_escape
-short_low b c e = grind (arith, nat_tests)
-
--- six bytes stand for no character with a short form
-hex_written : (c : ℕ) → needs_escape json c ≡ true → 6 ≤ length (replacement json c) → replacement json c ≡ hex_escape c
-unfolding replacement
-hex_written c need long = grind (arith, nat_tests, needed_cases, control_hex)
-
 -- what is written for a character is so
 pub IsPiece-json : (c : ℕ) → IsPiece (piece c) c
+unfolding replacement short_escape
 IsPiece-json c =
     piece_cases json tt c (λ p. IsPiece p c)
     (λ need. record {
       itself = λ h k l small. absurd (grind (arith, nat_tests));
-      letter = λ b e. inr (short_written b c e need);
+      letter = λ b e. inr (grind (arith, nat_tests));
       most = (length-replacement json c).1;
-      six = hex_written c need;
+      six = λ long. grind (arith, nat_tests, needed_cases, control_hex);
     })
-    (λ clean. record {
-      itself = λ h k l small. refl;
-      letter = λ b e. inl (length-encode c ∙ len_utf8_ascii c (short_low b c e));
-      most = omega (arith, length-encode c, (len_utf8_bounds c).1);
-      six = λ long. absurd (omega (arith, length-encode c, (len_utf8_bounds c).1));
-    })
+    (λ clean. grind (arith, nat_tests, length-encode, len_utf8_bounds, len_utf8_ascii))
 
 -- a raw character of JSON stands for itself
 pub piece-raw : (c : ℕ) → 32 ≤ c → c ≢ 0x22 → c ≢ 0x5c → piece c ≡ encode_utf8 c
@@ -139,7 +115,7 @@ read bytes =
 tells : Tells IsJsonItem read
 unfolding read short_escape
 tells i x c (raw _ _ _ l) = inl (refl, rw (not_begun c 0x5c x (omega arith) l))
-tells i x c (short {b = b} s) = inr (short_cases b c s (λ y z. read (0x5c ∷ y ∷ x) ≡ (Some z, x)) refl refl refl refl refl refl refl refl)
+tells i x c (short {b = b} s) = inr (rw (ne_eqb b 0x75 (λ e. let none = rw e at s in cc), s) refl)
 tells i x c (hex (digits _ _ _ _) range) = inr (rw (ne_eqb (c / 0x400) 0x36 (λ e. omega arith)) refl)
 tells i x c (pair {high = h} (digits _ _ _ _) (digits _ _ _ _) range _) = let e : h / 0x400 ≡ 0x36 = omega arith in inr (rw e refl)
 
@@ -155,43 +131,46 @@ spelled_too P Q bytes t u p q =
     subst (λ xs. Spells Q xs u) (append_cancel_right q.inside p.inside (0x22 ∷ []) (cc (sym q.between ∙ p.between))) q.spelled
 
 -- the pieces of a text between quotation marks, where each is an item of its character
-pub literal-pieces : (Item : List ℕ → ℕ → Type 0) (f : ℕ → List ℕ) → ((c : ℕ) → IsScalar c → Item (f c) c) → (text : List ℕ) → all_scalars text ≡ true → IsLiteral Item (quoted (flat_map f text)) text
+literal-pieces : (Item : List ℕ → ℕ → Type 0) (f : ℕ → List ℕ) → ((c : ℕ) → IsScalar c → Item (f c) c) → (text : List ℕ) → all_scalars text ≡ true → IsLiteral Item (quoted (flat_map f text)) text
 literal-pieces Item f item text scalars = record { inside = flat_map f text; spelled = Spells-flat_map Item f item text scalars; between = refl }
 
 -- The output is the only shortest literal by items of a kind with no upper-case hex digit.
 pub record IsOnly (Item : List ℕ → ℕ → Type 0) (output text : List ℕ) : Type 0 where
   pub literal : IsLiteral Item output text
+  pub denotes : JsonDenotes output text
   pub lower : IsLower output text
   pub least : (other : List ℕ) → IsLiteral Item other text → length output ≤ length other
   pub only : (other : List ℕ) → IsLiteral Item other text → IsLower other text → length other ≤ length output → other ≡ output
   pub one_text : (other : List ℕ) → JsonDenotes output other → other ≡ text
 
--- so are the pieces of a text between quotation marks, where each is such an item, and none is shorter
-pub IsOnly-pieces : (Item : List ℕ → ℕ → Type 0) (f : ℕ → List ℕ) → ((i : List ℕ) (c : ℕ) → Item i c → IsJsonItem i c) → ((c : ℕ) → IsPiece (f c) c)
-    → ((i : List ℕ) (c : ℕ) → Item i c → length (f c) ≤ length i) → ((c : ℕ) → IsScalar c → Item (f c) c × IsLowerItem (f c) c)
-    → (text : List ℕ) → all_scalars text ≡ true → IsOnly Item (quoted (flat_map f text)) text
+-- so is what stands for a text between quotation marks, where for each character such an item stands, and none is shorter
+pub IsOnly-quoted : (Item : List ℕ → ℕ → Type 0) (mode : Mode) → ((i : List ℕ) (c : ℕ) → Item i c → IsJsonItem i c) → ((c : ℕ) → IsPiece (inner mode (encode_utf8 c)) c)
+    → ((i : List ℕ) (c : ℕ) → Item i c → length (inner mode (encode_utf8 c)) ≤ length i) → ((c : ℕ) → IsScalar c → Item (inner mode (encode_utf8 c)) c × IsLowerItem (inner mode (encode_utf8 c)) c)
+    → (text : List ℕ) → all_scalars text ≡ true → IsOnly Item (quoted (inner mode (encode_utf8_all text))) text
 unfolding read
-IsOnly-pieces Item f json_item is_piece least both text scalars = record {
-  literal = literal-pieces Item f (λ c scalar. (both c scalar).0) text scalars;
-  lower = literal-pieces IsLowerItem f (λ c scalar. (both c scalar).1) text scalars;
-  least = λ other h. omega (arith, length-quoted (flat_map f text), length-quoted h.inside, ap length h.between, pieces_le Item f least h.inside text (Reads-Spells Item h.inside text h.spelled));
-  only = λ other h lower small.
-      let spelled = Reads-Spells IsLowerItem h.inside text (spelled_too Item IsLowerItem other text text h lower) in
-      let same = only_pieces IsJsonItem read tells Item IsLowerItem json_item (λ i c item. item.0) f least (λ i c item. only i (f c) c (is_piece c) item)
-      h.inside text (Reads-Spells Item h.inside text h.spelled) spelled (omega (arith, length-quoted (flat_map f text), length-quoted h.inside, ap length h.between)) in
-      h.between ∙ ap quoted same;
-  one_text = λ other denotes.
-      let pieces = literal-pieces IsJsonItem f (λ c scalar. json_item (f c) c (both c scalar).0) text scalars in
-      Spells-one_text IsJsonItem read tells refl denotes.inside other text denotes.spelled
-      (spelled_too IsJsonItem IsJsonItem (quoted (flat_map f text)) other text denotes pieces);
-}
+IsOnly-quoted Item mode json_item is_piece least both text scalars =
+    let f = λ (c : ℕ). inner mode (encode_utf8 c) in
+    let inside : List ℕ = flat_map f text in
+    let denotes = literal-pieces IsJsonItem f (λ c scalar. (both c scalar).1.0) text scalars in
+    rw (inner-pieces mode text) (record {
+      literal = literal-pieces Item f (λ c scalar. (both c scalar).0) text scalars;
+      denotes = denotes;
+      lower = literal-pieces IsLowerItem f (λ c scalar. (both c scalar).1) text scalars;
+      least = λ other h. omega (arith, length-quoted inside, length-quoted h.inside, ap length h.between, ap length h.spelled.joined, pieces_le Item f least h.spelled.items text h.spelled.each);
+      only = λ other h lower small.
+          let s = h.spelled in let l = spelled_too Item IsLowerItem other text text h lower in
+          let same = only_pieces IsJsonItem read tells Item IsLowerItem json_item (λ i c item. item.0) f least (λ i c item. only i (f c) c (is_piece c) item)
+          s.items l.items text s.each l.each (sym s.joined ∙ l.joined) (omega (arith, length-quoted inside, length-quoted h.inside, ap length h.between, ap length s.joined)) in
+          h.between ∙ ap quoted (s.joined ∙ same);
+      one_text = λ other q. Spells-one_text IsJsonItem read tells refl q.inside other text q.spelled (spelled_too IsJsonItem IsJsonItem (quoted inside) other text q denotes);
+    })
 
 -- the output for the bytes of a text
 pub IsOnlyJson-plain : (text : List ℕ) → all_scalars text ≡ true → IsOnlyJson (plain json (encode_utf8_all text)) text
 IsOnlyJson-plain text scalars =
-    let output = quoted (flat_map piece text) in
-    let h = IsOnly-pieces IsJsonItem piece (λ i c item. item) IsPiece-json least (λ c scalar. let both = lower_item c scalar in (both.0, both)) text scalars in
-    subst (λ bytes. IsOnlyJson bytes text) (ap quoted (sym (inner-pieces json text))) (record {
+    let output : List ℕ = plain json (encode_utf8_all text) in
+    let h = IsOnly-quoted IsJsonItem json (λ i c item. item) IsPiece-json least (λ c scalar. let both = lower_item c scalar in (both.0, both)) text scalars in
+    record {
       shortest = record { denotes = h.literal; least = h.least };
       lower = h.lower;
       only = λ other shortest lower. h.only other shortest.denotes lower (shortest.least output h.literal);
@@ -200,4 +179,4 @@ IsOnlyJson-plain text scalars =
         | inr small ↦ inr (le_antisymm small (h.least other denotes), λ lower. differs (h.only other denotes lower small))
       ];
       one_text = h.one_text;
-    })
+    }

@@ -1,5 +1,5 @@
 -- How long what stands for parts of a text is, and for the whole.
-use Rattle.std.proofs.Common.{◌≡◌, ℕ, zero, suc, ◌+◌, ◌-◌, ◌*◌, ◌<◌, ◌≤◌, Bool, true, false, List, [], ◌∷◌, ◌++◌, length, drop, get_or, replicate, ap, ◌∙◌, arith, length-append, length-drop, inl, inr}
+use Rattle.std.proofs.Common.{◌≡◌, ℕ, zero, suc, ◌+◌, ◌-◌, ◌*◌, ◌<◌, ◌≤◌, Bool, true, false, List, [], ◌∷◌, ◌++◌, length, drop, get_or, replicate, ap, ◌∙◌, arith, rules, length-append, length-drop, inl, inr}
 use Rattle.escape_simd.proofs.Words.{cases_lt, count_by, nat_tests, first_set, none_set, clear_first, clear_last, entry_count, map, take-append-le, Mode, script, needs_escape, replacement, inner, begins_separator, passed, first_replacement, plain, quote_count, rest_length, HoldsFlags, IsFlaggedAt, IsFront, IsPartLength}
 use Rattle.escape_simd.proofs.Escapes.{entry-counts, first-alone, passed-alone}
 use Rattle.escape_simd.proofs.Lanes.{CleanFrom, held-cut, cleared-later, first-set, first_set-here, held-cleared, held-first, held-further, held-none}
@@ -15,17 +15,12 @@ module _ (mode : Mode) (src : List ℕ) (at : ℕ) (inside : at < length src) wh
   -- the rest of a text, and its first byte left out
   rest-added : rest_length mode src at + passed mode (drop at src) ≡ length (first_replacement mode (drop at src)) + (rest_length mode src (at + 1) + 1)
   rest-added =
-      let e = inner-here mode src at inside in let clean = passed-clean_rest mode src at inside in let a = rest-is mode src at in let b = rest-is mode src (at + passed mode (drop at src)) in
-      let long = ap length e in
-      let sum = length-append (first_replacement mode (drop at src)) (inner mode (drop (at + passed mode (drop at src)) src)) in
-      omega (arith, long, sum, a, b, clean)
+      grind (arith, inner-here mode src at inside, passed-clean_rest mode src at inside, rest-is, length-append {A = ℕ})
 
   -- a byte's entry counts what stands for it
   pub added-alone : needs_escape mode (get_or src at 0) ≡ true → (mode ≡ script → begins_separator (drop at src) ≡ false) → (count : ℕ) → count ≡ entry_count mode (get_or src at 0) → (1 ≤ count) × IsPartLength mode src at (at + 1) count
   added-alone needed none count is =
-      let one = passed-alone mode src at none in let first = ap length (first-alone mode src at none) in let counts = entry-counts mode (get_or src at 0) needed in
-      let some = length-replacement mode (get_or src at 0) in
-      (omega (arith, is, counts, some), omega (arith, rest-added, one, first, is, counts))
+      omega (arith, rest-added, passed-alone mode src at none, ap length (first-alone mode src at none), entry-counts mode (get_or src at 0) needed, length-replacement mode (get_or src at 0), is)
 
   -- six bytes stand for a separator, and two for the rest of it alone
   pub added-separator : mode ≡ script → begins_separator (drop at src) ≡ true → IsPartLength mode src at (at + 1) 4
@@ -65,21 +60,13 @@ first_set-past (suc n) bits = omega (arith, first_set-past n bits)
 module _ (mode : Mode) (src : List ℕ) (at valid : ℕ) (inside : at + valid ≤ length src) where
   -- none yet
   pub counted-begin : (bits : List Bool) → HoldsFlags mode src at valid at bits → CountedSoFar mode src at valid valid bits
-  counted-begin bits held = record {
-    next = at;
-    after = omega arith;
-    before = omega arith;
-    flags = held;
-    cleared = λ k set. omega arith;
-    counted = omega arith;
-  }
+  counted-begin bits held = search (rules, held)
 
   module _ (len : ℕ) (bits : List Bool) (so_far : CountedSoFar mode src at valid len bits) where
     -- six bytes at most stand for each
     pub counted-few : len ≤ 6 * valid
     counted-few =
-        let all = rest-between mode src at (at + valid) (omega arith) inside in let left = rest-between mode src so_far.next (at + valid) so_far.before inside in
-        omega (arith, all, left, so_far.counted, so_far.after, so_far.before)
+        omega (arith, rest-between mode src at (at + valid) (omega arith) inside, rest-between mode src so_far.next (at + valid) so_far.before inside, so_far.counted, so_far.after)
 
     -- all of them
     pub counted-end : none_set bits ≡ true → IsPartLength mode src at (at + valid) len
@@ -138,26 +125,22 @@ rest-past mode src at past = omega (arith, rest-bounds mode src at, past)
 -- what stands for a byte alone is one byte only where it is the byte
 replacement-same : (mode : Mode) (b : ℕ) → length (replacement mode b) ≡ 1 → replacement mode b ≡ b ∷ []
 unfolding replacement
-replacement-same script b one = grind (arith, nat_tests)
 replacement-same mode b one = grind (arith, nat_tests)
 
--- and the first of what stands for bytes is no longer than what it stands for only where it is one byte
+-- the first of what stands for bytes is no longer than what it stands for only where it is one byte, and that byte
 first-same : (mode : Mode) (b : ℕ) (bs : List ℕ) → length (first_replacement mode (b ∷ bs)) ≡ passed mode (b ∷ bs) → (passed mode (b ∷ bs) ≡ 1) × (first_replacement mode (b ∷ bs) ≡ b ∷ [])
-first-same script b bs same = grind (arith, nat_tests, length-separator, replacement-same)
-first-same mode b bs same = (omega arith, replacement-same mode b same)
+first-same mode b bs same = grind (arith, nat_tests, length-separator, replacement-same)
 
 -- where what stands for bytes is no longer than they are, it is they
 pub same-length : (mode : Mode) (bytes : List ℕ) → length (inner mode bytes) ≡ length bytes → inner mode bytes ≡ bytes
 same-length mode [] long = inner-nil mode
 same-length mode (b ∷ bs) long =
-    let step = inner-step b bs mode in let few = passed≤length mode (b ∷ bs) (omega arith) in let one = one≤passed mode (b ∷ bs) in
-    let first = length-first mode (b ∷ bs) in let rest = length-inner mode (drop (passed mode (b ∷ bs) - 1) bs) in
-    let sum = ap length step ∙ length-append (first_replacement mode (b ∷ bs)) (inner mode (drop (passed mode (b ∷ bs) - 1) bs)) in
-    let same : length (first_replacement mode (b ∷ bs)) ≡ passed mode (b ∷ bs) = omega (arith, long, sum, few, one, first, rest, length-drop (passed mode (b ∷ bs) - 1) bs) in
+    let n : ℕ = passed mode (b ∷ bs) - 1 in let step = inner-step b bs mode in
+    let same : length (first_replacement mode (b ∷ bs)) ≡ passed mode (b ∷ bs) =
+    omega (arith, long, ap length step, length-append (first_replacement mode (b ∷ bs)) (inner mode (drop n bs)), passed≤length mode (b ∷ bs), one≤passed mode (b ∷ bs), length-first mode (b ∷ bs), length-inner mode (drop n bs), length-drop n bs) in
     let alone = first-same mode b bs same in
-    let behind : drop (passed mode (b ∷ bs) - 1) bs ≡ bs = ap (λ k. drop (k - 1) bs) alone.0 in
-    let left : length (inner mode bs) ≡ length bs = omega (arith, long, sum, same, alone.0, ap (λ xs. length (inner mode xs)) behind) in
-    step ∙ ap (λ xs. xs ++ inner mode (drop (passed mode (b ∷ bs) - 1) bs)) alone.1 ∙ ap (λ xs. b ∷ inner mode xs) behind ∙ ap (λ xs. b ∷ xs) (same-length mode bs left)
+    let next = rw (alone.1, alone.0) at step in
+    next ∙ ap (λ xs. b ∷ xs) (same-length mode bs (omega (arith, long, ap length next)))
 
 -- where a text's bytes from a place on become longer, and those before it are clean, it becomes longer
 pub part-grown : (mode : Mode) (value src : List ℕ) (at end : ℕ) → src ≡ value → IsFront mode src at end → at + rest_length mode src at ≡ rest_length mode src 0 → length src - end < rest_length mode src end → length value < length (inner mode value)

@@ -26,4 +26,3 @@ pub mod Pieces
 pub mod EscapingLemmas
 pub mod MarkupLaws
 pub mod PlainLaws
-pub mod JoinedLemmas

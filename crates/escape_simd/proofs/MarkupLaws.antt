@@ -1,10 +1,7 @@
 -- The laws of markup. Under `#[tactic(auto, using(escape_simd::proofs::MarkupLaws::markup))]` a caller has the clause
 -- that the markup of a page is that of its template.
-use Rattle.std.proofs.Common.{Bor, ◌≡◌, ℕ, false, List, [], ◌∷◌, ◌++◌, flat_map, refl, ap, ap₂, sym, ◌∙◌, append-nil}
-use Rattle.std.proofs.lemmas.List.Elements.{filter-append}
-use Rattle.std.specs.List.{join_by}
-use Rattle.escape_simd.proofs.Words.{AllByRecursion, recursion_from_All, html, plain, is_markup}
-use Rattle.escape_simd.proofs.HtmlLemmas.{plain_markup_free}
+use Rattle.std.proofs.Common.{Bor, ◌≡◌, ℕ, List, [], ◌∷◌, ◌++◌, flat_map, refl, append-nil, arith}
+use Rattle.escape_simd.proofs.Words.{nat_tests, html, replacement, plain, is_markup, filter-append, join_by}
 unfoldable use Rattle.escape_simd.specs.Markup.{markup_of}
 
 -- the markup of joined bytes is that of the first, and then that of the second
@@ -12,41 +9,26 @@ pub markup_of-append : (xs ys : List ℕ) → markup_of (xs ++ ys) ≡ markup_of
 unfolding markup_of
 markup_of-append xs ys = filter-append is_markup xs ys
 
-none_of_clean : (bytes : List ℕ) → AllByRecursion (λ b. is_markup b ≡ false) bytes → markup_of bytes ≡ []
-unfolding markup_of
-none_of_clean [] clean = refl
-none_of_clean (b ∷ bytes) clean = rw clean.0 (none_of_clean bytes clean.1)
-
 -- an escaped text has none
 pub html_has_no_markup : (bytes : List ℕ) → markup_of (plain html bytes) ≡ []
-html_has_no_markup bytes = none_of_clean (plain html bytes) (recursion_from_All (λ b. is_markup b ≡ false) (plain html bytes) (plain_markup_free bytes))
+unfolding markup_of replacement
+html_has_no_markup [] = refl
+html_has_no_markup (b ∷ bytes) = grind (arith, nat_tests, filter-append is_markup (replacement html b) (plain html bytes), html_has_no_markup bytes)
 
 -- an escaped text adds none
 pub markup-after_html : (before bytes : List ℕ) → markup_of (before ++ plain html bytes) ≡ markup_of before
-markup-after_html before bytes =
-    markup_of-append before (plain html bytes) ∙ ap (λ m. markup_of before ++ m) (html_has_no_markup bytes) ∙ append-nil (markup_of before)
+markup-after_html before bytes = simp (append-nil, markup_of-append, html_has_no_markup)
 
 -- the texts after the first of a list, each behind what stands between
 rest_of_list : (between : List ℕ) (texts : List (Bor (List ℕ)))
-    → markup_of (flat_map (λ text. between ++ plain html text.now) texts) ≡ markup_of (flat_map (λ _. between ++ []) texts)
+    → markup_of (flat_map (λ text. between ++ plain html text.now) texts) ≡ markup_of (flat_map (λ _. between) texts)
 rest_of_list between [] = refl
-rest_of_list between (text ∷ texts) =
-    markup_of-append (between ++ plain html text.now) _
-    ∙ ap₂ (λ a b. a ++ b) (markup-after_html between text.now ∙ ap markup_of (sym (append-nil between))) (rest_of_list between texts)
-    ∙ sym (markup_of-append (between ++ []) _)
-
--- a list of escaped texts has the markup that stands between them
-list_markup : (between : List ℕ) (texts : List (Bor (List ℕ)))
-    → markup_of (join_by (λ text. plain html text.now) between texts) ≡ markup_of (join_by (λ _. []) between texts)
-list_markup between [] = refl
-list_markup between (text ∷ texts) =
-    markup_of-append (plain html text.now) _ ∙ ap (λ m. m ++ markup_of (flat_map (λ t. between ++ plain html t.now) texts)) (html_has_no_markup text.now) ∙ rest_of_list between texts
+rest_of_list between (text ∷ texts) = simp (append-nil, markup_of-append, html_has_no_markup, rest_of_list between texts)
 
 -- so a list of escaped texts adds the markup that stands between them
 pub markup-after_joined_html : (before between : List ℕ) (texts : List (Bor (List ℕ)))
     → markup_of (before ++ join_by (λ text. plain html text.now) between texts) ≡ markup_of (before ++ join_by (λ _. []) between texts)
-markup-after_joined_html before between texts =
-    markup_of-append before (join_by (λ text. plain html text.now) between texts) ∙ ap (λ m. markup_of before ++ m) (list_markup between texts)
-    ∙ sym (markup_of-append before (join_by (λ _. []) between texts))
+markup-after_joined_html before between [] = refl
+markup-after_joined_html before between (text ∷ texts) = simp (append-nil, markup_of-append, html_has_no_markup, rest_of_list between texts)
 
 pub ruleset markup = (markup_of-append, html_has_no_markup, markup-after_html, markup-after_joined_html)

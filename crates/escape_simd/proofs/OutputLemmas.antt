@@ -1,17 +1,13 @@
 -- The laws as calls' clauses have them.
 use Rattle.std.proofs.Common.{◌≡◌, ℕ, ◌+◌, ◌<◌, true, List, [], ◌∷◌, ◌++◌, length, IsUtf8, chars, encode_utf8, encode_utf8_all, append_assoc, refl, sym, ap, subst, ◌∙◌, arith}
-use Rattle.escape_simd.proofs.Words.{All-from_recursion, quote_count, all_scalars, IsScalar, AllByRecursion, and_parts, nat_tests, IsUtf8-append, IsUtf8-nil, IsUtf8-encode, encodes-chars, scalars-chars, Mode, json, html, script, replacement, inner, plain, quoted, quote_of, IsTextOf, JoinsTexts, IsOfOneText, HasOutputLength, flat_map-append}
-use Rattle.std.proofs.Math.Utf8.{scalar}
-use Rattle.std.proofs.lemmas.List.{append-nil}
-use Rattle.std.proofs.lemmas.Str.{IsUtf8-from_ascii}
+use Rattle.escape_simd.proofs.Words.{All-from_recursion, quote_count, all_scalars, IsScalar, AllByRecursion, and_parts, nat_tests, IsUtf8-append, IsUtf8-nil, IsUtf8-encode, encodes-chars, scalars-chars, Mode, json, html, script, replacement, inner, plain, quoted, quote_of, IsTextOf, JoinsTexts, IsOfOneText, HasOutputLength, flat_map-append, scalar, append-nil, IsUtf8-from_ascii, IsOnlyOutput}
 use Rattle.std.proofs.lemmas.Str.Ascii.{IsAscii-from_all}
 use Rattle.escape_simd.proofs.SpellingLemmas.{piece_cases}
-use Rattle.escape_simd.specs.Headline.{IsOnlyOutput}
-use Rattle.escape_simd.proofs.ReplacementLemmas.{inner-nil, inner-past, inner-script, hex_escape}
+use Rattle.escape_simd.proofs.ReplacementLemmas.{IsBytewise, inner-nil, inner-past, script_cases, hex_escape}
 use Rattle.escape_simd.proofs.Texts.{length-inner}
-use Rattle.escape_simd.proofs.HtmlLemmas.{IsOnlyHtml-plain, six_cases}
-use Rattle.escape_simd.proofs.JsonLemmas.{IsOnlyJson-plain, needed_cases, length-quoted}
-use Rattle.escape_simd.proofs.ScriptLemmas.{script_cases, IsOnlyScript-plain, script_denotes}
+use Rattle.escape_simd.proofs.HtmlLemmas.{IsOnlyHtml-plain}
+use Rattle.escape_simd.proofs.JsonLemmas.{IsOnlyJson-plain, length-quoted}
+use Rattle.escape_simd.proofs.ScriptLemmas.{IsOnlyScript-plain, only_script}
 
 -- the output for the bytes of a text, in each mode
 IsOnlyOutput-plain : (mode : Mode) (text : List ℕ) → all_scalars text ≡ true → IsOnlyOutput mode (plain mode (encode_utf8_all text)) text
@@ -39,20 +35,16 @@ IsTextOf-chars bytes utf8 = record { scalars = scalars-chars bytes utf8; encoded
 ascii_text : (bytes : List ℕ) → AllByRecursion (λ b. b < 128) bytes → IsUtf8 bytes
 ascii_text bytes h = IsUtf8-from_ascii bytes (IsAscii-from_all bytes (All-from_recursion (λ b. b < 128) bytes h))
 
--- what stands for a character is a text in JSON
-IsUtf8-json : (c : ℕ) → IsScalar c → IsUtf8 (inner json (encode_utf8 c))
+-- what stands for a character is a text, where its bytes are taken one by one
+IsUtf8-bytewise : (mode : Mode) → IsBytewise mode → (c : ℕ) → IsScalar c → IsUtf8 (inner mode (encode_utf8 c))
 unfolding replacement
-IsUtf8-json c character =
-    piece_cases json tt c IsUtf8 (λ need. ascii_text (replacement json c) (grind (arith, nat_tests, needed_cases))) (λ clean. IsUtf8-encode c character)
+IsUtf8-bytewise mode bytewise c character =
+    piece_cases mode bytewise c IsUtf8 (λ need. ascii_text (replacement mode c) (grind (arith, nat_tests))) (λ clean. IsUtf8-encode c character)
 
 -- and in each mode
 IsUtf8-replacement : (mode : Mode) (c : ℕ) → IsScalar c → IsUtf8 (inner mode (encode_utf8 c))
-unfolding replacement
-IsUtf8-replacement json c character = IsUtf8-json c character
-IsUtf8-replacement html c character =
-    piece_cases html tt c IsUtf8 (λ need. ascii_text (replacement html c) (grind (arith, nat_tests, six_cases))) (λ clean. IsUtf8-encode c character)
-IsUtf8-replacement script c character =
-    rw (inner-script c) (script_cases c IsUtf8 (λ marked. ascii_text (hex_escape c) (grind (arith, nat_tests))) (λ other. IsUtf8-json c character))
+IsUtf8-replacement script c character = script_cases c IsUtf8 (λ marked. ascii_text (hex_escape c) (grind (arith, nat_tests))) (λ other. IsUtf8-bytewise json tt c character)
+IsUtf8-replacement mode c character = IsUtf8-bytewise mode tt c character
 
 -- what stands for the bytes of characters is a text
 IsUtf8-characters : (mode : Mode) (text : List ℕ) → all_scalars text ≡ true → IsUtf8 (inner mode (encode_utf8_all text))
@@ -66,29 +58,26 @@ pub IsUtf8-inner : (mode : Mode) (bytes : List ℕ) → IsUtf8 bytes → IsUtf8 
 IsUtf8-inner mode bytes utf8 = rw (encodes-chars bytes utf8) at (IsUtf8-characters mode (chars bytes) (scalars-chars bytes utf8))
 
 -- a quotation mark is a text
-pub IsUtf8-quote : (mode : Mode) → IsUtf8 (quote_of mode)
-IsUtf8-quote html = IsUtf8-nil
-IsUtf8-quote mode = ascii_text (0x22 ∷ []) (omega arith, tt)
+IsUtf8-quote : IsUtf8 (0x22 ∷ [])
+IsUtf8-quote = ascii_text (0x22 ∷ []) (omega arith, tt)
 
 -- the output for the bytes of a text is a text
 pub IsUtf8-output : (mode : Mode) (bytes output : List ℕ) → IsUtf8 bytes → output ≡ plain mode bytes → IsUtf8 output
 IsUtf8-output html bytes output utf8 same = rw same (IsUtf8-inner html bytes utf8)
 IsUtf8-output mode bytes output utf8 same =
-    let quote = IsUtf8-quote mode in
-    rw same (IsUtf8-append (0x22 ∷ []) (inner mode bytes ++ 0x22 ∷ []) quote (IsUtf8-append (inner mode bytes) (0x22 ∷ []) (IsUtf8-inner mode bytes utf8) quote))
+    rw same (IsUtf8-append (0x22 ∷ []) (inner mode bytes ++ 0x22 ∷ []) IsUtf8-quote (IsUtf8-append (inner mode bytes) (0x22 ∷ []) (IsUtf8-inner mode bytes utf8) IsUtf8-quote))
 
 -- an output is of one text
 same_characters : (mode : Mode) (output t u : List ℕ) → all_scalars t ≡ true → output ≡ plain mode (encode_utf8_all t) → IsOnlyOutput mode output t → IsOnlyOutput mode output u → t ≡ u
 same_characters json output t u scalars e p q = q.one_text t p.shortest.denotes
 same_characters html output t u scalars e p q = q.one_text t p.reads
-same_characters script output t u scalars e p q = q.one_text t (rw e (script_denotes t scalars))
+same_characters script output t u scalars e p q = q.one_text t (rw e (only_script t scalars).denotes)
 
 -- How long the output is
 
 -- with the quotation marks of a literal
 pub length-plain : (mode : Mode) (bytes : List ℕ) → length (plain mode bytes) ≡ length (inner mode bytes) + quote_count mode
-length-plain html bytes = omega arith
-length-plain mode bytes = length-quoted (inner mode bytes)
+length-plain mode bytes = grind (arith, length-quoted)
 
 -- Texts that are cut in two
 
@@ -117,10 +106,7 @@ JoinsTexts-output script bytes output same = λ first second text _ cut. same �
 -- as the clauses of a call have it: of the bytes of its `&str` and of its output
 module _ (mode : Mode) (bytes output : List ℕ) (same : output ≡ plain mode bytes) where
   pub HasOutputLength-output : HasOutputLength mode (length bytes) output
-  HasOutputLength-output =
-      let sizes = length-inner mode bytes in
-      let long = ap length same ∙ length-plain mode bytes in
-      record { at_least = omega arith; at_most = omega arith }
+  HasOutputLength-output = omega (arith, length-inner mode bytes, ap length same ∙ length-plain mode bytes)
 
   pub IsOfOneText-output : IsUtf8 bytes → IsOfOneText mode bytes output
   IsOfOneText-output utf8 other text e =

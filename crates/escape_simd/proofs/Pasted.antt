@@ -1,11 +1,9 @@
 -- A vector escaped in blocks, block after block.
 use Rattle.std.proofs.Common.{◌≡◌, ℕ, ◌+◌, ◌-◌, ◌*◌, ◌/◌, ◌<◌, ◌≤◌, min, Bool, true, false, cond, not, ◌&&◌, ◌||◌, List, ◌++◌, length, take, drop, map, replicate, nat_eq, get_or, refl, sym, ap, ◌∙◌, arith, length-append, length-take-le, length-drop}
-use Rattle.escape_simd.proofs.Words.{IsWithin, Tells, cases_Bool, paste, nat_tests, drop-drop, length-map, take-map, take-take, get_or-take, get_or-drop, get_or_past, bits_of, first_set, length-bits_of, Mode, bytes_of, stored_of, Target, shortened, flag_count, flagged_blocks, put_apart, IsBlock, Stretch, HasBlocks}
-use Rattle.std.proofs.lemmas.Simd.{length-replicate}
-use Rattle.std.proofs.lemmas.List.Sums.{count_by-le-length}
+use Rattle.escape_simd.proofs.Words.{IsWithin, Tells, cases_Bool, paste, nat_tests, drop-drop, length-map, take-map, take-take, get_or-take, get_or-drop, get_or_past, bits_of, first_set, length-bits_of, Mode, bytes_of, stored_of, Target, shortened, flag_count, flagged_blocks, put_apart, IsBlock, Stretch, HasBlocks, length-replicate, count_by-le-length}
 use Rattle.escape_simd.proofs.Lanes.{first_set-here}
 use Rattle.escape_simd.proofs.RestSteps.{rest-between}
-use Rattle.escape_simd.proofs.PutApart.{AreMarked, blocks-none, blocks-one, blocks-onward, length-put_apart, marked-apart}
+use Rattle.escape_simd.proofs.PutApart.{AreMarked, count-none, blocks-none, blocks-one, blocks-onward, length-put_apart, marked-apart}
 use Rattle.escape_simd.proofs.Shortened.{KeepsClean, keeps-clean}
 use Rattle.escape_simd.proofs.Stretches.{pasted, ended, onward_at}
 
@@ -45,13 +43,6 @@ pub record BlocksSoFar {N : ℕ} (mode : Mode) (src : List ℕ) (bits : List Boo
   pub unused : used ≡ false → stored_of new ≡ stored_of old
   pub some : used ≡ true → stored_of old + 1 ≤ stored_of new
   pub counted : ticks_new + cond used 1 0 + stored_of old ≡ ticks_old + stored_of new
-
--- how a block changes the counts
-pub block-counts : (before after z ticks ticks2 count s0 s1 s2 : ℕ) (used flagged used2 : Bool) → flagged ≡ not (nat_eq count 0) → used2 ≡ (used || not flagged) → ticks2 ≡ ticks + cond (not flagged && used) 1 0 → s2 ≡ s1 + cond (nat_eq count 0) 1 0
-    → (used ≡ false → s1 ≡ s0) → (used ≡ true → s0 + 1 ≤ s1) → ticks + cond used 1 0 + s0 ≡ before + s1
-    → ((used2 ≡ false → s2 ≡ s0) × (used2 ≡ true → s0 + 1 ≤ s2)) × (ticks2 + cond used2 1 0 + s0 ≡ before + s2)
-block-counts before after z ticks ticks2 count s0 s1 s2 true flagged used2 f u t s none some c = grind (arith, nat_tests)
-block-counts before after z ticks ticks2 count s0 s1 s2 false flagged used2 f u t s none some c = grind (arith, nat_tests)
 
 module _ {mode : Mode} {src : List ℕ} (f : ℕ) {at valid to size : ℕ} (h : HasBlocks mode src at valid to size (bits_of 64 f)) where
   -- the flags
@@ -143,14 +134,13 @@ module _ {mode : Mode} {src : List ℕ} (f : ℕ) {at valid to size : ℕ} (h : 
       → BlocksSoFar mode src bits old mid at valid to p block own used ticks_old ticks → 8 * block < valid → fs ≡ take 8 (drop (8 * block) bits)
       → IsBlock fs (take 8 (map shortened (take 16 (drop (at + 8 * block) src)))) mid new p end → flagged ≡ not (nat_eq (flag_count fs) 0) → used2 ≡ (used || not flagged) → ticks2 ≡ ticks + cond (not flagged && used) 1 0
       → (used2 ≡ false → IsWithin (take valid (drop at src)) own2) → BlocksSoFar mode src bits old new at valid to end (block + 1) own2 used2 ticks_old ticks2
-  blocks-next {old = old} {mid = mid} {new = new} {ticks_old = ticks_old} {ticks = ticks} {ticks2 = ticks2} {used = used} {flagged = flagged} {used2 = used2} {fs = fs} bytes size_is b more told w f u t left =
-      let counts = block-counts ticks_old 0 0 ticks ticks2 (flag_count fs) (stored_of old) (stored_of mid) (stored_of new) used flagged used2 f u t w.written.stored b.unused b.some b.counted in
+  blocks-next bytes size_is b more told w f u t left =
       record {
         done = done-block bytes size_is b.done more refl told w;
         own_left = left;
-        unused = counts.0.0;
-        some = counts.0.1;
-        counted = counts.1;
+        unused = grind (arith, nat_tests, w.written.stored, b.unused, b.some, b.counted);
+        some = grind (arith, nat_tests, w.written.stored, b.unused, b.some, b.counted);
+        counted = grind (arith, nat_tests, w.written.stored, b.unused, b.some, b.counted);
       }
 
   -- the last block
@@ -163,11 +153,10 @@ module _ {mode : Mode} {src : List ℕ} (f : ℕ) {at valid to size : ℕ} (h : 
     pub done-stored : stored_of new + flagged_blocks 8 bits ≡ stored_of old + (valid + 7) / 8
     done-stored =
         let all : blocks + (8 - blocks) ≡ 8 = omega (arith, d.few, h.few) in
-        let none = blocks-none (8 - blocks) (drop (8 * blocks) bits) (λ i s. let t = h.flags.set (8 * blocks + i) (sym (get_or-drop (8 * blocks) bits i false) ∙ s) in absurd (omega (arith, t, over))) in
+        let none = blocks-none (8 - blocks) (drop (8 * blocks) bits) (count-none (drop (8 * blocks) bits) (λ i s. absurd (let t = h.flags.set (8 * blocks + i) (sym (get_or-drop (8 * blocks) bits i false) ∙ s) in omega (arith, t, over)))) in
         let parts = rw all at (blocks-onward blocks (8 - blocks) bits) in
         omega (arith, d.stored, d.few, over, none, parts)
 
     -- each of them but the first was classified
     pub done-ticks : {own : List ℕ} {used : Bool} {ticks_old ticks_new : ℕ} → BlocksSoFar mode src bits old new at valid to end blocks own used ticks_old ticks_new → ticks_new ≡ ticks_old + ((valid + 7) / 8 - (flagged_blocks 8 bits + 1))
-    done-ticks {used = true} b = omega (arith, b.counted, b.some refl, done-stored)
-    done-ticks {used = false} b = omega (arith, b.counted, b.unused refl, done-stored)
+    done-ticks b = grind (arith, nat_tests, b.counted, b.some, b.unused, done-stored)

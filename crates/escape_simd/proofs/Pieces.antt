@@ -1,5 +1,5 @@
 -- A text that is cut into pieces.
-use Rattle.std.proofs.Common.{◌≡◌, ℕ, ◌+◌, ◌-◌, ◌<◌, ◌≤◌, List, [], ◌∷◌, ◌++◌, length, length-drop, take, drop, slice_range, IsUtf8, chars, encode_utf8_all, sym, ap, ◌∙◌, arith, inl, inr}
+use Rattle.std.proofs.Common.{◌≡◌, ℕ, ◌+◌, ◌-◌, ◌<◌, ◌≤◌, List, [], ◌∷◌, ◌++◌, length, length-drop, take, drop, slice_range, IsUtf8, chars, encode_utf8_all, sym, ap, arith, inl, inr}
 use Rattle.escape_simd.proofs.Words.{IsCharBoundary, len_utf8, take-add, cases_lt, IsUtf8-take, IsUtf8-drop, IsCharBoundary-past_char, encodes-chars, len_utf8_bounds, Mode, script, inner}
 use Rattle.escape_simd.proofs.OutputLemmas.{CanBeCutAfter, inner-append}
 
@@ -26,11 +26,9 @@ module _ (bytes : List ℕ) (at index next : ℕ) (utf8 : IsUtf8 bytes) (here : 
     | inr back ↦ past_first back (chars (drop at bytes)) (encodes-chars (drop at bytes) (IsUtf8-drop bytes at utf8 here))
   ]
 
--- what was passed, and one piece more
-passed : (bytes : List ℕ) (at next : ℕ) → at ≤ next → take next bytes ≡ take at bytes ++ slice_range bytes at next
-passed bytes at next forward = let e : at + (next - at) ≡ next = omega arith in rw (← e) (take-add at (next - at) bytes ∙ ap (λ n. take at bytes ++ take n (drop at bytes)) (omega arith))
-
--- what stands for both
+-- what stands for what was passed, and for one piece more
 pub inner-piece : (mode : Mode) (bytes : List ℕ) (at next : ℕ) → IsUtf8 bytes → IsCharBoundary bytes at → at ≤ next → inner mode (take next bytes) ≡ inner mode (take at bytes) ++ inner mode (slice_range bytes at next)
 inner-piece mode bytes at next utf8 here forward =
-    inner-append mode (take next bytes) (take at bytes) (slice_range bytes at next) (passed bytes at next forward) (cut-text mode (take at bytes) (IsUtf8-take bytes at utf8 here))
+    let e : at + (next - at) ≡ next = omega arith in
+    let all : take next bytes ≡ take at bytes ++ slice_range bytes at next = rw e at (take-add at (next - at) bytes) in
+    inner-append mode (take next bytes) (take at bytes) (slice_range bytes at next) all (cut-text mode (take at bytes) (IsUtf8-take bytes at utf8 here))

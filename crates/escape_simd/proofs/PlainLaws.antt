@@ -1,32 +1,16 @@
 -- The laws that callers rest on, each of the plain escaping itself: of `plain mode bytes`, whatever the bytes, or of a text.
 use Rattle.std.proofs.Common.{ℕ, List, IsUtf8, chars, length, refl}
-use Rattle.escape_simd.proofs.Words.{Mode, json, html, script, IsOneLine, IsEscaping, IsMarkupFree, AmpersandsBeginEntities, JoinsTexts, IsOfOneText, HasOutputLength, plain, IsSafeInScript}
-use Rattle.escape_simd.specs.Headline.{IsOnlyOutput}
-use Rattle.escape_simd.proofs.EscapingLemmas.{IsEscaping-output, json_one_line}
-use Rattle.escape_simd.proofs.HtmlLemmas.{plain_markup_free, plain_ampersands}
+use Rattle.escape_simd.proofs.Words.{Mode, IsEscaping, JoinsTexts, IsOfOneText, HasOutputLength, plain, IsOnlyOutput}
+use Rattle.escape_simd.proofs.EscapingLemmas.{IsEscaping-output}
 use Rattle.escape_simd.proofs.OutputLemmas.{IsUtf8-output, IsOnlyOutput-output, IsOfOneText-output, HasOutputLength-output, JoinsTexts-output}
-use Rattle.escape_simd.proofs.ScriptLemmas.{IsSafeInScript-output, script_one_line}
-
 -- Of any bytes
 
--- HTML: none of the bytes `"`, `'`, `/`, `<` and `>`
-pub html_is_markup_free : (bytes : List ℕ) → IsMarkupFree (plain html bytes)
-html_is_markup_free = plain_markup_free
-
--- HTML: each ampersand begins an entity
-pub html_ampersands_begin_entities : (bytes : List ℕ) → AmpersandsBeginEntities (plain html bytes)
-html_ampersands_begin_entities = plain_ampersands
-
+-- HTML: none of the bytes `"`, `'`, `/`, `<` and `>`, and each ampersand begins an entity
+pub use Rattle.escape_simd.proofs.HtmlLemmas.{html_is_markup_free, html_ampersands_begin_entities}
 -- JSON and script literals stand on one line
-pub json_is_one_line : (bytes : List ℕ) → IsOneLine (plain json bytes)
-json_is_one_line bytes = json_one_line bytes (plain json bytes) refl
-
-pub script_is_one_line : (bytes : List ℕ) → IsOneLine (plain script bytes)
-script_is_one_line bytes = script_one_line bytes (plain script bytes) refl
-
+pub use Rattle.escape_simd.proofs.EscapingLemmas.{json_is_one_line}
 -- script: no `<`, `>` or `&`, and no separator of lines or paragraphs
-pub script_is_safe : (bytes : List ℕ) → IsSafeInScript (plain script bytes)
-script_is_safe bytes = IsSafeInScript-output bytes (plain script bytes) refl
+pub use Rattle.escape_simd.proofs.ScriptLemmas.{script_is_one_line, script_is_safe}
 
 -- joined at every border
 pub plain_joins : (mode : Mode) (bytes : List ℕ) → JoinsTexts mode bytes (plain mode bytes)

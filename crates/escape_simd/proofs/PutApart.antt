@@ -1,22 +1,16 @@
 -- Eight bytes put apart are what stands for a text's bytes, and how many blocks have a flag.
 use Rattle.std.proofs.Common.{◌≡◌, ◌≢◌, ℕ, zero, suc, ◌+◌, ◌-◌, ◌*◌, ◌<◌, ◌≤◌, Bool, true, false, cond, List, [], ◌∷◌, ◌++◌, length, take, drop, map, get_or, refl, sym, ap, ◌∙◌, inl, inr, arith}
-use Rattle.escape_simd.proofs.Words.{cases_lt, drop-drop, get_or-drop, get_or-take, get_or_past, nat_tests, sum_by-cons, true≢false, Mode, needs_escape, replacement, shortened, flag_count, flagged_blocks, put_apart, inner, escaped_count}
-use Rattle.std.proofs.lemmas.List.Sums.{get_or-le-sum_by}
+use Rattle.escape_simd.proofs.Words.{cases_lt, drop-drop, get_or-drop, get_or-take, get_or_default, get_or_past, nat_tests, Mode, needs_escape, replacement, shortened, flag_count, flagged_blocks, put_apart, inner, escaped_count, get_or-le-sum_by, sum_by-le, sum_by-take-drop}
+use Rattle.escape_lanes.proofs.SpreadLemmas.{count-cons}
 use Rattle.escape_simd.proofs.ReplacementLemmas.{inner-one, inner-clean_byte}
 use Rattle.escape_simd.proofs.Shortened.{KeepsClean, passed-short, short-escape}
 use Rattle.escape_simd.proofs.Texts.{escaped-here, escaped_clean-here}
 
 -- Counts of flags
 
--- one more
-count-cons : (b : Bool) (bs : List Bool) → flag_count (b ∷ bs) ≡ cond b 1 0 + flag_count bs
-count-cons b bs = sum_by-cons (λ c. cond c 1 0) b bs
-
 -- none where none is set
-count-none : (flags : List Bool) → ((i : ℕ) → get_or flags i false ≢ true) → flag_count flags ≡ 0
-count-none [] none = omega arith
-count-none (true ∷ flags) none = absurd (none 0 refl)
-count-none (false ∷ flags) none = grind (arith, count-cons false flags, count-none flags (λ i. none (suc i)))
+pub count-none : (flags : List Bool) → ((i : ℕ) → get_or flags i false ≢ true) → flag_count flags ≡ 0
+count-none flags none = omega (arith, sum_by-le (λ b. cond b 1 0) 0 flags (λ k d inside. grind (arith, nat_tests, none k, get_or_default flags k false d inside)))
 
 -- the blocks that have one, in two parts
 pub blocks-onward : (n m : ℕ) (flags : List Bool) → flagged_blocks (n + m) flags ≡ flagged_blocks n flags + flagged_blocks m (drop (8 * n) flags)
@@ -25,8 +19,7 @@ blocks-onward zero m flags = let e : 0 + m ≡ m = omega arith in rw e (omega ar
 blocks-onward (suc n) m flags =
     let e : suc n + m ≡ suc (n + m) = omega arith in
     let wide : 8 + 8 * n ≡ 8 * suc n = omega arith in
-    let rest = rw (drop-drop (8 * n) 8 flags, wide) at (blocks-onward n m (drop 8 flags)) in
-    rw e (omega (arith, rest))
+    rw e (omega (arith, rw (drop-drop (8 * n) 8 flags, wide) at (blocks-onward n m (drop 8 flags))))
 
 -- one block
 pub blocks-one : (flags : List Bool) → flagged_blocks 1 flags + (1 - flag_count (take 8 flags)) ≡ 1
@@ -39,35 +32,24 @@ unfolding flagged_blocks
 blocks-most zero flags = omega arith
 blocks-most (suc n) flags = let rest = blocks-most n (drop 8 flags) in grind (arith, nat_tests, rest)
 
--- the front of lanes of which none is set
-none-front : (n i : ℕ) (flags : List Bool) → ((j : ℕ) → get_or flags j false ≢ true) → get_or (take n flags) i false ≢ true
-none-front zero i flags none h = true≢false (sym h)
-none-front (suc n) i [] none h = true≢false (sym h)
-none-front (suc n) zero (b ∷ flags) none h = none 0 h
-none-front (suc n) (suc i) (b ∷ flags) none h = none-front n i flags (λ j. none (suc j)) h
-
--- none where no lane is set
-pub blocks-none : (n : ℕ) (flags : List Bool) → ((i : ℕ) → get_or flags i false ≢ true) → flagged_blocks n flags ≡ 0
+-- none where there is no flag
+pub blocks-none : (n : ℕ) (flags : List Bool) → flag_count flags ≡ 0 → flagged_blocks n flags ≡ 0
 unfolding flagged_blocks
 blocks-none zero flags none = refl
 blocks-none (suc n) flags none =
-    let here : flag_count (take 8 flags) ≡ 0 = count-none (take 8 flags) (λ i. none-front 8 i flags none) in
-    let rest = blocks-none n (drop 8 flags) (λ i h. none (8 + i) (sym (get_or-drop 8 flags i false) ∙ h)) in
-    rw (here, rest) refl
+    let parts = sum_by-take-drop (λ b. cond b 1 0) flags 8 in
+    let here : flag_count (take 8 flags) ≡ 0 = omega (arith, parts, none) in
+    rw here (omega (arith, blocks-none n (drop 8 flags) (omega (arith, parts, none))))
 
 -- one at least where a lane is
 pub blocks-some : (n k : ℕ) (flags : List Bool) → k < 8 * n → get_or flags k false ≡ true → 1 ≤ flagged_blocks n flags
 unfolding flagged_blocks
 blocks-some zero k flags few set = absurd (omega arith)
 blocks-some (suc n) k flags few set = elim (cases_lt k 8) [
-  | inl here ↦
-      let one = get_or-le-sum_by (λ b. cond b 1 0) (take 8 flags) k false in
-      let there : get_or (take 8 flags) k false ≡ true = get_or-take 8 flags k false here ∙ set in
-      grind (arith, nat_tests, get_or_past, there, one)
+  | inl here ↦ grind (arith, nat_tests, get_or_past, get_or-take 8 flags k false here ∙ set, get_or-le-sum_by (λ b. cond b 1 0) (take 8 flags) k false)
   | inr past ↦
       let i : 8 + (k - 8) ≡ k = omega (arith, past) in
-      let rest = blocks-some n (k - 8) (drop 8 flags) (omega (arith, few, past)) (get_or-drop 8 flags (k - 8) false ∙ rw i set) in
-      omega (arith, rest)
+      omega (arith, blocks-some n (k - 8) (drop 8 flags) (omega (arith, few, past)) (get_or-drop 8 flags (k - 8) false ∙ rw i set))
 ]
 
 -- how many bytes they become
@@ -108,8 +90,6 @@ marked-apart mode clean flags zero xs fill m =
     let none : flag_count flags ≡ 0 = count-none flags (λ i h. absurd (let s = m.set i h in omega (arith, s))) in
     let n : 0 + flag_count flags ≡ 0 = omega (arith, none) in
     (rw n refl, omega (arith, none))
-marked-apart mode clean [] (suc k) xs fill m = absurd (omega (arith, m.few))
-marked-apart mode clean (b ∷ flags) (suc k) [] fill m = absurd (omega (arith, m.inside))
 marked-apart mode clean (true ∷ flags) (suc k) (x ∷ xs) fill m =
     let needed = (m.set 0 refl).1 in
     let short = m.short 0 refl in
@@ -125,3 +105,4 @@ marked-apart mode clean (false ∷ flags) (suc k) (x ∷ xs) fill m =
     let n : suc k + flag_count (false ∷ flags) ≡ suc (k + flag_count flags) = omega (arith, count-cons false flags) in
     let here = ap (λ y. y ∷ inner mode xs) (clean x none) ∙ sym (inner-clean_byte mode x xs none) in
     (rw n (ap (λ ys. shortened x ∷ ys) rest.0 ∙ here), omega (arith, rest.1, escaped_clean-here mode (x ∷ xs) 0 (omega arith) none, count-cons false flags))
+marked-apart mode clean flags k xs fill m = absurd (omega (arith, m.few, m.inside))

@@ -1,52 +1,39 @@
 -- What stands for a byte, and for a character: its bytes' replacements, or the escape of a separator.
-use Rattle.std.proofs.Common.{◌≡◌, ◌≢◌, ℕ, zero, suc, ◌/◌, ◌%◌, ◌<◌, ◌≤◌, ◌⊎◌, true, false, List, [], ◌∷◌, ◌++◌, codes, length, drop, flat_map, encode_utf8_all, refl, append-nil, arith, inl, inr, ltb-true, ltb, if◌then◌else◌}
-use Rattle.escape_simd.proofs.Words.{encode_utf8, digit_char, AllByRecursion, encode_ascii, encode_same, cases_lt, cases_Bool, cond_both, nat_tests, flat_map-append, Mode, json, script, replacement, needs_escape, begins_separator, passed, script_inner_after, inner, is_script_marked}
+use Rattle.std.proofs.Common.{◌≡◌, ◌≢◌, ℕ, ◌/◌, ◌%◌, ◌<◌, ◌≤◌, ◌⊎◌, true, false, List, [], ◌∷◌, ◌++◌, codes, length, get_or, drop, flat_map, encode_utf8_all, refl, append-nil, arith, inl, inr}
+use Rattle.escape_simd.proofs.Words.{encode_utf8, digit_char, AllByRecursion, encode_ascii, encode_same, cases_lt, cases_Bool, nat_tests, flat_map-append, Mode, json, script, replacement, needs_escape, begins_separator, passed, script_inner_after, inner, is_script_marked}
 use Rattle.std.specs.Int.{IsInRange}
 
 -- a byte that needs no escape stands for itself
 pub replacement-clean : (mode : Mode) (b : ℕ) → needs_escape mode b ≡ false → replacement mode b ≡ b ∷ []
 unfolding replacement
-replacement-clean script b h = grind (arith, nat_tests)
 replacement-clean mode b h = grind (arith, nat_tests)
 
 -- and so does a byte from 128 on
 pub replacement-high : (mode : Mode) (b : ℕ) → 128 ≤ b → replacement mode b ≡ b ∷ []
 unfolding replacement
-replacement-high script b h = grind (arith, nat_tests)
 replacement-high mode b h = grind (arith, nat_tests)
 
 -- a byte is written by one to six bytes
 pub length-replacement : (mode : Mode) (b : ℕ) → (1 ≤ length (replacement mode b)) × (length (replacement mode b) ≤ 6)
 unfolding replacement
-length-replacement script b = grind (arith, nat_tests)
 length-replacement mode b = grind (arith, nat_tests)
 
 -- Step by step
 
--- what stands for the bytes after the first n
-pub script_inner_after-drop : (n : ℕ) (bytes : List ℕ) → script_inner_after n bytes ≡ inner script (drop n bytes)
-unfolding script_inner_after
-script_inner_after-drop zero bytes = refl
-script_inner_after-drop (suc n) [] = refl
-script_inner_after-drop (suc n) (b ∷ bs) = script_inner_after-drop n bs
-
 -- nothing stands for no bytes
 pub inner-nil : (mode : Mode) → inner mode [] ≡ []
 unfolding script_inner_after
-inner-nil script = refl
-inner-nil mode = refl
+inner-nil mode = grind arith
 
 -- what stands for a byte that begins no separator, and for those after it
 pub inner-one : (mode : Mode) (b : ℕ) (bs : List ℕ) → passed mode (b ∷ bs) ≡ 1 → inner mode (b ∷ bs) ≡ replacement mode b ++ inner mode bs
 unfolding script_inner_after
-inner-one script b bs h = grind (arith, nat_tests)
-inner-one mode b bs h = refl
+inner-one mode b bs h = grind (arith, nat_tests)
 
 -- a separator begins with e2
 pub passed-one : (mode : Mode) (b : ℕ) (bs : List ℕ) → b ≢ 0xe2 → passed mode (b ∷ bs) ≡ 1
 unfolding begins_separator
-passed-one script b bs other = grind (arith, nat_tests)
-passed-one mode b bs other = refl
+passed-one mode b bs other = grind (arith, nat_tests)
 
 -- a byte that needs no escape, before others
 pub inner-clean_byte : (mode : Mode) (b : ℕ) (bs : List ℕ) → needs_escape mode b ≡ false → inner mode (b ∷ bs) ≡ b ∷ inner mode bs
@@ -60,16 +47,12 @@ AreContinued bytes = AllByRecursion (λ b. IsInRange 128 191 b) bytes
 
 -- a byte from 128 on, and the bytes of a character after its first
 abbrev IsHighForm : List ℕ → Type 0
-IsHighForm bytes = (first : ℕ) × (rest : List ℕ) × (bytes ≡ first ∷ rest) × (128 ≤ first) × AreContinued rest
+IsHighForm bytes = (bytes ≡ get_or bytes 0 0 ∷ drop 1 bytes) × (128 ≤ get_or bytes 0 0) × AreContinued (drop 1 bytes)
 
 -- such are the bytes of a character from U+0080 on
 encode_utf8-high : (c : ℕ) → 128 ≤ c → IsHighForm (encode_utf8 c)
 unfolding encode_utf8
-encode_utf8-high c h =
-    cond_both (ltb c 128) _ _ IsHighForm (λ low. absurd (omega (arith, ltb-true c 128 low)))
-    (λ _. cond_both (ltb c 2048) _ _ IsHighForm (λ _. (_, _, refl, omega arith, omega arith))
-    (λ _. cond_both (ltb c 65536) _ _ IsHighForm (λ _. (_, _, refl, omega arith, omega arith))
-    (λ _. (_, _, refl, omega arith, omega arith))))
+encode_utf8-high c h = grind (arith, nat_tests)
 
 -- what stands for the character, whatever comes after it
 abbrev pub IsWrittenAs : Mode → ℕ → List ℕ → Type 0
@@ -88,8 +71,8 @@ module _ (mode : Mode) (c : ℕ) where
   -- one from there on stands for itself, unless it is a separator
   pub written-high : 128 ≤ c → ((rest : List ℕ) → passed mode (encode_utf8 c ++ rest) ≡ 1) → IsWrittenAs mode c (encode_utf8 c)
   written-high high alone rest =
-      let form = encode_utf8-high c high in
-      rw form.2 (grind (arith, inner-one mode form.0 (form.1 ++ rest) (rw form.2 at (alone rest)), replacement-high, inner-continued mode form.1 rest form.4))
+      let bytes : List ℕ = encode_utf8 c in let form = encode_utf8-high c high in
+      grind (arith, form, inner-one mode (get_or bytes 0 0) (drop 1 bytes ++ rest) (rw form.0 at (alone rest)), replacement-high, inner-continued mode (drop 1 bytes) rest form.2)
 
   -- what stands for the character alone
   pub inner-character : (bytes : List ℕ) → IsWrittenAs mode c bytes → inner mode (encode_utf8 c) ≡ bytes
@@ -102,14 +85,8 @@ abbrev pub IsBytewise : Mode → Type 0
 IsBytewise script = ⊥
 IsBytewise mode = Unit {0}
 
--- each byte is passed alone
-passed-bytewise : (mode : Mode) → IsBytewise mode → (bytes : List ℕ) → passed mode bytes ≡ 1
-passed-bytewise script h bytes = absurd h
-passed-bytewise mode h bytes = refl
-
 -- only ASCII needs an escape
 pub needs_escape_low : (mode : Mode) → IsBytewise mode → (c : ℕ) → needs_escape mode c ≡ true → c < 128
-needs_escape_low script h c need = absurd h
 needs_escape_low mode h c need = grind (arith, nat_tests)
 
 module _ (mode : Mode) (bytewise : IsBytewise mode) (c : ℕ) where
@@ -117,7 +94,7 @@ module _ (mode : Mode) (bytewise : IsBytewise mode) (c : ℕ) where
   pub inner_clean : needs_escape mode c ≡ false → inner mode (encode_utf8 c) ≡ encode_utf8 c
   inner_clean clean = elim (cases_lt c 128) [
     | inl low ↦ grind (arith, inner-character, written-low, replacement-clean, encode_ascii)
-    | inr high ↦ inner-character mode c (encode_utf8 c) (written-high mode c high (λ rest. passed-bytewise mode bytewise (encode_utf8 c ++ rest)))
+    | inr high ↦ inner-character mode c (encode_utf8 c) (written-high mode c high (λ rest. grind arith))
   ]
 
   -- a character that needs one is a byte, and has that byte's replacement
@@ -130,32 +107,10 @@ module _ (mode : Mode) (bytewise : IsBytewise mode) (c : ℕ) where
 abbrev pub hex_escape : ℕ → List ℕ
 hex_escape c = codes "\\u" ++ digit_char (c / 0x1000) ∷ digit_char (c / 0x100 % 16) ∷ digit_char (c / 0x10 % 16) ∷ digit_char (c % 16) ∷ []
 
--- what stands for the character: for the five that are marked their hex escapes, and for the others what JSON writes
-unfoldable pub script_replacement : ℕ → List ℕ
-script_replacement c = if is_script_marked c then hex_escape c else inner json (encode_utf8 c)
-
--- a marked character
-pub script_replacement-marked : (c : ℕ) → is_script_marked c ≡ true → script_replacement c ≡ hex_escape c
-unfolding script_replacement
-script_replacement-marked c marked = rw marked refl
-
--- any other
-pub script_replacement-other : (c : ℕ) → is_script_marked c ≡ false → script_replacement c ≡ inner json (encode_utf8 c)
-unfolding script_replacement
-script_replacement-other c other = rw other refl
-
--- the five marked characters
-pub marked_cases : (c : ℕ) → is_script_marked c ≡ true → (P : ℕ → Type 0) → P 0x26 → P 0x3c → P 0x3e → P 0x2028 → P 0x2029 → P c
-marked_cases c marked P p1 p2 p3 p4 p5 = grind (arith, nat_tests)
-
 -- bytes that begin with a separator are the form of its character, and others
-pub begins_separator-form : (bytes : List ℕ) → begins_separator bytes ≡ true
-    → (rest : List ℕ) × ((bytes ≡ encode_utf8 0x2028 ++ rest) ⊎ (bytes ≡ encode_utf8 0x2029 ++ rest))
+begins_separator-form : (bytes : List ℕ) → begins_separator bytes ≡ true → (bytes ≡ encode_utf8 0x2028 ++ drop 3 bytes) ⊎ (bytes ≡ encode_utf8 0x2029 ++ drop 3 bytes)
 unfolding begins_separator encode_utf8
-begins_separator-form (a ∷ b ∷ c ∷ bs) h =
-    let front : (a ≡ 0xe2) × (b ≡ 0x80) = grind (arith, nat_tests) in
-    let last : (c ≡ 0xa8) ⊎ (c ≡ 0xa9) = grind (arith, nat_tests) in
-    elim last [ inl e ↦ (bs, inl (cc)) | inr e ↦ (bs, inr (cc)) ]
+begins_separator-form (a ∷ b ∷ c ∷ bs) h = grind (arith, nat_tests)
 begins_separator-form xs h = absurd (grind (arith, nat_tests))
 
 -- the character of an unmarked form is no separator
@@ -165,46 +120,35 @@ passed-unmarked c other rest = grind (arith, nat_tests, begins_separator-form, e
 -- what stands for a marked character
 written-marked : (c : ℕ) → is_script_marked c ≡ true → IsWrittenAs script c (hex_escape c)
 unfolding script_inner_after begins_separator replacement encode_utf8
-written-marked c marked = grind (arith, nat_tests, marked_cases)
+written-marked c marked = grind (arith, nat_tests)
 
 -- a byte that isn't marked stands for what it does in JSON
 pub replacement-unmarked : (b : ℕ) → is_script_marked b ≡ false → replacement script b ≡ replacement json b
 unfolding replacement
 replacement-unmarked b other = grind (arith, nat_tests)
 
--- what stands for a character
-written-script : (c : ℕ) → IsWrittenAs script c (script_replacement c)
-written-script c =
-    elim (cases_Bool (is_script_marked c)) [
-      | inl marked ↦ rw (script_replacement-marked c marked) (written-marked c marked)
-      | inr other ↦
-          elim (cases_lt c 128) [
-            | inl low ↦ rw (script_replacement-other c other, inner-character json c (replacement json c) (written-low json c low), ← replacement-unmarked c other) (written-low script c low)
-            | inr high ↦ rw (script_replacement-other c other, inner-character json c (encode_utf8 c) (written-high json c high (λ rest. refl))) (written-high script c high (passed-unmarked c other))
-          ]
-    ]
+-- any other character is written as in JSON
+written-other : (c : ℕ) → is_script_marked c ≡ false → IsWrittenAs script c (inner json (encode_utf8 c))
+written-other c other = elim (cases_lt c 128) [
+  | inl low ↦ rw (inner-character json c (replacement json c) (written-low json c low), ← replacement-unmarked c other) (written-low script c low)
+  | inr high ↦ rw (inner-character json c (encode_utf8 c) (written-high json c high (λ rest. refl))) (written-high script c high (passed-unmarked c other))
+]
 
--- as it stands alone
-pub inner-script : (c : ℕ) → inner script (encode_utf8 c) ≡ script_replacement c
-inner-script c = inner-character script c (script_replacement c) (written-script c)
+-- what stands for a character is its hex escape where it is marked, and otherwise what JSON writes
+pub script_cases : (c : ℕ) (P : List ℕ → Type 0) → (is_script_marked c ≡ true → P (hex_escape c)) → (is_script_marked c ≡ false → P (inner json (encode_utf8 c))) → P (inner script (encode_utf8 c))
+script_cases c P marked other = elim (cases_Bool (is_script_marked c)) [
+  | inl is ↦ rw (inner-character script c (hex_escape c) (written-marked c is)) (marked is)
+  | inr isnt ↦ rw (inner-character script c (inner json (encode_utf8 c)) (written-other c isnt)) (other isnt)
+]
 
 -- Texts
 
 -- what stands for a character before others
-pub inner-past : (mode : Mode) (c : ℕ) (rest : List ℕ) → inner mode (encode_utf8 c ++ rest) ≡ inner mode (encode_utf8 c) ++ inner mode rest
-inner-past script c rest = rw (inner-script c) (written-script c rest)
-inner-past mode c rest = flat_map-append (replacement mode) (encode_utf8 c) rest
+pub inner-past : (mode : Mode) (c : ℕ) → IsWrittenAs mode c (inner mode (encode_utf8 c))
+inner-past script c = script_cases c (IsWrittenAs script c) (written-marked c) (written-other c)
+inner-past mode c = λ rest. flat_map-append (replacement mode) (encode_utf8 c) rest
 
--- what stands for the bytes of a text, where f is what stands for each character
-module _ (mode : Mode) (f : ℕ → List ℕ) (written : (c : ℕ) → IsWrittenAs mode c (f c)) where
-  inner-flat_map : (text : List ℕ) → inner mode (encode_utf8_all text) ≡ flat_map f text
-  inner-flat_map [] = inner-nil mode
-  inner-flat_map (c ∷ cs) = rw (← inner-flat_map cs) (written c (encode_utf8_all cs))
-
--- character by character
+-- what stands for the bytes of a text, character by character
 pub inner-pieces : (mode : Mode) (text : List ℕ) → inner mode (encode_utf8_all text) ≡ flat_map (λ c. inner mode (encode_utf8 c)) text
-inner-pieces mode text = inner-flat_map mode (λ c. inner mode (encode_utf8 c)) (inner-past mode) text
-
--- in a script literal, with the five marked characters written by hex escapes
-pub script_pieces : (text : List ℕ) → inner script (encode_utf8_all text) ≡ flat_map script_replacement text
-script_pieces text = inner-flat_map script script_replacement written-script text
+inner-pieces mode [] = inner-nil mode
+inner-pieces mode (c ∷ cs) = rw (← inner-pieces mode cs) (inner-past mode c (encode_utf8_all cs))

@@ -1,18 +1,12 @@
 -- Laws of JSON literals for script elements.
-use Rattle.std.proofs.Common.{◌≡◌, ◌≢◌, ℕ, zero, suc, ◌<◌, ◌≤◌, true, false, List, [], ◌∷◌, ◌++◌, length, codes, slice_index_or, ◌⊎◌, encode_utf8_all, flat_map, refl, sym, ap, subst, ◌∙◌, append_assoc, arith, inl, inr}
-use Rattle.escape_simd.proofs.Words.{IsOneLine, IsScalar, encode_utf8, all_scalars, AllByRecursion, cases_Bool, cond_both, true≢false, nat_tests, All-from_recursion, json, script, replacement, begins_separator, script_inner_after, inner, plain, quoted, IsJsonItem, raw, short, hex, pair, digits, IsLowerItem, JsonDenotes, short_escape, is_script_marked, HasNoRawMark, IsScriptItem, IsOnlyScript, IsSafeInScript}
-use Rattle.escape_simd.proofs.ReplacementLemmas.{hex_escape, script_replacement, script_replacement-marked, script_replacement-other, script_pieces, marked_cases, replacement-clean, replacement-high, replacement-unmarked, length-replacement}
+use Rattle.std.proofs.Common.{◌≡◌, ◌≢◌, ℕ, zero, suc, ◌<◌, ◌≤◌, true, false, List, [], ◌∷◌, ◌++◌, length, codes, slice_index_or, ◌⊎◌, encode_utf8_all, refl, sym, ap, subst, ◌∙◌, append_assoc, arith, inl, inr}
+use Rattle.escape_simd.proofs.Words.{get_or_append_left, IsOneLine, IsScalar, encode_utf8, all_scalars, AllByRecursion, cond_both, true≢false, nat_tests, All-from_recursion, json, script, replacement, begins_separator, script_inner_after, inner, plain, IsJsonItem, raw, short, hex, pair, digits, IsLowerItem, short_escape, is_script_marked, HasNoRawMark, IsScriptItem, IsOnlyScript, IsSafeInScript, All-weaker, All}
+use Rattle.escape_simd.proofs.ReplacementLemmas.{script_cases, replacement-high, length-replacement}
 use Rattle.escape_simd.proofs.JsonLemmas as Json
-use Rattle.std.proofs.lemmas.List.Elements.{All-weaker}
-use Rattle.std.specs.List.{All}
 
--- what stands for a character in a script literal is its hex escape where it is marked, and otherwise what JSON writes
-pub script_cases : (c : ℕ) (P : List ℕ → Type 0) → (is_script_marked c ≡ true → P (hex_escape c)) → (is_script_marked c ≡ false → P (inner json (encode_utf8 c))) → P (script_replacement c)
-script_cases c P marked other =
-    elim (cases_Bool (is_script_marked c)) [
-      | inl is ↦ subst P (sym (script_replacement-marked c is)) (marked is)
-      | inr isnt ↦ subst P (sym (script_replacement-other c isnt)) (other isnt)
-    ]
+-- what stands for a character
+abbrev piece : ℕ → List ℕ
+piece c = inner script (encode_utf8 c)
 
 -- an item of a character that isn't marked is no raw mark
 unmarked_item : (i : List ℕ) (c : ℕ) (item : IsJsonItem i c) → is_script_marked c ≡ false → HasNoRawMark item
@@ -20,7 +14,7 @@ unmarked_item i c (raw _ _ _ _) other = other
 unmarked_item i c item other = tt
 
 -- what stands for a character is an item of it that is no raw mark and has no upper-case hex digit
-both_item : (c : ℕ) → IsScalar c → IsScriptItem (script_replacement c) c × IsLowerItem (script_replacement c) c
+both_item : (c : ℕ) → IsScalar c → IsScriptItem (piece c) c × IsLowerItem (piece c) c
 both_item c scalar =
     script_cases c (λ p. IsScriptItem p c × IsLowerItem p c)
     (λ marked.
@@ -30,39 +24,34 @@ both_item c scalar =
     (λ other. let item = Json.lower_item c scalar in ((item.0, unmarked_item (inner json (encode_utf8 c)) c item.0 other), item))
 
 -- what stands for a character is as short as it can be
-IsPiece-script : (c : ℕ) → Json.IsPiece (script_replacement c) c
+IsPiece-script : (c : ℕ) → Json.IsPiece (piece c) c
 unfolding short_escape
 IsPiece-script c =
     script_cases c (λ p. Json.IsPiece p c)
-    (λ marked. record {
-      itself = λ h k l small. absurd (omega arith);
-      letter = λ b s. absurd (grind (arith, nat_tests));
-      most = omega arith;
-      six = λ long. refl;
-    })
+    (λ marked. grind (arith, nat_tests))
     (λ other. Json.IsPiece-json c)
 
 -- no item is shorter than what stands for the character
-least : (i : List ℕ) (c : ℕ) → IsScriptItem i c → length (script_replacement c) ≤ length i
-least i c (raw _ h k l, other) = omega (arith, ap length (script_replacement-other c other ∙ Json.piece-raw c h k l))
+least : (i : List ℕ) (c : ℕ) → IsScriptItem i c → length (piece c) ≤ length i
+least i c (raw _ h k l, other) = script_cases c (λ p. length p ≤ length (encode_utf8 c)) (λ marked. absurd (true≢false (sym marked ∙ other))) (λ _. omega (arith, ap length (Json.piece-raw c h k l)))
 least i c (short {b = b} s, _) = grind (arith, (IsPiece-script c).letter b s)
 least i c (hex (digits _ _ _ _) _, _) = (IsPiece-script c).most
 least i c (pair (digits _ _ _ _) (digits _ _ _ _) _ _, _) = omega (arith, (IsPiece-script c).most)
 
--- the output for the bytes of a text denotes it
-pub script_denotes : (text : List ℕ) → all_scalars text ≡ true → JsonDenotes (plain script (encode_utf8_all text)) text
-script_denotes text scalars = rw (script_pieces text) (Json.literal-pieces IsJsonItem script_replacement (λ c scalar. (both_item c scalar).1.0) text scalars)
+-- the output for the bytes of a text is the only shortest literal by such items
+pub only_script : (text : List ℕ) → all_scalars text ≡ true → Json.IsOnly IsScriptItem (plain script (encode_utf8_all text)) text
+only_script text scalars = Json.IsOnly-quoted IsScriptItem script (λ i c item. item.0) IsPiece-script least both_item text scalars
 
--- and is the only one for it
+-- and so it is the only one for the text
 pub IsOnlyScript-plain : (text : List ℕ) → all_scalars text ≡ true → IsOnlyScript (plain script (encode_utf8_all text)) text
 IsOnlyScript-plain text scalars =
-    let h = Json.IsOnly-pieces IsScriptItem script_replacement (λ i c item. item.0) IsPiece-script least both_item text scalars in
-    subst (λ bytes. IsOnlyScript bytes text) (ap quoted (sym (script_pieces text))) (record {
+    let h = only_script text scalars in
+    record {
       shortest = record { free = h.literal; least = h.least };
       lower = h.lower;
-      only = λ other shortest lower. h.only other shortest.free lower (shortest.least (quoted (flat_map script_replacement text)) h.literal);
+      only = λ other shortest lower. h.only other shortest.free lower (shortest.least (plain script (encode_utf8_all text)) h.literal);
       one_text = h.one_text;
-    })
+    }
 
 -- Script elements
 
@@ -75,9 +64,9 @@ abbrev IsSafeByte : ℕ → Type 0
 IsSafeByte b = (b < 128) × IsHarmlessByte b
 
 -- such is what stands for each byte below 128
-replacement_safe : (b : ℕ) → b < 128 → AllByRecursion IsSafeByte (replacement script b)
+replacement_safe : (b : ℕ) → b < 128 → AllByRecursion IsSafeByte (replacement script b) × (slice_index_or (replacement script b) 0 0 < 128)
 unfolding replacement
-replacement_safe b low = grind (arith, nat_tests, marked_cases, replacement-unmarked, Json.needed_cases, replacement-clean)
+replacement_safe b low = grind (arith, nat_tests)
 
 -- harmless bytes, of which none begins a separator
 abbrev IsSafe : List ℕ → Type 0
@@ -96,21 +85,16 @@ closed n bytes = script_inner_after n bytes ++ 0x22 ∷ []
 
 -- What is written for bytes begins with safe bytes, the replacement of the first or of a separator, or with a byte from 128 on that
 -- stands for itself and begins no separator.
-first_step : (b : ℕ) (bs : List ℕ) → ((xs : List ℕ) × (n : ℕ) × AllByRecursion IsSafeByte xs × (0 < length xs) × (inner script (b ∷ bs) ≡ xs ++ script_inner_after n bs))
+first_step : (b : ℕ) (bs : List ℕ) → ((xs : List ℕ) × (n : ℕ) × AllByRecursion IsSafeByte xs × (0 < length xs) × (slice_index_or xs 0 0 < 128) × (inner script (b ∷ bs) ≡ xs ++ script_inner_after n bs))
     ⊎ ((128 ≤ b) × (begins_separator (b ∷ bs) ≡ false) × (inner script (b ∷ bs) ≡ b ∷ inner script bs))
 unfolding script_inner_after
 first_step b bs = grind (arith, nat_tests, slice_index_or, codes, cond_both, replacement_safe, length-replacement, replacement-high)
-
--- safe bytes begin below 128
-low_first : (xs ys : List ℕ) → AllByRecursion IsSafeByte xs → 0 < length xs → slice_index_or (xs ++ ys) 0 0 < 128
-low_first [] ys safe some = absurd (omega arith)
-low_first (x ∷ xs) ys safe some = safe.0.0
 
 -- so this begins below 128, or as the bytes do
 first_of : (bytes : List ℕ) → (slice_index_or (closed 0 bytes) 0 0 < 128) ⊎ ((b : ℕ) × (bs : List ℕ) × (bytes ≡ b ∷ bs) × (closed 0 bytes ≡ b ∷ closed 0 bs))
 unfolding script_inner_after
 first_of [] = inl (omega arith)
-first_of (b ∷ bs) = grind (arith, first_step, low_first, append_assoc)
+first_of (b ∷ bs) = grind (arith, first_step, get_or_append_left, append_assoc)
 
 -- what begins a separator there began it in the text
 separator_kept : (b : ℕ) (bs : List ℕ) → begins_separator (b ∷ bs) ≡ false → begins_separator (b ∷ closed 0 bs) ≡ false
@@ -124,7 +108,7 @@ inner_safe n [] = safe_before (0x22 ∷ []) [] (omega arith) tt
 inner_safe (suc n) (b ∷ bs) = inner_safe n bs
 inner_safe zero (b ∷ bs) =
     elim (first_step b bs) [
-      | inl (xs, n, safe, some, written) ↦ rw (written, append_assoc) (safe_before xs (closed n bs) safe (inner_safe n bs))
+      | inl (xs, n, safe, some, low, written) ↦ rw (written, append_assoc) (safe_before xs (closed n bs) safe (inner_safe n bs))
       | inr (high, other, written) ↦ rw written (omega arith, separator_kept b bs other, inner_safe 0 bs)
     ]
 
@@ -139,23 +123,27 @@ unfolding begins_separator
 no_separator [] rest x begins safe = true≢false (sym begins ∙ safe.1)
 no_separator (_ ∷ front) rest x begins safe = no_separator front rest x begins safe.2
 
-module _ (bytes output : List ℕ) (same : output ≡ plain script bytes) where
+module _ (bytes : List ℕ) where
   -- the output for any bytes is safe
-  output_safe : IsSafe output
-  output_safe = rw same (safe_before (0x22 ∷ []) (closed 0 bytes) (omega arith) (inner_safe 0 bytes))
+  output_safe : IsSafe (plain script bytes)
+  output_safe = safe_before (0x22 ∷ []) (closed 0 bytes) (omega arith) (inner_safe 0 bytes)
 
-  output_harmless : All IsHarmlessByte output
-  output_harmless = All-from_recursion IsHarmlessByte output (harmless output output_safe)
+  output_harmless : All IsHarmlessByte (plain script bytes)
+  output_harmless = All-from_recursion IsHarmlessByte (plain script bytes) (harmless (plain script bytes) output_safe)
 
   -- so it stands on one line
-  pub script_one_line : IsOneLine output
-  script_one_line = All-weaker IsHarmlessByte (λ b. 0x20 ≤ b) (λ b h. h.0) output output_harmless
+  pub script_is_one_line : IsOneLine (plain script bytes)
+  script_is_one_line = All-weaker IsHarmlessByte (λ b. 0x20 ≤ b) (λ b h. h.0) (plain script bytes) output_harmless
 
   -- and can stand in a script element
-  pub IsSafeInScript-output : IsSafeInScript output
+  pub script_is_safe : IsSafeInScript (plain script bytes)
   unfolding begins_separator
-  IsSafeInScript-output = record {
-    no_markup = All-weaker IsHarmlessByte (λ b. (b ≢ 0x3c) × (b ≢ 0x3e) × (b ≢ 0x26)) (λ b h. (h.1, h.2, h.3)) output output_harmless;
-    no_line_separator = λ front rest is. no_separator front rest 0xa8 refl (rw is at output_safe);
-    no_paragraph_separator = λ front rest is. no_separator front rest 0xa9 refl (rw is at output_safe);
+  script_is_safe = record {
+    no_markup = All-weaker IsHarmlessByte (λ b. (b ≢ 0x3c) × (b ≢ 0x3e) × (b ≢ 0x26)) (λ b h. (h.1, h.2, h.3)) (plain script bytes) output_harmless;
+    no_line_separator = λ front rest is. no_separator front rest 0xa8 refl (subst IsSafe is output_safe);
+    no_paragraph_separator = λ front rest is. no_separator front rest 0xa9 refl (subst IsSafe is output_safe);
   }
+
+  -- the same of an output
+  pub IsSafeInScript-output : (output : List ℕ) → output ≡ plain script bytes → IsSafeInScript output
+  IsSafeInScript-output output same = rw same script_is_safe

@@ -1,10 +1,7 @@
 -- Laws of texts that are spelled item by item.
 use Rattle.std.proofs.Common.{◌≡◌, ◌≢◌, ◌==◌, ℕ, ◌<◌, ◌≤◌, ◌⊎◌, true, false, List, [], ◌∷◌, ◌++◌, map, flat_map, length, get_or, Option, Some, None, refl, sym, ap, ap₂, subst, ◌∙◌, length-append, arith, inl, inr, encode_utf8}
-use Rattle.escape_simd.proofs.Words.{All-from_recursion, all_scalars, IsScalar, and_parts, cases_Bool, ne_eqb, AllZip, concat, AllByRecursion, append_cancel_right, char_from_byte, encode_same, length-encode, len_utf8_bounds, Spells, Mode, needs_escape, replacement, inner}
+use Rattle.escape_simd.proofs.Words.{All-from_recursion, all_scalars, IsScalar, and_parts, cases_Bool, ne_eqb, AllZip, concat, AllByRecursion, append_cancel_right, char_from_byte, encode_same, length-encode, len_utf8_bounds, Spells, Mode, needs_escape, replacement, inner, scalar, All, All-nil, All-append}
 use Rattle.escape_simd.proofs.ReplacementLemmas.{IsBytewise, inner_clean, inner_needed}
-use Rattle.std.proofs.Math.Utf8.{scalar}
-use Rattle.std.specs.List.{All}
-use Rattle.std.proofs.lemmas.List.Elements.{All-nil, All-append}
 use Rattle.std.proofs.lemmas.List.Concat.{concat_is}
 use Rattle.std.proofs.lemmas.List.Folds.{flat_map-map}
 
@@ -27,21 +24,6 @@ pub not_begun : (c b : ℕ) (x : List ℕ) → b < 128 → c ≢ b → (get_or (
 not_begun c b x low other = ne_eqb _ _ (λ same.
     other (char_from_byte (encode_utf8 c ++ x) x c refl (omega arith) (omega (arith, length-append (encode_utf8 c) x, length-encode c, (len_utf8_bounds c).0)) ∙ same))
 
--- the bytes are items of the characters, told along the text
-abbrev pub Reads : (List ℕ → ℕ → Type 0) → List ℕ → List ℕ → Type 0
-Reads Item bytes [] = bytes ≡ []
-Reads Item bytes (c ∷ cs) = (i rest : List ℕ) × Item i c × (bytes ≡ i ++ rest) × Reads Item rest cs
-
--- items in a list, told so
-reads_items : (Item : List ℕ → ℕ → Type 0) (items : List (List ℕ)) (text : List ℕ) → AllZip Item items text → Reads Item (concat items) text
-reads_items Item [] [] h = refl
-reads_items Item (i ∷ is) (c ∷ cs) h = (i, concat is, h.0, refl, reads_items Item is cs h.1)
-reads_items Item xs ys h = absurd h
-
--- what is spelled, told so
-pub Reads-Spells : (Item : List ℕ → ℕ → Type 0) (bytes text : List ℕ) → Spells Item bytes text → Reads Item bytes text
-Reads-Spells Item bytes text h = subst (λ xs. Reads Item xs text) (sym h.joined) (reads_items Item h.items text h.each)
-
 -- each piece of a text is an item of its character
 each_of : (Item : List ℕ → ℕ → Type 0) (f : ℕ → List ℕ) → ((c : ℕ) → IsScalar c → Item (f c) c) → (text : List ℕ) → all_scalars text ≡ true → AllZip Item (map f text) text
 each_of Item f item [] h = tt
@@ -54,10 +36,10 @@ Spells-flat_map Item f item text h =
 
 -- where no item is shorter than the piece, the pieces are shortest
 pub pieces_le : (Item : List ℕ → ℕ → Type 0) (f : ℕ → List ℕ) → ((i : List ℕ) (c : ℕ) → Item i c → length (f c) ≤ length i)
-    → (bytes text : List ℕ) → Reads Item bytes text → length (flat_map f text) ≤ length bytes
-pieces_le Item f least bytes [] h = omega arith
-pieces_le Item f least bytes (c ∷ cs) (i, rest, item, e, h) =
-    omega (arith, length-append {A = ℕ}, ap length e, least i c item, pieces_le Item f least rest cs h)
+    → (items : List (List ℕ)) (text : List ℕ) → AllZip Item items text → length (flat_map f text) ≤ length (concat items)
+pieces_le Item f least [] [] h = omega arith
+pieces_le Item f least (i ∷ is) (c ∷ cs) h = omega (arith, length-append {A = ℕ}, least i c h.0, pieces_le Item f least is cs h.1)
+pieces_le Item f least is cs h = absurd h
 
 -- A reader's first step tells the character of an item that isn't raw, and what comes after the item.
 abbrev pub Tells : (List ℕ → ℕ → Type 0) → (List ℕ → Option ℕ × List ℕ) → Type 0
@@ -65,7 +47,7 @@ Tells Item read = (i x : List ℕ) (c : ℕ) → Item i c → ((i ≡ encode_utf
 
 module _ (Item : List ℕ → ℕ → Type 0) (read : List ℕ → Option ℕ × List ℕ) (tells : Tells Item read) where
   -- no item begins another, and an item is of one character alone
-  pub apart : (i j x y : List ℕ) (c d : ℕ) → Item i c → Item j d → i ++ x ≡ j ++ y → (c ≡ d) × (x ≡ y)
+  apart : (i j x y : List ℕ) (c d : ℕ) → Item i c → Item j d → i ++ x ≡ j ++ y → (c ≡ d) × (x ≡ y)
   apart i j x y c d p q same =
       grind (arith, tells i x c p, tells j y d q, encode_same)
 
@@ -73,31 +55,33 @@ module _ (Item : List ℕ → ℕ → Type 0) (read : List ℕ → Option ℕ ×
   no_item : (i x : List ℕ) (c : ℕ) → (read []).0 ≡ None → Item i c → i ++ x ≢ []
   no_item i x c none p empty = grind (arith, tells i x c p, length-append i x, length-encode c, len_utf8_bounds c)
 
-  -- so bytes read as one text at most
-  same_text : (read []).0 ≡ None → (bytes t u : List ℕ) → Reads Item bytes t → Reads Item bytes u → t ≡ u
-  same_text none bytes [] [] h k = refl
-  same_text none bytes [] (d ∷ ds) h (j, y, q, same, k) = absurd (no_item j y d none q (sym same ∙ h))
-  same_text none bytes (c ∷ cs) [] (i, x, p, same, h) k = absurd (no_item i x c none p (sym same ∙ k))
-  same_text none bytes (c ∷ cs) (d ∷ ds) (i, x, p, is, h) (j, y, q, also, k) =
-      let both = apart i j x y c d p q (sym is ∙ also) in
-      ap₂ (λ a b. a ∷ b) both.0 (same_text none x cs ds h (subst (λ z. Reads Item z ds) (sym both.1) k))
+  -- so joined items are of one text at most
+  same_text : (read []).0 ≡ None → (is js : List (List ℕ)) (t u : List ℕ) → AllZip Item is t → AllZip Item js u → concat is ≡ concat js → t ≡ u
+  same_text none [] [] [] [] h k same = refl
+  same_text none [] (j ∷ js) [] (d ∷ ds) h k same = absurd (no_item j (concat js) d none k.0 (sym same))
+  same_text none (i ∷ is) [] (c ∷ cs) [] h k same = absurd (no_item i (concat is) c none h.0 same)
+  same_text none (i ∷ is) (j ∷ js) (c ∷ cs) (d ∷ ds) h k same =
+      let both = apart i j (concat is) (concat js) c d h.0 k.0 same in
+      ap₂ (λ a b. a ∷ b) both.0 (same_text none is js cs ds h.1 k.1 both.1)
+  same_text none is js t u h k same = grind arith
 
   -- one byte list spells one text at most
   pub Spells-one_text : (read []).0 ≡ None → (bytes t u : List ℕ) → Spells Item bytes t → Spells Item bytes u → t ≡ u
-  Spells-one_text none bytes t u p q = same_text none bytes t u (Reads-Spells Item bytes t p) (Reads-Spells Item bytes u q)
+  Spells-one_text none bytes t u p q = same_text none p.items q.items t u p.each q.each (sym p.joined ∙ q.joined)
 
   -- What items of two kinds spell, and is no longer than the pieces, is the pieces: where no item of the one kind is shorter than the
   -- piece, and one of the other that is as long is the piece.
   pub only_pieces : (P Q : List ℕ → ℕ → Type 0) → ((i : List ℕ) (c : ℕ) → P i c → Item i c) → ((i : List ℕ) (c : ℕ) → Q i c → Item i c)
       → (f : ℕ → List ℕ) → ((i : List ℕ) (c : ℕ) → P i c → length (f c) ≤ length i) → ((i : List ℕ) (c : ℕ) → Q i c → length i ≡ length (f c) → i ≡ f c)
-      → (bytes text : List ℕ) → Reads P bytes text → Reads Q bytes text → length bytes ≤ length (flat_map f text) → bytes ≡ flat_map f text
-  only_pieces P Q p q f least only bytes [] h k small = h
-  only_pieces P Q p q f least only bytes (c ∷ cs) (i, x, a, is, h) (j, y, b, also, k) small =
-      let rest = (apart i j x y c c (p i c a) (q j c b) (sym is ∙ also)).1 in
-      let same : i ≡ j = append_cancel_right i j y (cc) in
-      let long = pieces_le P f least x cs h in
-      let sizes : (length i ≡ length (f c)) × (length x ≤ length (flat_map f cs)) =
-      (omega (arith, length-append {A = ℕ}, ap length is, least i c a), omega (arith, length-append {A = ℕ}, ap length is, least i c a)) in
-      let tail = only_pieces P Q p q f least only x cs h (subst (λ z. Reads Q z cs) (sym rest) k) sizes.1 in
-      let head = only j c b (sym (ap length same) ∙ sizes.0) in
+      → (is js : List (List ℕ)) (text : List ℕ) → AllZip P is text → AllZip Q js text → concat is ≡ concat js → length (concat is) ≤ length (flat_map f text) → concat is ≡ flat_map f text
+  only_pieces P Q p q f least only [] [] [] h k also small = refl
+  only_pieces P Q p q f least only (i ∷ is) (j ∷ js) (c ∷ cs) h k also small =
+      let rest = (apart i j (concat is) (concat js) c c (p i c h.0) (q j c k.0) also).1 in
+      let same : i ≡ j = append_cancel_right i j (concat js) (cc) in
+      let long = pieces_le P f least is cs h.1 in
+      let sizes : (length i ≡ length (f c)) × (length (concat is) ≤ length (flat_map f cs)) =
+      (omega (arith, length-append {A = ℕ}, least i c h.0), omega (arith, length-append {A = ℕ}, least i c h.0)) in
+      let tail = only_pieces P Q p q f least only is js cs h.1 k.1 rest sizes.1 in
+      let head = only j c k.0 (sym (ap length same) ∙ sizes.0) in
       cc
+  only_pieces P Q p q f least only is js cs h k also small = grind arith

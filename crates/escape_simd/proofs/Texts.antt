@@ -1,114 +1,81 @@
 -- What a text still needs from a place on: its escaping, its escapes and its runs.
-use Rattle.std.proofs.Common.{◌≡◌, ℕ, zero, suc, ◌+◌, ◌-◌, ◌<◌, ◌≤◌, Bool, true, false, cond, List, [], ◌∷◌, ◌++◌, length, length-append, drop, get_or, length-drop, ◌*◌, refl, ap, ◌∙◌, arith, add-one}
-use Rattle.escape_simd.proofs.Words.{get_or_past, nat_tests, drop-drop, drop_all, sum_by-append, prefix_len-drop_yes, prefix_len-drop_no, drop-cons, Mode, script, needs_escape, inner, begins_separator, passed, first_replacement, script_inner_after, escaped_count, runs_after, run_count_after, run_count, script_escapes_after, script_runs_after, run_end}
-use Rattle.escape_simd.proofs.ReplacementLemmas.{script_inner_after-drop, inner-clean_byte, inner-nil, length-replacement}
-
--- Separators
-
--- where a byte is not flagged no separator begins
-pub no_separator : (b : ℕ) (bs : List ℕ) → needs_escape script b ≡ false → begins_separator (b ∷ bs) ≡ false
-unfolding begins_separator
-no_separator b bs clean = grind (arith, nat_tests)
-
--- a separator has three bytes
-separator-long : (bytes : List ℕ) → begins_separator bytes ≡ true → 3 ≤ length bytes
-unfolding begins_separator
-separator-long bytes h = grind (arith, nat_tests, get_or_past bytes 2 0)
+use Rattle.std.proofs.Common.{◌≡◌, ℕ, zero, suc, ◌+◌, ◌-◌, ◌<◌, ◌≤◌, Bool, true, false, not, ◌&&◌, if◌then◌else◌, cond, List, [], ◌∷◌, ◌++◌, length, length-append, drop, get_or, length-drop, ◌*◌, refl, ap, ◌∙◌, arith, inl, inr}
+use Rattle.escape_simd.proofs.Words.{cases_Bool, get_or_past, nat_tests, drop-drop, drop_all, sum_by-append, prefix_len-drop_yes, prefix_len-drop_no, Mode, script, needs_escape, inner, begins_separator, passed, first_replacement, script_inner_after, escaped_count, runs_after, run_count_after, run_count, script_escapes_after, script_runs_after, run_end}
+use Rattle.std.proofs.lemmas.List.{drop_more}
+use Rattle.escape_simd.proofs.ReplacementLemmas.{inner-clean_byte, inner-nil, length-replacement}
 
 -- How far the first of what stands for bytes goes
 
 -- one byte or three
 pub one≤passed : (mode : Mode) (bytes : List ℕ) → (1 ≤ passed mode bytes) × (passed mode bytes ≤ 3)
-one≤passed script bytes = grind (arith, nat_tests)
-one≤passed mode bytes = (omega arith, omega arith)
+one≤passed mode bytes = grind (arith, nat_tests)
 
 -- bytes of the list
 pub passed≤length : (mode : Mode) (bytes : List ℕ) → 0 < length bytes → passed mode bytes ≤ length bytes
-passed≤length script bytes some = grind (arith, nat_tests, separator-long)
-passed≤length mode bytes some = omega arith
+unfolding begins_separator
+passed≤length mode bytes some = grind (arith, nat_tests, get_or_past bytes 2 0)
 
 -- where no escape is needed, one
 passed-clean : (mode : Mode) (b : ℕ) (bs : List ℕ) → needs_escape mode b ≡ false → passed mode (b ∷ bs) ≡ 1
-passed-clean script b bs clean = grind (arith, nat_tests, no_separator)
-passed-clean mode b bs clean = refl
+unfolding begins_separator
+passed-clean mode b bs clean = grind (arith, nat_tests)
 
 -- a byte that is passed with the one before it needs no escape
 pub passed-between : (mode : Mode) (bytes : List ℕ) (k : ℕ) → 0 < k → k < passed mode bytes → needs_escape mode (get_or bytes k 0) ≡ false
 unfolding begins_separator
-passed-between script bytes (suc zero) some h = grind (arith, nat_tests)
-passed-between script bytes (suc (suc zero)) some h = grind (arith, nat_tests)
-passed-between script bytes k some h = absurd (grind (arith, nat_tests))
-passed-between mode bytes k some h = absurd (omega arith)
+passed-between mode bytes k some h = grind (arith, nat_tests)
 
 -- What stands for bytes, and its counts, one step on
 
--- script: the escapes after them
-escapes_after : (n : ℕ) (bs : List ℕ) → script_escapes_after n bs ≡ script_escapes_after 0 (drop n bs)
-unfolding script_escapes_after
-escapes_after zero bs = refl
-escapes_after (suc n) [] = refl
-escapes_after (suc n) (b ∷ bs) = escapes_after n bs
+-- a recursion that passes over the first n bytes does as on the bytes after them
+after-drop : {X : Type 0} (f : ℕ → List ℕ → X) → ((n : ℕ) → f n [] ≡ f 0 []) → ((n b : ℕ) (bs : List ℕ) → f (suc n) (b ∷ bs) ≡ f n bs)
+    → (n : ℕ) (bs : List ℕ) → f n bs ≡ f 0 (drop n bs)
+after-drop f none past zero bs = refl
+after-drop f none past (suc n) [] = none (suc n)
+after-drop f none past (suc n) (b ∷ bs) = past n b bs ∙ after-drop f none past n bs
 
--- script: the runs after them, where they are in a run
-marked_after : (n : ℕ) (bs : List ℕ) → script_runs_after true n bs ≡ script_runs_after true 0 (drop n bs)
-unfolding script_runs_after
-marked_after zero bs = refl
-marked_after (suc n) [] = refl
-marked_after (suc n) (b ∷ bs) = marked_after n bs
-
-module _ (mode : Mode) where
-  -- no byte needs an escape
-  abbrev pub IsClean : List ℕ → Type 0
-  IsClean xs = (k : ℕ) → k < length xs → needs_escape mode (get_or xs k 0) ≡ false
+-- no byte needs an escape
+abbrev pub IsClean : Mode → List ℕ → Type 0
+IsClean mode xs = (k : ℕ) → k < length xs → needs_escape mode (get_or xs k 0) ≡ false
 
 module _ (b : ℕ) (bs : List ℕ) where
   -- the first of what stands for bytes, and the rest
   pub inner-step : (mode : Mode) → inner mode (b ∷ bs) ≡ first_replacement mode (b ∷ bs) ++ inner mode (drop (passed mode (b ∷ bs) - 1) bs)
   unfolding script_inner_after
-  inner-step script = ap (λ xs. first_replacement script (b ∷ bs) ++ xs) (script_inner_after-drop (passed script (b ∷ bs) - 1) bs)
+  inner-step script = ap (λ xs. first_replacement script (b ∷ bs) ++ xs) (after-drop script_inner_after (λ _. refl) (λ _ _ _. refl) (passed script (b ∷ bs) - 1) bs)
   inner-step mode = refl
 
   -- one byte more, by whether it needs an escape
-  escaped-step : (mode : Mode) → escaped_count mode (b ∷ bs) ≡ escaped_count mode (drop (passed mode (b ∷ bs) - 1) bs) + cond (needs_escape mode b) 1 0
+  pub escaped-step : (mode : Mode) → escaped_count mode (b ∷ bs) ≡ escaped_count mode (drop (passed mode (b ∷ bs) - 1) bs) + cond (needs_escape mode b) 1 0
   unfolding script_escapes_after
-  escaped-step script = omega (arith, escapes_after (passed script (b ∷ bs) - 1) bs)
+  escaped-step script = omega (arith, after-drop script_escapes_after (λ _. refl) (λ _ _ _. refl) (passed script (b ∷ bs) - 1) bs)
   escaped-step mode = omega (arith, sum_by-append (λ x. cond (needs_escape mode x) 1 0) (b ∷ []) bs)
 
-  -- a clean byte begins no run, and ends one
-  pub runs-clean : (mode : Mode) (before : Bool) → needs_escape mode b ≡ false → run_count_after mode before (b ∷ bs) ≡ run_count mode bs
+  -- one run more where it needs an escape and the byte before it isn't marked
+  pub runs-step : (mode : Mode) (before : Bool) → run_count_after mode before (b ∷ bs)
+      ≡ (if needs_escape mode b && not before then 1 else 0) + run_count_after mode (needs_escape mode b) (drop (passed mode (b ∷ bs) - 1) bs)
   unfolding runs_after script_runs_after
-  runs-clean script before h = rw (h, passed-clean script b bs h) (omega arith)
-  runs-clean mode before h = rw h (omega arith)
-
-  -- a byte that needs an escape begins a run after a clean one
-  pub runs-first : (mode : Mode) → needs_escape mode b ≡ true → run_count mode (b ∷ bs) ≡ run_count_after mode true (drop (passed mode (b ∷ bs) - 1) bs) + 1
-  unfolding runs_after script_runs_after
-  runs-first script h = rw h (omega (arith, marked_after (passed script (b ∷ bs) - 1) bs))
-  runs-first mode h = rw h (omega arith)
-
-  -- and none within a run
-  pub runs-next : (mode : Mode) → needs_escape mode b ≡ true → run_count_after mode true (b ∷ bs) ≡ run_count_after mode true (drop (passed mode (b ∷ bs) - 1) bs)
-  unfolding runs_after script_runs_after
-  runs-next script h = rw h (omega (arith, marked_after (passed script (b ∷ bs) - 1) bs))
-  runs-next mode h = rw h (omega arith)
+  runs-step script before = elim (cases_Bool (needs_escape script b)) [
+    | inl needed ↦ rw needed (omega (arith, after-drop (script_runs_after true) (λ _. refl) (λ _ _ _. refl) (passed script (b ∷ bs) - 1) bs))
+    | inr clean ↦ rw (clean, passed-clean script b bs clean) refl
+  ]
+  runs-step mode before = refl
 
 -- no byte, no run
 pub runs-empty : (mode : Mode) (before : Bool) → run_count_after mode before [] ≡ 0
 unfolding runs_after script_runs_after
-runs-empty script before = refl
-runs-empty mode before = refl
+runs-empty mode before = grind arith
 
 -- no byte, no escape
 pub escaped-empty : (mode : Mode) → escaped_count mode [] ≡ 0
 unfolding script_escapes_after
-escaped-empty script = refl
-escaped-empty mode = refl
+escaped-empty mode = grind arith
 
 module _ (mode : Mode) where
   -- within a run at most one run fewer begins
   pub runs_after-≤ : (bs : List ℕ) → run_count mode bs ≤ run_count_after mode true bs + 1
-  runs_after-≤ [] = rw (runs-empty mode true, runs-empty mode false) (omega arith)
-  runs_after-≤ (b ∷ bs) = grind (arith, nat_tests, runs-first, runs-next, runs-clean)
+  runs_after-≤ [] = grind (arith, runs-empty)
+  runs_after-≤ (b ∷ bs) = grind (arith, nat_tests, runs-step)
 
   -- clean bytes at the front
   module _ (ys : List ℕ) where
@@ -125,30 +92,31 @@ module _ (mode : Mode) where
     -- none of them begins a run
     pub run_count-clean : (xs : List ℕ) → IsClean mode xs → run_count mode (xs ++ ys) ≡ run_count mode ys
     run_count-clean [] h = refl
-    run_count-clean (x ∷ xs) h = runs-clean x (xs ++ ys) mode false (h 0 (omega arith)) ∙ run_count-clean xs (λ k l. h (suc k) (omega arith))
+    run_count-clean (x ∷ xs) h = grind (arith, nat_tests, runs-step, passed-clean, h 0 (omega arith), run_count-clean xs (λ k l. h (suc k) (omega arith)))
 
   -- the rest of a text, one step on
   module _ (src : List ℕ) (i : ℕ) (inside : i < length src) where
-    -- the byte, and the rest
-    here : drop i src ≡ get_or src i 0 ∷ drop (i + 1) src
-    here = rw add-one (drop-cons src i 0 inside)
+    -- a byte that is passed alone begins a run where it needs an escape and the one before it isn't marked
+    pub runs-here : passed mode (drop i src) ≡ 1 → (before : Bool) → run_count_after mode before (drop i src)
+        ≡ (if needs_escape mode (get_or src i 0) && not before then 1 else 0) + run_count_after mode (needs_escape mode (get_or src i 0)) (drop (i + 1) src)
+    runs-here alone before = grind (arith, nat_tests, runs-step, drop_more src i 0 inside)
 
     -- what stands there, and for the rest
     pub inner-here : inner mode (drop i src) ≡ first_replacement mode (drop i src) ++ inner mode (drop (i + passed mode (drop i src)) src)
-    inner-here = grind (arith, here, inner-step, one≤passed, drop-drop)
+    inner-here = grind (arith, drop_more src i 0 inside, inner-step, one≤passed, drop-drop)
 
     module _ (needed : needs_escape mode (get_or src i 0) ≡ true) where
       -- one more that is escaped
       pub escaped-here : escaped_count mode (drop i src) ≡ escaped_count mode (drop (i + passed mode (drop i src)) src) + 1
-      escaped-here = grind (arith, nat_tests, escaped-step, here, one≤passed, drop-drop)
+      escaped-here = grind (arith, nat_tests, escaped-step, drop_more src i 0 inside, one≤passed, drop-drop)
 
       -- it begins a run where none is open
       pub first-here : run_count mode (drop i src) ≡ run_count_after mode true (drop (i + passed mode (drop i src)) src) + 1
-      first-here = grind (arith, nat_tests, runs-first, here, one≤passed, drop-drop)
+      first-here = grind (arith, nat_tests, runs-step, drop_more src i 0 inside, one≤passed, drop-drop)
 
       -- it goes on with an open run
       pub next-here : run_count_after mode true (drop i src) ≡ run_count_after mode true (drop (i + passed mode (drop i src)) src)
-      next-here = grind (arith, nat_tests, runs-next, here, one≤passed, drop-drop)
+      next-here = grind (arith, nat_tests, runs-step, drop_more src i 0 inside, one≤passed, drop-drop)
 
       -- the run goes on past it
       pub run_end-here : run_end mode src i ≡ run_end mode src (i + 1)
@@ -157,33 +125,23 @@ module _ (mode : Mode) where
     module _ (clean : needs_escape mode (get_or src i 0) ≡ false) where
       -- it ends an open run
       pub runs_stop-here : run_count_after mode true (drop i src) ≡ run_count mode (drop i src)
-      runs_stop-here = grind (arith, nat_tests, runs-clean, here)
+      runs_stop-here = grind (arith, nat_tests, runs-step, drop_more src i 0 inside)
 
       -- it is passed alone
       pub passed_clean-here : passed mode (drop i src) ≡ 1
-      passed_clean-here = rw here (passed-clean mode (get_or src i 0) (drop (i + 1) src) clean)
+      passed_clean-here = rw (drop_more src i 0 inside) (passed-clean mode (get_or src i 0) (drop (i + 1) src) clean)
 
       -- it is not escaped
       pub escaped_clean-here : escaped_count mode (drop i src) ≡ escaped_count mode (drop (i + 1) src)
-      escaped_clean-here = grind (arith, nat_tests, escaped-step, passed_clean-here, here)
-
-      -- it begins no run
-      pub runs_clean-here : run_count mode (drop i src) ≡ run_count mode (drop (i + 1) src)
-      runs_clean-here = grind (arith, runs-clean, here)
+      escaped_clean-here = grind (arith, nat_tests, escaped-step, passed_clean-here, drop_more src i 0 inside)
 
       -- a run ends there
       pub run_end-stop : run_end mode src i ≡ i
       run_end-stop = omega (arith, prefix_len-drop_no (needs_escape mode) src i 0 inside clean)
 
-  -- the same at the end
-  module _ (src : List ℕ) (i : ℕ) (over : length src ≤ i) where
-    -- the end ends an open run
-    pub runs_stop-end : run_count_after mode true (drop i src) ≡ run_count mode (drop i src)
-    runs_stop-end = rw (drop_all i src over, runs-empty mode true, runs-empty mode false) refl
-
-    -- and it is the end of a run
-    pub run_end-end : run_end mode src i ≡ i
-    run_end-end = rw (drop_all i src over) (omega arith)
+  -- the end of a text is the end of a run
+  pub run_end-end : (src : List ℕ) (i : ℕ) → length src ≤ i → run_end mode src i ≡ i
+  run_end-end src i over = rw (drop_all i src over) (omega arith)
 
 -- How long what stands for bytes is
 
@@ -193,8 +151,7 @@ length-separator bytes begins = grind (arith, nat_tests)
 
 -- the first of what stands for bytes has as many bytes at least as it stands for, and six times as many at most
 pub length-first : (mode : Mode) (bytes : List ℕ) → (passed mode bytes ≤ length (first_replacement mode bytes)) × (length (first_replacement mode bytes) ≤ 6 * passed mode bytes)
-length-first script bytes = grind (arith, nat_tests, length-separator, length-replacement)
-length-first mode bytes = length-replacement mode (get_or bytes 0 0)
+length-first mode bytes = grind (arith, nat_tests, length-separator, length-replacement)
 
 -- bytes are written by as many bytes at least, and six times as many at most
 pub length-inner : (mode : Mode) (bytes : List ℕ) → (length bytes ≤ length (inner mode bytes)) × (length (inner mode bytes) ≤ 6 * length bytes)

@@ -1,18 +1,19 @@
 -- The words of these proofs, from where each is defined.
 pub use Rattle.std.proofs.Common.{Bor, Err, List, [], ap, arith, cond, drop, false, get_or, inl, inr, length, length-append, map, nat_eq, not, refl, replicate, slice_index, slice_index_or, subst, sym, take, true, vec_capacity, vec_len, ℕ, ◌*◌, ◌++◌, ◌+◌, ◌-◌, ◌/◌, ◌<◌, ◌∙◌, ◌≡◌, ◌≤◌}
-pub use Rattle.std.proofs.Math.Seq.{drop-cons, paste, take-add, take-append-add, take-append_seam}
+pub use Rattle.std.proofs.Math.Seq.{drop-append_seam, drop-cons, paste, take-add, take-append-add, take-append_seam}
+pub use Rattle.std.proofs.Math.Utf8.{scalar}
 pub use Rattle.std.proofs.lemmas.Bool.{agree_below, agree_below_at, and_parts, cases_Bool, cases_lt, cond_both, false_from_ne_true, ne_eqb, true_from_ne_false, true≢false}
 pub use Rattle.std.proofs.lemmas.Bool.Decides.{leb_tells, nat_tests}
 pub use Rattle.std.proofs.lemmas.Grind.{flat_map-append}
 pub use Rattle.std.proofs.lemmas.List.{append-nil, append_cancel_left, append_cancel_right, drop-append-le, drop-drop, drop-map, drop-take, drop_all, drop_at, ext_get_or, get_or-append_right, get_or-drop, get_or-map, get_or-replicate, get_or-take, get_or_append_left, get_or_default, get_or_past, length-drop, length-map, length-replicate, length-take, length-take-le, map-append, map-id, replicate-append-replicate, take-append-drop, take-append-le, take-map, take-take, take_all, take_at}
-pub use Rattle.std.proofs.lemmas.List.Elements.{All-from_recursion, recursion_from_All}
-pub use Rattle.std.proofs.lemmas.List.Sums.{prefix_len-drop_no, prefix_len-drop_yes, sum_by-append, sum_by-cons}
+pub use Rattle.std.proofs.lemmas.List.Elements.{All-append, All-drop, All-from_recursion, All-nil, All-take, All-weaker, filter-append, recursion_from_All}
+pub use Rattle.std.proofs.lemmas.List.Sums.{count_by-le-length, get_or-le-sum_by, prefix_len-drop_no, prefix_len-drop_yes, sum_by-append, sum_by-cons, sum_by-le, sum_by-take-drop}
 pub use Rattle.std.proofs.lemmas.Nat.{and_le_l, and_le_r, le-div, shr_below}
 pub use Rattle.std.proofs.lemmas.Simd.{Each1-from_get_or, Each1-get_or, SwzOk, SwzOk-from_Each1, SwzOk-from_below, get_or-swz_l, get_or-swz_l_below, get_or-zip2, length-swz_l, length-zip2, map-map, mask_l-lt, mask_l-mod, ones-mask_l, pick_l-range_with_len, splat_is_map, swz_l, tops_compared, zip2_of_maps, zip2_splat}
-pub use Rattle.std.proofs.lemmas.Str.{IsCharBoundary-past_char, IsUtf8-append, IsUtf8-drop, IsUtf8-encode, IsUtf8-nil, IsUtf8-take, char_from_byte, digit_value-digit_char, encode_ascii, encode_same, encodes-chars, len_utf8_ascii, len_utf8_bounds, length-encode, scalars-chars}
+pub use Rattle.std.proofs.lemmas.Str.{IsCharBoundary-past_char, IsUtf8-append, IsUtf8-drop, IsUtf8-encode, IsUtf8-from_ascii, IsUtf8-nil, IsUtf8-take, char_from_byte, digit_value-digit_char, encode_ascii, encode_same, encodes-chars, len_utf8_ascii, len_utf8_bounds, length-encode, scalars-chars}
 unfoldable pub use Rattle.std.specs.Char.{encode_utf8}
 pub use Rattle.std.specs.Char.{IsScalar, digit_char, digit_value, len_utf8}
-pub use Rattle.std.specs.List.{AllByRecursion, AllZip, concat, count_by, range_with_len}
+pub use Rattle.std.specs.List.{All, AllByRecursion, AllZip, concat, count_by, join_by, range_with_len}
 pub use Rattle.std.specs.Simd.Lanes.{mask_l, pick_l, sel_l, top, zip2}
 pub use Rattle.std.specs.Str.{IsCharBoundary, all_scalars}
 unfoldable pub use Rattle.escape_lanes.specs.Bits.{bits_of, first_set, gaps, none_set}
@@ -30,6 +31,7 @@ pub use Rattle.escape_lanes.specs.Written.{IsSameSlice, Writes, bytes_of, escape
 pub use Rattle.escape_lanes.specs.declared.simd.target.Target.{Target}
 pub use Rattle.escape_simd.specs.Escaping.{IsEscaping, IsHarmless, IsOneLine}
 pub use Rattle.escape_simd.specs.Formatted.{IsFormatted, IsInnerWritten, IsQuoted, IsWritten, IsWrittenAt}
+pub use Rattle.escape_simd.specs.Headline.{IsOnlyOutput}
 unfoldable pub use Rattle.escape_simd.specs.Html.{entity_of}
 pub use Rattle.escape_simd.specs.Html.{AmpersandsBeginEntities, HtmlReads, IsHtmlItem, IsMarkupFree, IsOnlyHtml, entity, is_markup}
 unfoldable pub use Rattle.escape_simd.specs.Json.{short_escape}
@@ -46,4 +48,3 @@ pub use Rattle.escape_simd.specs.Script.{HasNoRawMark, IsOnlyScript, IsSafeInScr
 pub use Rattle.escape_simd.specs.Spelling.{IsTextOf, Spells}
 unfoldable pub use Rattle.escape_simd.specs.Stretch.{rest_length}
 pub use Rattle.escape_simd.specs.Stretch.{AreTail, AreShort, CanStore, Cost, Escaped, Escapes, HasBlocks, HasRoom, HasVectors, HoldsFlags, IsByteWise, IsFinished, IsFlaggedAt, IsStored, IsVectorAt, IsVectorEnd, Passed, Stretch, reach, run_end, run_reach, state}
-pub use mir.Syntax.{w8}

@@ -1,6 +1,5 @@
 -- Zeros behind the bytes of a text: what stands for the bytes stays, and what stands for the zeros follows.
-use Rattle.std.proofs.Common.{◌≡◌, ℕ, zero, suc, ◌+◌, ◌-◌, ◌≤◌, Bool, false, List, [], ◌∷◌, ◌++◌, length, drop, get_or, replicate, refl, ap, arith, append_assoc, length-drop}
-use Rattle.escape_simd.proofs.Words.{get_or_append_left, get_or-append_right, get_or-replicate, get_or_past, length-replicate, drop-append-le, nat_tests, Mode, script, needs_escape, replacement, inner, begins_separator, passed, first_replacement, escaped_count, run_count_after, run_count}
+use Rattle.escape_simd.proofs.Words.{◌≡◌, ℕ, zero, suc, ◌+◌, ◌-◌, ◌≤◌, Bool, false, List, [], ◌∷◌, ◌++◌, length, drop, get_or, replicate, refl, ap, arith, append_assoc, length-drop, get_or_append_left, get_or-append_right, get_or-replicate, get_or_past, length-replicate, drop-append-le, nat_tests, Mode, script, needs_escape, replacement, inner, begins_separator, passed, first_replacement, escaped_count, run_count_after, run_count}
 use Rattle.escape_simd.proofs.ReplacementLemmas.{inner-nil}
 use Rattle.escape_simd.proofs.Texts.{passed≤length, inner-step, escaped-step, runs-step, runs-empty, escaped-empty}
 

@@ -1,6 +1,5 @@
 -- How far the body has come in a text, and at what cost.
-use Rattle.std.proofs.Common.{◌≡◌, ℕ, ◌+◌, ◌-◌, ◌*◌, ◌/◌, ◌<◌, ◌≤◌, true, List, length, length-drop, take, drop, refl, ap, arith}
-use Rattle.escape_simd.proofs.Words.{le-div, take_all, Mode, bytes_of, Target, Cost, Escapes, HasRoom, HasVectors, Stretch, reach, rest_length, state}
+use Rattle.escape_simd.proofs.Words.{◌≡◌, ℕ, ◌+◌, ◌-◌, ◌*◌, ◌/◌, ◌<◌, ◌≤◌, true, List, length, length-drop, take, drop, refl, ap, arith, le-div, take_all, Mode, bytes_of, Target, Cost, Escapes, HasRoom, HasVectors, Stretch, reach, rest_length, state}
 use Rattle.std.proofs.Math.Nat.{div-mul-le_self}
 use Rattle.escape_simd.proofs.RestSteps.{rest-bounds}
 use Rattle.escape_simd.proofs.Stretches.{onward_to, reach-bounds, room-later, room-near, room-on}

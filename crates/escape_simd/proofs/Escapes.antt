@@ -1,6 +1,5 @@
 -- What one escape writes, and how far a run of escapes goes.
-use Rattle.std.proofs.Common.{◌≡◌, ℕ, ◌+◌, ◌-◌, ◌<◌, ◌≤◌, true, false, ◌&&◌, ◌||◌, ◌==◌, List, length, length-append, take, drop, replicate, get_or, refl, ap, arith}
-use Rattle.escape_simd.proofs.Words.{nat_tests, take-append_seam, get_or-drop, get_or_past, length-replicate, entry_count, entry_bytes, Mode, script, needs_escape, replacement, mode_numbered, begins_separator, passed, first_replacement, IsByteWise, run_reach}
+use Rattle.escape_simd.proofs.Words.{◌≡◌, ℕ, ◌+◌, ◌-◌, ◌<◌, ◌≤◌, true, false, ◌&&◌, ◌||◌, ◌==◌, List, length, length-append, take, drop, replicate, get_or, refl, ap, arith, nat_tests, take-append_seam, get_or-drop, get_or_past, length-replicate, entry_count, entry_bytes, Mode, script, needs_escape, replacement, mode_numbered, begins_separator, passed, first_replacement, IsByteWise, run_reach}
 use Rattle.escape_simd.proofs.ReplacementLemmas.{length-replacement}
 use Rattle.escape_simd.proofs.Texts.{passed-between}
 

@@ -1,6 +1,5 @@
 -- The laws of every output, in one record.
-use Rattle.std.proofs.Common.{◌≡◌, ℕ, ◌≤◌, List, [], ◌∷◌, ◌++◌, IsUtf8, arith}
-use Rattle.escape_simd.proofs.Words.{drop_at, drop, length, ap, refl, ◌∙◌, nat_tests, All-from_recursion, replacement, Mode, json, html, script, IsOneLine, IsHarmless, IsEscaping, appended, inner, plain, All-append}
+use Rattle.escape_simd.proofs.Words.{◌≡◌, ℕ, ◌≤◌, List, [], ◌∷◌, ◌++◌, IsUtf8, arith, drop_at, drop, length, ap, refl, ◌∙◌, nat_tests, All-from_recursion, replacement, Mode, json, html, script, IsOneLine, IsHarmless, IsEscaping, appended, inner, plain, All-append}
 use Rattle.escape_simd.proofs.HtmlLemmas.{html_ampersands_begin_entities, html_is_markup_free}
 use Rattle.escape_simd.proofs.MarkupLaws.{html_has_no_markup}
 use Rattle.escape_simd.proofs.OutputLemmas.{IsTextOf-chars, IsUtf8-output, IsOnlyOutput-output, IsOfOneText-output, HasOutputLength-output, JoinsTexts-output}

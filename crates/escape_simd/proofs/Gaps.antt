@@ -1,6 +1,5 @@
 -- What is stored after each run of a mask is paid by the runs of the text.
-use Rattle.std.proofs.Common.{◌≡◌, ℕ, zero, suc, ◌+◌, ◌<◌, ◌≤◌, Bool, false, List, [], ◌∷◌, length, take, drop, get_or, arith, if◌then◌else◌}
-use Rattle.escape_simd.proofs.Words.{nat_tests, gaps, Mode, needs_escape, passed, run_count_after, run_count}
+use Rattle.escape_simd.proofs.Words.{◌≡◌, ℕ, zero, suc, ◌+◌, ◌<◌, ◌≤◌, Bool, false, List, [], ◌∷◌, length, take, drop, get_or, arith, if◌then◌else◌, nat_tests, gaps, Mode, needs_escape, passed, run_count_after, run_count}
 use Rattle.escape_simd.proofs.Texts.{runs_after-≤, runs-here}
 
 -- no more than there are lanes

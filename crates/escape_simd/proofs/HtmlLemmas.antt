@@ -1,6 +1,5 @@
 -- Laws of HTML texts: the output reads as the text, holds no markup, and is the only one that does.
-use Rattle.std.proofs.Common.{Option, Some, None, drop, ap₂, ◌≡◌, ◌≢◌, ℕ, true, false, ◌==◌, cond, List, [], ◌∷◌, ◌++◌, length, get_or, flat_map, encode_utf8, encode_utf8_all, refl, sym, ◌∙◌, arith, inl, inr}
-use Rattle.escape_simd.proofs.Words.{IsScalar, all_scalars, AllByRecursion, AllZip, concat, nat_tests, recursion_from_All, encode_ascii, html, replacement, needs_escape, inner, plain, IsHtmlItem, entity_of, entity, HtmlReads, is_markup, IsMarkupFree, IsOnlyHtml, AmpersandsBeginEntities, take-append_seam, drop-append_seam, All-take, All-drop}
+use Rattle.escape_simd.proofs.Words.{Option, Some, None, drop, ap₂, ◌≡◌, ◌≢◌, ℕ, true, false, ◌==◌, cond, List, [], ◌∷◌, ◌++◌, length, get_or, flat_map, encode_utf8, encode_utf8_all, refl, sym, ◌∙◌, arith, inl, inr, IsScalar, all_scalars, AllByRecursion, AllZip, concat, nat_tests, recursion_from_All, encode_ascii, html, replacement, needs_escape, inner, plain, IsHtmlItem, entity_of, entity, HtmlReads, is_markup, IsMarkupFree, IsOnlyHtml, AmpersandsBeginEntities, take-append_seam, drop-append_seam, All-take, All-drop}
 use Rattle.escape_simd.specs.Html.{raw}
 use Rattle.escape_simd.proofs.SpellingLemmas.{each_flat_map, piece_cases, not_begun, Tells, Spells-flat_map, Spells-one_text}
 use Rattle.escape_simd.proofs.ReplacementLemmas.{inner_needed, inner-pieces, needs_escape_low}

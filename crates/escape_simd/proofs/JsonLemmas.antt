@@ -1,6 +1,5 @@
 -- Laws of JSON literals.
-use Rattle.std.proofs.Common.{◌≡◌, ◌≢◌, ℕ, ◌+◌, ◌-◌, ◌*◌, ◌/◌, ◌%◌, ◌<◌, ◌≤◌, ◌⊎◌, ◌==◌, cond, true, List, [], ◌∷◌, length, drop, get_or, length-append, flat_map, encode_utf8, encode_utf8_all, Option, Some, None, refl, sym, ap, subst, ◌∙◌, arith, inl, inr, le_antisymm}
-use Rattle.escape_simd.proofs.Words.{IsScalar, digit_value, digit_char, all_scalars, cases_lt, ne_eqb, nat_tests, append_cancel_right, length-encode, len_utf8_bounds, len_utf8_ascii, digit_value-digit_char, Mode, json, replacement, needs_escape, control_escape, inner, plain, quoted, IsJsonItem, raw, short, hex, pair, IsHexForm, digits, IsHexDigit, short_escape, IsLiteral, JsonDenotes, IsNotUpper, HasLowerDigits, IsLowerItem, IsLower, IsOnlyJson, Spells}
+use Rattle.escape_simd.proofs.Words.{◌≡◌, ◌≢◌, ℕ, ◌+◌, ◌-◌, ◌*◌, ◌/◌, ◌%◌, ◌<◌, ◌≤◌, ◌⊎◌, ◌==◌, cond, true, List, [], ◌∷◌, length, drop, get_or, length-append, flat_map, encode_utf8, encode_utf8_all, Option, Some, None, refl, sym, ap, subst, ◌∙◌, arith, inl, inr, le_antisymm, IsScalar, digit_value, digit_char, all_scalars, cases_lt, ne_eqb, nat_tests, append_cancel_right, length-encode, len_utf8_bounds, len_utf8_ascii, digit_value-digit_char, Mode, json, replacement, needs_escape, control_escape, inner, plain, quoted, IsJsonItem, raw, short, hex, pair, IsHexForm, digits, IsHexDigit, short_escape, IsLiteral, JsonDenotes, IsNotUpper, HasLowerDigits, IsLowerItem, IsLower, IsOnlyJson, Spells}
 use Rattle.escape_simd.proofs.SpellingLemmas.{piece_cases, not_begun, Spells-flat_map, Spells-one_text, pieces_le, Tells, only_pieces}
 use Rattle.escape_simd.proofs.ReplacementLemmas.{inner_clean, inner-pieces, hex_escape, length-replacement}
 

@@ -1,7 +1,6 @@
 -- The last bytes of a text, held with zeros behind them.
-use Rattle.std.proofs.Common.{min, ◌≡◌, ℕ, ◌+◌, ◌-◌, ◌*◌, ◌/◌, ◌<◌, ◌≤◌, Bool, true, false, List, [], ◌++◌, length, take, drop, replicate, map, refl, sym, ap, ◌∙◌, arith, append_assoc, append-nil, length-append, length-drop}
+use Rattle.escape_simd.proofs.Words.{min, ◌≡◌, ℕ, ◌+◌, ◌-◌, ◌*◌, ◌/◌, ◌<◌, ◌≤◌, Bool, true, false, List, [], ◌++◌, length, take, drop, replicate, map, refl, sym, ap, ◌∙◌, arith, append_assoc, append-nil, length-append, length-drop, append_cancel_right, drop_all, drop_at, get_or_past, none_set, length-replicate, replicate-append-replicate, drop-append-le, drop-drop, take_all, take-append-le, clear_last, Mode, script, needs_escape, bytes_of, Target, inner, escaped_count, run_count, AreTail, IsWithin, Escapes, HasRoom, HoldsFlags, IsStored, IsVectorAt, Passed, state}
 use Rattle.std.proofs.Math.Nat.{div-eq_of_lt, div-eq_of_lt-le}
-use Rattle.escape_simd.proofs.Words.{append_cancel_right, drop_all, drop_at, get_or_past, none_set, length-replicate, replicate-append-replicate, drop-append-le, drop-drop, take_all, take-append-le, clear_last, Mode, script, needs_escape, bytes_of, Target, inner, escaped_count, run_count, AreTail, IsWithin, Escapes, HasRoom, HoldsFlags, IsStored, IsVectorAt, Passed, state}
 use Rattle.escape_simd.proofs.Behind.{inner-behind, escaped-behind, get_or-behind, runs-behind}
 use Rattle.escape_simd.proofs.Lanes.{CleanFrom, get_or-clear_last, get_or-cleared_last, held-cut, held-none}
 use Rattle.escape_simd.proofs.ReplacementLemmas.{inner-nil}

@@ -1,6 +1,5 @@
 -- How long what stands for parts of a text is, and for the whole.
-use Rattle.std.proofs.Common.{◌≡◌, ℕ, zero, suc, ◌+◌, ◌-◌, ◌*◌, ◌<◌, ◌≤◌, Bool, true, false, List, [], ◌∷◌, ◌++◌, length, drop, get_or, replicate, ap, ◌∙◌, arith, rules, length-append, length-drop, inl, inr}
-use Rattle.escape_simd.proofs.Words.{cases_lt, count_by, nat_tests, first_set, none_set, clear_first, clear_last, entry_count, map, take-append-le, Mode, script, needs_escape, replacement, inner, begins_separator, passed, first_replacement, plain, quote_count, rest_length, HoldsFlags, IsFlaggedAt, IsFront, IsPartLength}
+use Rattle.escape_simd.proofs.Words.{◌≡◌, ℕ, zero, suc, ◌+◌, ◌-◌, ◌*◌, ◌<◌, ◌≤◌, Bool, true, false, List, [], ◌∷◌, ◌++◌, length, drop, get_or, replicate, ap, ◌∙◌, arith, rules, length-append, length-drop, inl, inr, cases_lt, count_by, nat_tests, first_set, none_set, clear_first, clear_last, entry_count, map, take-append-le, Mode, script, needs_escape, replacement, inner, begins_separator, passed, first_replacement, plain, quote_count, rest_length, HoldsFlags, IsFlaggedAt, IsFront, IsPartLength}
 use Rattle.escape_simd.proofs.Escapes.{entry-counts, first-alone, passed-alone}
 use Rattle.escape_simd.proofs.Lanes.{CleanFrom, held-cut, cleared-later, first-set, first_set-here, held-cleared, held-first, held-further, held-none}
 use Rattle.escape_simd.proofs.OutputLemmas.{length-plain}

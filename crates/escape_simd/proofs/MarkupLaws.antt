@@ -1,7 +1,6 @@
 -- The laws of markup. Under `#[tactic(auto, using(escape_simd::proofs::MarkupLaws::markup))]` a caller has the clause
 -- that the markup of a page is that of its template.
-use Rattle.std.proofs.Common.{Bor, ◌≡◌, ℕ, List, [], ◌∷◌, ◌++◌, flat_map, refl, append-nil, arith}
-use Rattle.escape_simd.proofs.Words.{nat_tests, html, replacement, plain, is_markup, filter-append, join_by}
+use Rattle.escape_simd.proofs.Words.{Bor, ◌≡◌, ℕ, List, [], ◌∷◌, ◌++◌, flat_map, refl, append-nil, arith, nat_tests, html, replacement, plain, is_markup, filter-append, join_by}
 unfoldable use Rattle.escape_simd.specs.Markup.{markup_of}
 
 -- the markup of joined bytes is that of the first, and then that of the second

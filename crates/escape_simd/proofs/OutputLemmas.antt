@@ -1,6 +1,5 @@
 -- The laws as calls' clauses have them.
-use Rattle.std.proofs.Common.{◌≡◌, ℕ, ◌+◌, ◌<◌, true, List, [], ◌∷◌, ◌++◌, length, IsUtf8, chars, encode_utf8, encode_utf8_all, append_assoc, refl, sym, ap, subst, ◌∙◌, arith}
-use Rattle.escape_simd.proofs.Words.{All-from_recursion, quote_count, all_scalars, IsScalar, AllByRecursion, and_parts, nat_tests, IsUtf8-append, IsUtf8-nil, IsUtf8-encode, encodes-chars, scalars-chars, Mode, json, html, script, replacement, inner, plain, quoted, quote_of, IsTextOf, JoinsTexts, IsOfOneText, HasOutputLength, flat_map-append, scalar, append-nil, IsUtf8-from_ascii, IsOnlyOutput}
+use Rattle.escape_simd.proofs.Words.{◌≡◌, ℕ, ◌+◌, ◌<◌, true, List, [], ◌∷◌, ◌++◌, length, IsUtf8, chars, encode_utf8, encode_utf8_all, append_assoc, refl, sym, ap, subst, ◌∙◌, arith, All-from_recursion, quote_count, all_scalars, IsScalar, AllByRecursion, and_parts, nat_tests, IsUtf8-append, IsUtf8-nil, IsUtf8-encode, encodes-chars, scalars-chars, Mode, json, html, script, replacement, inner, plain, quoted, quote_of, IsTextOf, JoinsTexts, IsOfOneText, HasOutputLength, flat_map-append, scalar, append-nil, IsUtf8-from_ascii, IsOnlyOutput}
 use Rattle.std.proofs.lemmas.Str.Ascii.{IsAscii-from_all}
 use Rattle.escape_simd.proofs.SpellingLemmas.{piece_cases}
 use Rattle.escape_simd.proofs.ReplacementLemmas.{IsBytewise, inner-nil, inner-past, script_cases, hex_escape}

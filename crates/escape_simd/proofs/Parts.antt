@@ -1,21 +1,5 @@
 -- A text that is appended: from registers, or part by part in place.
-use Rattle.std.proofs.Common.{◌≡◌, ℕ, suc, ◌+◌, ◌-◌, ◌*◌, ◌<◌, ◌≤◌, Bool, true, false, cond, ◌||◌, List, [], ◌∷◌, ◌++◌, length, length-drop, length-take-le, take, drop, slice_range, replicate, map, get_or, refl, sym, ap, ◌∙◌, append_assoc, arith}
-use Rattle.std.specs.List.{count_by}
-use Rattle.std.specs.Simd.Lanes.{zip2}
-use Rattle.std.proofs.Math.Seq.{take-add, take-append-add, take-append_seam}
-use Rattle.std.proofs.lemmas.Bool.{cases_Bool}
-use Rattle.std.proofs.lemmas.Bool.Decides.{nat_tests}
-use Rattle.std.proofs.lemmas.List.{append-nil, length-map, take-append-drop, take-take, take_all}
-use Rattle.std.proofs.lemmas.List.Sums.{get_or-le-sum_by}
-use Rattle.std.proofs.lemmas.Simd.{length-zip2}
-use Rattle.escape_lanes.specs.Bits.{none_set}
-use Rattle.escape_lanes.specs.Mode.{Mode}
-use Rattle.escape_lanes.specs.Replacement.{needs_escape}
-use Rattle.escape_lanes.specs.Written.{bytes_of}
-use Rattle.escape_lanes.specs.declared.simd.target.Target.{Target}
-use Rattle.escape_simd.specs.Output.{inner, quote_of}
-use Rattle.escape_simd.specs.Parts.{IsAnswer, IsFront, IsPartAt}
-use Rattle.escape_simd.specs.Stretch.{AreTail, reach}
+use Rattle.escape_simd.proofs.Words.{◌≡◌, ℕ, suc, ◌+◌, ◌-◌, ◌*◌, ◌<◌, ◌≤◌, Bool, true, false, cond, ◌||◌, List, [], ◌∷◌, ◌++◌, length, length-drop, length-take-le, take, drop, slice_range, replicate, map, get_or, refl, sym, ap, ◌∙◌, append_assoc, arith, count_by, zip2, take-add, take-append-add, take-append_seam, cases_Bool, nat_tests, append-nil, length-map, take-append-drop, take-take, take_all, get_or-le-sum_by, length-zip2, none_set, Mode, needs_escape, bytes_of, Target, inner, quote_of, IsAnswer, IsFront, IsPartAt, AreTail, reach}
 use Rattle.escape_simd.proofs.Costs.{BodySoFar}
 use Rattle.escape_simd.proofs.Lanes.{CleanFrom, clean-list, none_set-joined}
 use Rattle.escape_simd.proofs.Last.{tail-clean_back, tail-clean_front}

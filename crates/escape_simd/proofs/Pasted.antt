@@ -1,6 +1,5 @@
 -- A vector escaped in blocks, block after block.
-use Rattle.std.proofs.Common.{◌≡◌, ℕ, ◌+◌, ◌-◌, ◌*◌, ◌/◌, ◌<◌, ◌≤◌, min, Bool, true, false, cond, not, ◌&&◌, ◌||◌, List, ◌++◌, length, take, drop, map, replicate, nat_eq, get_or, refl, sym, ap, ◌∙◌, arith, length-append, length-take-le, length-drop}
-use Rattle.escape_simd.proofs.Words.{IsWithin, Tells, cases_Bool, paste, nat_tests, drop-drop, length-map, take-map, take-take, get_or-take, get_or-drop, get_or_past, bits_of, first_set, length-bits_of, Mode, bytes_of, stored_of, Target, shortened, flag_count, flagged_blocks, put_apart, IsBlock, Stretch, HasBlocks, length-replicate, count_by-le-length}
+use Rattle.escape_simd.proofs.Words.{◌≡◌, ℕ, ◌+◌, ◌-◌, ◌*◌, ◌/◌, ◌<◌, ◌≤◌, min, Bool, true, false, cond, not, ◌&&◌, ◌||◌, List, ◌++◌, length, take, drop, map, replicate, nat_eq, get_or, refl, sym, ap, ◌∙◌, arith, length-append, length-take-le, length-drop, IsWithin, Tells, cases_Bool, paste, nat_tests, drop-drop, length-map, take-map, take-take, get_or-take, get_or-drop, get_or_past, bits_of, first_set, length-bits_of, Mode, bytes_of, stored_of, Target, shortened, flag_count, flagged_blocks, put_apart, IsBlock, Stretch, HasBlocks, length-replicate, count_by-le-length}
 use Rattle.escape_simd.proofs.Lanes.{first_set-here}
 use Rattle.escape_simd.proofs.RestSteps.{rest-between}
 use Rattle.escape_simd.proofs.PutApart.{AreMarked, count-none, blocks-none, blocks-one, blocks-onward, length-put_apart, marked-apart}

@@ -1,6 +1,5 @@
 -- A text that is cut into pieces.
-use Rattle.std.proofs.Common.{◌≡◌, ℕ, ◌+◌, ◌-◌, ◌<◌, ◌≤◌, List, [], ◌∷◌, ◌++◌, length, length-drop, take, drop, slice_range, IsUtf8, chars, encode_utf8_all, sym, ap, arith, inl, inr}
-use Rattle.escape_simd.proofs.Words.{IsCharBoundary, len_utf8, take-add, cases_lt, IsUtf8-take, IsUtf8-drop, IsCharBoundary-past_char, encodes-chars, len_utf8_bounds, Mode, script, inner}
+use Rattle.escape_simd.proofs.Words.{◌≡◌, ℕ, ◌+◌, ◌-◌, ◌<◌, ◌≤◌, List, [], ◌∷◌, ◌++◌, length, length-drop, take, drop, slice_range, IsUtf8, chars, encode_utf8_all, sym, ap, arith, inl, inr, IsCharBoundary, len_utf8, take-add, cases_lt, IsUtf8-take, IsUtf8-drop, IsCharBoundary-past_char, encodes-chars, len_utf8_bounds, Mode, script, inner}
 use Rattle.escape_simd.proofs.OutputLemmas.{CanBeCutAfter, inner-append}
 
 -- a text can be cut after a text

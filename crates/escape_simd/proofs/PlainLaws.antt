@@ -1,6 +1,5 @@
 -- The laws that callers rest on, each of the plain escaping itself: of `plain mode bytes`, whatever the bytes, or of a text.
-use Rattle.std.proofs.Common.{ℕ, List, IsUtf8, chars, length, refl}
-use Rattle.escape_simd.proofs.Words.{Mode, IsEscaping, JoinsTexts, IsOfOneText, HasOutputLength, plain, IsOnlyOutput}
+use Rattle.escape_simd.proofs.Words.{ℕ, List, IsUtf8, chars, length, refl, Mode, IsEscaping, JoinsTexts, IsOfOneText, HasOutputLength, plain, IsOnlyOutput}
 use Rattle.escape_simd.proofs.EscapingLemmas.{IsEscaping-output}
 use Rattle.escape_simd.proofs.OutputLemmas.{IsUtf8-output, IsOnlyOutput-output, IsOfOneText-output, HasOutputLength-output, JoinsTexts-output}
 -- Of any bytes

@@ -1,6 +1,5 @@
 -- Eight bytes put apart are what stands for a text's bytes, and how many blocks have a flag.
-use Rattle.std.proofs.Common.{◌≡◌, ◌≢◌, ℕ, zero, suc, ◌+◌, ◌-◌, ◌*◌, ◌<◌, ◌≤◌, Bool, true, false, cond, List, [], ◌∷◌, ◌++◌, length, take, drop, map, get_or, refl, sym, ap, ◌∙◌, inl, inr, arith}
-use Rattle.escape_simd.proofs.Words.{cases_lt, drop-drop, get_or-drop, get_or-take, get_or_default, get_or_past, nat_tests, Mode, needs_escape, replacement, shortened, flag_count, flagged_blocks, put_apart, inner, escaped_count, get_or-le-sum_by, sum_by-le, sum_by-take-drop}
+use Rattle.escape_simd.proofs.Words.{◌≡◌, ◌≢◌, ℕ, zero, suc, ◌+◌, ◌-◌, ◌*◌, ◌<◌, ◌≤◌, Bool, true, false, cond, List, [], ◌∷◌, ◌++◌, length, take, drop, map, get_or, refl, sym, ap, ◌∙◌, inl, inr, arith, cases_lt, drop-drop, get_or-drop, get_or-take, get_or_default, get_or_past, nat_tests, Mode, needs_escape, replacement, shortened, flag_count, flagged_blocks, put_apart, inner, escaped_count, get_or-le-sum_by, sum_by-le, sum_by-take-drop}
 use Rattle.escape_lanes.proofs.SpreadLemmas.{count-cons}
 use Rattle.escape_simd.proofs.ReplacementLemmas.{inner-one, inner-clean_byte}
 use Rattle.escape_simd.proofs.Shortened.{KeepsClean, passed-short, short-escape}

@@ -1,6 +1,5 @@
 -- What stands for a byte, and for a character: its bytes' replacements, or the escape of a separator.
-use Rattle.std.proofs.Common.{◌≡◌, ◌≢◌, ℕ, ◌/◌, ◌%◌, ◌<◌, ◌≤◌, ◌⊎◌, true, false, List, [], ◌∷◌, ◌++◌, codes, length, get_or, drop, flat_map, encode_utf8_all, refl, append-nil, arith, inl, inr}
-use Rattle.escape_simd.proofs.Words.{encode_utf8, digit_char, AllByRecursion, encode_ascii, encode_same, cases_lt, cases_Bool, nat_tests, flat_map-append, Mode, json, script, replacement, needs_escape, begins_separator, passed, script_inner_after, inner, is_script_marked}
+use Rattle.escape_simd.proofs.Words.{◌≡◌, ◌≢◌, ℕ, ◌/◌, ◌%◌, ◌<◌, ◌≤◌, ◌⊎◌, true, false, List, [], ◌∷◌, ◌++◌, codes, length, get_or, drop, flat_map, encode_utf8_all, refl, append-nil, arith, inl, inr, encode_utf8, digit_char, AllByRecursion, encode_ascii, encode_same, cases_lt, cases_Bool, nat_tests, flat_map-append, Mode, json, script, replacement, needs_escape, begins_separator, passed, script_inner_after, inner, is_script_marked}
 use Rattle.std.specs.Int.{IsInRange}
 
 -- a byte that needs no escape stands for itself

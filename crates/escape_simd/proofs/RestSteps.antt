@@ -1,6 +1,5 @@
 -- How long the rest of a text becomes, some bytes further on.
-use Rattle.std.proofs.Common.{◌≡◌, ℕ, zero, suc, ◌+◌, ◌-◌, ◌*◌, ◌<◌, ◌≤◌, List, ◌++◌, length, drop, get_or, refl, arith, length-append, length-drop, length-take-le, slice_range}
-use Rattle.escape_simd.proofs.Words.{Mode, script, inner, passed, first_replacement, escaped_count, rest_length, run_count}
+use Rattle.escape_simd.proofs.Words.{◌≡◌, ℕ, zero, suc, ◌+◌, ◌-◌, ◌*◌, ◌<◌, ◌≤◌, List, ◌++◌, length, drop, get_or, refl, arith, length-append, length-drop, length-take-le, slice_range, Mode, script, inner, passed, first_replacement, escaped_count, rest_length, run_count}
 use Rattle.std.proofs.lemmas.List.Folds.{drop_split}
 use Rattle.escape_simd.proofs.Escapes.{passed-after}
 use Rattle.escape_simd.proofs.Lanes.{CleanFrom, clean-list}

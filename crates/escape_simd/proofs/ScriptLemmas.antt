@@ -1,6 +1,5 @@
 -- Laws of JSON literals for script elements.
-use Rattle.std.proofs.Common.{◌≡◌, ◌≢◌, ℕ, zero, suc, ◌<◌, ◌≤◌, true, false, List, [], ◌∷◌, ◌++◌, length, codes, slice_index_or, ◌⊎◌, encode_utf8_all, refl, sym, ap, subst, ◌∙◌, append_assoc, arith, inl, inr}
-use Rattle.escape_simd.proofs.Words.{get_or_append_left, IsOneLine, IsScalar, encode_utf8, all_scalars, AllByRecursion, cond_both, true≢false, nat_tests, All-from_recursion, json, script, replacement, begins_separator, script_inner_after, inner, plain, IsJsonItem, raw, short, hex, pair, digits, IsLowerItem, short_escape, is_script_marked, HasNoRawMark, IsScriptItem, IsOnlyScript, IsSafeInScript, All-weaker, All}
+use Rattle.escape_simd.proofs.Words.{◌≡◌, ◌≢◌, ℕ, zero, suc, ◌<◌, ◌≤◌, true, false, List, [], ◌∷◌, ◌++◌, length, codes, slice_index_or, ◌⊎◌, encode_utf8_all, refl, sym, ap, subst, ◌∙◌, append_assoc, arith, inl, inr, get_or_append_left, IsOneLine, IsScalar, encode_utf8, all_scalars, AllByRecursion, cond_both, true≢false, nat_tests, All-from_recursion, json, script, replacement, begins_separator, script_inner_after, inner, plain, IsJsonItem, raw, short, hex, pair, digits, IsLowerItem, short_escape, is_script_marked, HasNoRawMark, IsScriptItem, IsOnlyScript, IsSafeInScript, All-weaker, All}
 use Rattle.escape_simd.proofs.ReplacementLemmas.{script_cases, replacement-high, length-replacement}
 use Rattle.escape_simd.proofs.JsonLemmas as Json
 

@@ -1,7 +1,6 @@
 -- Bytes with a short escape, and what stands for them.
-use Rattle.std.proofs.Common.{◌≡◌, ℕ, ◌+◌, ◌*◌, ◌/◌, ◌%◌, ◌<◌, true, false, List, [], ◌∷◌, length, take, drop, map, ◌∙◌, arith}
+use Rattle.escape_simd.proofs.Words.{◌≡◌, ℕ, ◌+◌, ◌*◌, ◌/◌, ◌%◌, ◌<◌, true, false, List, [], ◌∷◌, length, take, drop, map, ◌∙◌, arith, drop-map, take-map, take-take, nat_tests, Mode, needs_escape, replacement, shortened, passed}
 use Rattle.escape_simd.proofs.Lanes.{part-later}
-use Rattle.escape_simd.proofs.Words.{drop-map, take-map, take-take, nat_tests, Mode, needs_escape, replacement, shortened, passed}
 use Rattle.escape_simd.proofs.ReplacementLemmas.{passed-one}
 
 -- a short escape is a reverse solidus and the shortened byte

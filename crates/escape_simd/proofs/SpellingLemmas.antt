@@ -1,6 +1,5 @@
 -- Laws of texts that are spelled item by item.
-use Rattle.std.proofs.Common.{◌≡◌, ◌≢◌, ◌==◌, ℕ, ◌<◌, ◌≤◌, ◌⊎◌, true, false, List, [], ◌∷◌, ◌++◌, map, flat_map, length, get_or, Option, Some, None, refl, sym, ap, ap₂, subst, ◌∙◌, length-append, arith, inl, inr, encode_utf8}
-use Rattle.escape_simd.proofs.Words.{All-from_recursion, all_scalars, IsScalar, and_parts, cases_Bool, ne_eqb, AllZip, concat, AllByRecursion, append_cancel_right, char_from_byte, encode_same, length-encode, len_utf8_bounds, Spells, Mode, needs_escape, replacement, inner, scalar, All, All-nil, All-append}
+use Rattle.escape_simd.proofs.Words.{◌≡◌, ◌≢◌, ◌==◌, ℕ, ◌<◌, ◌≤◌, ◌⊎◌, true, false, List, [], ◌∷◌, ◌++◌, map, flat_map, length, get_or, Option, Some, None, refl, sym, ap, ap₂, subst, ◌∙◌, length-append, arith, inl, inr, encode_utf8, All-from_recursion, all_scalars, IsScalar, and_parts, cases_Bool, ne_eqb, AllZip, concat, AllByRecursion, append_cancel_right, char_from_byte, encode_same, length-encode, len_utf8_bounds, Spells, Mode, needs_escape, replacement, inner, scalar, All, All-nil, All-append}
 use Rattle.escape_simd.proofs.ReplacementLemmas.{IsBytewise, inner_clean, inner_needed}
 use Rattle.std.proofs.lemmas.List.Concat.{concat_is}
 use Rattle.std.proofs.lemmas.List.Folds.{flat_map-map}

@@ -1,6 +1,5 @@
 -- Stretches of a text: one after another, of clean bytes, and of what one escape stands for.
-use Rattle.std.proofs.Common.{◌≡◌, ℕ, ◌+◌, ◌-◌, ◌*◌, ◌<◌, ◌≤◌, Bool, true, false, List, ◌++◌, length, take, drop, get_or, sym, ap, ◌∙◌, arith, append_assoc, length-append, length-take-le, length-drop, slice_range}
-use Rattle.escape_simd.proofs.Words.{paste, take-append-add, drop-drop, take-append-le, take-take, take_all, take_at, drop_at, append_cancel_right, flat_map-append, Mode, json, html, script, mode_of, needs_escape, replacement, bytes_of, stored_of, escaped_of, quotes_of, writes_of, IsSameSlice, Target, inner, passed, first_replacement, escaped_count, HasRoom, Stretch, IsStored, reach, run_reach}
+use Rattle.escape_simd.proofs.Words.{◌≡◌, ℕ, ◌+◌, ◌-◌, ◌*◌, ◌<◌, ◌≤◌, Bool, true, false, List, ◌++◌, length, take, drop, get_or, sym, ap, ◌∙◌, arith, append_assoc, length-append, length-take-le, length-drop, slice_range, paste, take-append-add, drop-drop, take-append-le, take-take, take_all, take_at, drop_at, append_cancel_right, flat_map-append, Mode, json, html, script, mode_of, needs_escape, replacement, bytes_of, stored_of, escaped_of, quotes_of, writes_of, IsSameSlice, Target, inner, passed, first_replacement, escaped_count, HasRoom, Stretch, IsStored, reach, run_reach}
 use Rattle.std.proofs.lemmas.List.Folds.{drop_split}
 use Rattle.std.proofs.lemmas.List.Edits.{take-paste, drop-paste}
 use Rattle.escape_simd.proofs.RestSteps.{rest-is, rest-between}

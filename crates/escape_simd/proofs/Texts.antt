@@ -1,6 +1,5 @@
 -- What a text still needs from a place on: its escaping, its escapes and its runs.
-use Rattle.std.proofs.Common.{◌≡◌, ℕ, zero, suc, ◌+◌, ◌-◌, ◌<◌, ◌≤◌, Bool, true, false, not, ◌&&◌, if◌then◌else◌, cond, List, [], ◌∷◌, ◌++◌, length, length-append, drop, get_or, length-drop, ◌*◌, refl, ap, ◌∙◌, arith, inl, inr}
-use Rattle.escape_simd.proofs.Words.{cases_Bool, get_or_past, nat_tests, drop-drop, drop_all, sum_by-append, prefix_len-drop_yes, prefix_len-drop_no, Mode, script, needs_escape, inner, begins_separator, passed, first_replacement, script_inner_after, escaped_count, runs_after, run_count_after, run_count, script_escapes_after, script_runs_after, run_end}
+use Rattle.escape_simd.proofs.Words.{◌≡◌, ℕ, zero, suc, ◌+◌, ◌-◌, ◌<◌, ◌≤◌, Bool, true, false, not, ◌&&◌, if◌then◌else◌, cond, List, [], ◌∷◌, ◌++◌, length, length-append, drop, get_or, length-drop, ◌*◌, refl, ap, ◌∙◌, arith, inl, inr, cases_Bool, get_or_past, nat_tests, drop-drop, drop_all, sum_by-append, prefix_len-drop_yes, prefix_len-drop_no, Mode, script, needs_escape, inner, begins_separator, passed, first_replacement, script_inner_after, escaped_count, runs_after, run_count_after, run_count, script_escapes_after, script_runs_after, run_end}
 use Rattle.std.proofs.lemmas.List.{drop_more}
 use Rattle.escape_simd.proofs.ReplacementLemmas.{inner-clean_byte, inner-nil, length-replacement}
 

@@ -1,6 +1,5 @@
 -- How far the turns of a vector have come.
-use Rattle.std.proofs.Common.{◌≡◌, ℕ, zero, suc, ◌+◌, ◌-◌, ◌<◌, ◌≤◌, Bool, true, false, true≢false, List, length, take, drop, get_or, refl, sym, subst, ◌∙◌, arith, append_assoc}
-use Rattle.escape_simd.proofs.Words.{false_from_ne_true, take-take, take-add, bytes_of, first_set, none_set, clear_first, Mode, needs_escape, stored_of, Target, run_count, run_count_after, Stretch, CanStore, Escaped, Escapes, HasRoom, HoldsFlags, IsFinished, IsFlaggedAt, IsStored, IsVectorAt, IsVectorEnd, state}
+use Rattle.escape_simd.proofs.Words.{◌≡◌, ℕ, zero, suc, ◌+◌, ◌-◌, ◌<◌, ◌≤◌, Bool, true, false, true≢false, List, length, take, drop, get_or, refl, sym, subst, ◌∙◌, arith, append_assoc, false_from_ne_true, take-take, take-add, bytes_of, first_set, none_set, clear_first, Mode, needs_escape, stored_of, Target, run_count, run_count_after, Stretch, CanStore, Escaped, Escapes, HasRoom, HoldsFlags, IsFinished, IsFlaggedAt, IsStored, IsVectorAt, IsVectorEnd, state}
 use Rattle.escape_simd.proofs.Escapes.{passed-after, reach-few}
 use Rattle.escape_simd.proofs.Texts.{first-here, next-here, one≤passed, runs_after-≤, runs_stop-here}
 use Rattle.escape_simd.proofs.Stretches.{onward_to, room-least, standing, stored_ahead, stretch-on}

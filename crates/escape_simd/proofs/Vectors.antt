@@ -1,6 +1,5 @@
 -- A vector of a text as a whole: stored where it is clean, and what blocks cost.
-use Rattle.std.proofs.Common.{◌≡◌, ℕ, ◌+◌, ◌-◌, ◌*◌, ◌/◌, ◌<◌, ◌≤◌, Bool, true, false, ◌&&◌, List, ◌++◌, length, length-drop, length-take-le, map, replicate, take, drop, get_or, refl, sym, ap, subst, ◌∙◌, arith}
-use Rattle.escape_simd.proofs.Words.{cases_Bool, drop-drop, get_or-drop, get_or-map, get_or-take, get_or-zip2, length-map, nat_tests, zip2, take-take, bits_of, flagged_blocks, gaps, length-bits_of, none_set, Mode, is_long, script, needs_escape, replacement, stored_of, Target, passed, run_count, AreShort, CanStore, Escapes, HasRoom, HasVectors, HoldsFlags, IsStored, IsVectorAt, Passed, Stretch, state}
+use Rattle.escape_simd.proofs.Words.{◌≡◌, ℕ, ◌+◌, ◌-◌, ◌*◌, ◌/◌, ◌<◌, ◌≤◌, Bool, true, false, ◌&&◌, List, ◌++◌, length, length-drop, length-take-le, map, replicate, take, drop, get_or, refl, sym, ap, subst, ◌∙◌, arith, cases_Bool, drop-drop, get_or-drop, get_or-map, get_or-take, get_or-zip2, length-map, nat_tests, zip2, take-take, bits_of, flagged_blocks, gaps, length-bits_of, none_set, Mode, is_long, script, needs_escape, replacement, stored_of, Target, passed, run_count, AreShort, CanStore, Escapes, HasRoom, HasVectors, HoldsFlags, IsStored, IsVectorAt, Passed, Stretch, state}
 use Rattle.escape_simd.proofs.Escapes.{other-byte, passed-alone}
 use Rattle.escape_simd.proofs.Gaps.{gaps-paid_mask}
 use Rattle.escape_simd.proofs.Lanes.{CleanFrom, held-shifted, held-whole, none_clean, none_set-at}

@@ -1,16 +1,6 @@
 -- A whole text: its bytes between quotes, or with none.
-use Rattle.std.proofs.Common.{◌≡◌, ℕ, ◌+◌, ◌*◌, ◌/◌, ◌≤◌, true, false, List, [], ◌++◌, length, take, drop, refl, sym, ap, ◌∙◌, arith, append_assoc, length-append, le_refl}
+use Rattle.escape_simd.proofs.Words.{◌≡◌, ℕ, ◌+◌, ◌*◌, ◌/◌, ◌≤◌, true, false, List, [], ◌++◌, length, take, drop, refl, sym, ap, ◌∙◌, arith, append_assoc, length-append, le_refl, append-nil, drop_all, Mode, json, html, script, bytes_of, Target, inner, plain, bound, quote_of, quote_count, escaped_count, run_count, Cost, Stretch, reach, IsWritten, IsFormatted, IsInnerWritten, IsQuoted, IsWrittenAt, IsOnlyOutput, IsOfOneText}
 use Rattle.std.specs.Str.{IsUtf8, chars}
-use Rattle.std.proofs.lemmas.List.{append-nil, drop_all}
-use Rattle.escape_lanes.specs.Mode.{Mode, json, html, script}
-use Rattle.escape_lanes.specs.Written.{bytes_of}
-use Rattle.escape_lanes.specs.declared.simd.target.Target.{Target}
-use Rattle.escape_simd.specs.Output.{inner, plain, bound, quote_of, quote_count}
-use Rattle.escape_simd.specs.Runs.{escaped_count, run_count}
-use Rattle.escape_simd.specs.Stretch.{Cost, Stretch, reach}
-use Rattle.escape_simd.specs.Formatted.{IsWritten, IsFormatted, IsInnerWritten, IsQuoted, IsWrittenAt}
-use Rattle.escape_simd.specs.Headline.{IsOnlyOutput}
-use Rattle.escape_simd.specs.Laws.{IsOfOneText}
 use Rattle.escape_simd.proofs.OutputLemmas.{IsOnlyOutput-output, IsOfOneText-output}
 use Rattle.escape_simd.proofs.RestSteps.{rest-is}
 use Rattle.escape_simd.proofs.Stretches.{drop_further}

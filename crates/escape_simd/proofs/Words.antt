@@ -1,5 +1,5 @@
 -- The words of these proofs, from where each is defined.
-pub use Rattle.std.proofs.Common.{Bor, Err, List, [], ap, arith, cond, drop, false, get_or, inl, inr, length, length-append, map, nat_eq, not, refl, replicate, slice_index, slice_index_or, subst, sym, take, true, vec_capacity, vec_len, ℕ, ◌*◌, ◌++◌, ◌+◌, ◌-◌, ◌/◌, ◌<◌, ◌∙◌, ◌≡◌, ◌≤◌}
+pub use Rattle.std.proofs.Common.{Bool, Bor, Err, IsUtf8, List, None, Option, Some, [], ap, append-nil, append_assoc, ap₂, arith, chars, codes, cond, drop, encode_utf8, encode_utf8_all, false, flat_map, get_or, if◌then◌else◌, inl, inr, le_antisymm, le_refl, length, length-append, length-drop, length-take-le, map, min, nat_eq, not, refl, replicate, rules, slice_index, slice_index_or, slice_range, subst, suc, sym, take, true, true≢false, vec_capacity, vec_len, zero, ℕ, ◌%◌, ◌&&◌, ◌*◌, ◌++◌, ◌+◌, ◌-◌, ◌/◌, ◌<◌, ◌==◌, ◌^◌, ◌||◌, ◌∙◌, ◌∷◌, ◌≡◌, ◌≢◌, ◌≤◌, ◌⊎◌}
 pub use Rattle.std.proofs.Math.Seq.{drop-append_seam, drop-cons, paste, take-add, take-append-add, take-append_seam}
 pub use Rattle.std.proofs.Math.Utf8.{scalar}
 pub use Rattle.std.proofs.lemmas.Bool.{agree_below, agree_below_at, and_parts, cases_Bool, cases_lt, cond_both, false_from_ne_true, ne_eqb, true_from_ne_false, true≢false}

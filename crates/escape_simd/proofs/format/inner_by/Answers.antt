@@ -1,5 +1,4 @@
-use Rattle.std.proofs.Common.{◌≡◌, ℕ, true, List, subst, rules}
-use Rattle.escape_simd.proofs.Words.{Mode, inner, reach, IsInnerWritten, IsWrittenAt}
+use Rattle.escape_simd.proofs.Words.{◌≡◌, ℕ, true, List, subst, rules, Mode, inner, reach, IsInnerWritten, IsWrittenAt}
 use Rattle.escape_simd.proofs.Whole.{inner_written}
 use Rattle.escape_simd.proofs.format.inner_by.Goals as goal
 

@@ -1,7 +1,6 @@
-use Rattle.std.proofs.Common.{arith, append_assoc, take}
+use Rattle.escape_simd.proofs.Words.{arith, append_assoc, take, ◌≡◌, ◌<◌, ◌+◌, ◌++◌, ℕ, List, Bor, append-nil, concat, flat_map-append, get_or, get_or-map, get_or_default, html, length, length-map, map, plain}
 use Rattle.std.proofs.lemmas.List.{take_more}
 use Rattle.std.proofs.lemmas.List.Folds.{concat-append}
-use Rattle.escape_simd.proofs.Words.{◌≡◌, ◌<◌, ◌+◌, ◌++◌, ℕ, List, Bor, append-nil, concat, flat_map-append, get_or, get_or-map, get_or_default, html, length, length-map, map, plain}
 use Rattle.escape_simd.proofs.html.each.escape_html_each.Goals as goal
 
 -- the bytes that a vector holds once one more text is written

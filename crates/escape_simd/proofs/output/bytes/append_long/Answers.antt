@@ -1,5 +1,4 @@
-use Rattle.std.proofs.Common.{◌+◌, ◌-◌, sym, ◌∙◌, arith}
-use Rattle.escape_simd.proofs.Words.{bits_of, mode_numbered}
+use Rattle.escape_simd.proofs.Words.{◌+◌, ◌-◌, sym, ◌∙◌, arith, bits_of, mode_numbered}
 use Rattle.escape_simd.proofs.Lanes.{held-none}
 use Rattle.escape_simd.proofs.Parts.{copied-on, front-more, front-rest}
 use Rattle.escape_simd.proofs.output.bytes.append_long.Goals as goal

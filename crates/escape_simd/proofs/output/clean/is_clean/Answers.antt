@@ -1,5 +1,4 @@
-use Rattle.std.proofs.Common.{◌≡◌, ℕ, List, length, refl, sym, ap, true≢false, arith}
-use Rattle.escape_simd.proofs.Words.{inner, mode_numbered, subst}
+use Rattle.escape_simd.proofs.Words.{◌≡◌, ℕ, List, length, refl, sym, ap, true≢false, arith, inner, mode_numbered, subst}
 use Rattle.escape_simd.proofs.Lengths.{grown-flagged, part-grown, rest-all, rest-past, same-length}
 use Rattle.escape_simd.proofs.RestSteps.{clean_rest}
 use Rattle.escape_simd.proofs.output.clean.is_clean.Goals as goal

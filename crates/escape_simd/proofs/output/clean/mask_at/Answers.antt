@@ -1,5 +1,4 @@
-use Rattle.std.proofs.Common.{◌≡◌, ◌+◌, length, sym, subst, arith}
-use Rattle.escape_simd.proofs.Words.{bits_of, mode_numbered, HoldsFlags}
+use Rattle.escape_simd.proofs.Words.{◌≡◌, ◌+◌, length, sym, subst, arith, bits_of, mode_numbered, HoldsFlags}
 use Rattle.escape_simd.proofs.Lengths.{last-held}
 use Rattle.escape_simd.proofs.Vectors.{mask-held}
 use Rattle.escape_simd.proofs.output.clean.mask_at.Goals as goal

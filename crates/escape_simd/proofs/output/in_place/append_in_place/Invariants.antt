@@ -1,6 +1,4 @@
-use Rattle.std.proofs.Common.{◌≡◌, ◌+◌, ◌*◌, ◌≤◌, ◌++◌, length, take, vec_len, vec_capacity}
-use Rattle.escape_simd.specs.Modes.{mode_numbered}
-use Rattle.escape_simd.specs.Output.{inner}
+use Rattle.escape_simd.proofs.Words.{◌≡◌, ◌+◌, ◌*◌, ◌≤◌, ◌++◌, length, take, vec_len, vec_capacity, mode_numbered, inner}
 use Rattle.escape_simd.proofs.output.in_place.append_in_place.Given as goal
 
 -- what was written and what is yet to be written stand for the text

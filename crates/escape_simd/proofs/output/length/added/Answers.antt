@@ -1,5 +1,4 @@
-use Rattle.std.proofs.Common.{false, ◌≡◌, ◌+◌, ◌≤◌, sym, ◌∙◌, arith}
-use Rattle.escape_simd.proofs.Words.{script, mode_numbered, begins_separator, drop, IsPartLength}
+use Rattle.escape_simd.proofs.Words.{false, ◌≡◌, ◌+◌, ◌≤◌, sym, ◌∙◌, arith, script, mode_numbered, begins_separator, drop, IsPartLength}
 use Rattle.escape_simd.proofs.Escapes.{is_script, not_script}
 use Rattle.escape_simd.proofs.Lengths.{added-alone, added-separator}
 use Rattle.escape_simd.proofs.output.length.added.Goals.{else-this-ge-SCRIPT_MODE-via-then-this-ge-SCRIPT_MODE+else-is_separator, else-this-ge-SCRIPT_MODE-via-else-this-ge-SCRIPT_MODE}

@@ -1,5 +1,4 @@
-use Rattle.std.proofs.Common.{◌≡◌, ◌+◌, ◌-◌, ◌<◌, ◌≤◌, ◌^◌, ℕ, List, true≢false, rules, arith}
-use Rattle.escape_simd.proofs.Words.{mode_numbered}
+use Rattle.escape_simd.proofs.Words.{◌≡◌, ◌+◌, ◌-◌, ◌<◌, ◌≤◌, ◌^◌, ℕ, List, true≢false, rules, arith, mode_numbered}
 use Rattle.escape_simd.proofs.Lengths.{part-few, plain-long, rest-past}
 use Rattle.escape_simd.proofs.RestSteps.{clean_rest}
 use Rattle.escape_simd.proofs.output.length.escaped_len.Goals as goal

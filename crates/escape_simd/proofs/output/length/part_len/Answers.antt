@@ -1,5 +1,4 @@
-use Rattle.std.proofs.Common.{◌+◌, sym, subst, ◌∙◌, arith}
-use Rattle.escape_simd.proofs.Words.{bits_of, mode_numbered}
+use Rattle.escape_simd.proofs.Words.{◌+◌, sym, subst, ◌∙◌, arith, bits_of, mode_numbered}
 use Rattle.escape_simd.proofs.Lengths.{CountedSoFar, counted-begin, counted-end, counted-few, counted-fewer, counted-first, counted-next}
 use Rattle.escape_simd.proofs.output.length.part_len.Goals as goal
 

@@ -1,9 +1,4 @@
-use Rattle.std.proofs.Common.{true, ℕ, List, length, ap, subst, rules, arith}
-use Rattle.escape_lanes.specs.Written.{bytes_of}
-use Rattle.escape_simd.specs.Formatted.{IsWrittenAt}
-use Rattle.escape_simd.specs.Modes.{mode_numbered}
-use Rattle.escape_simd.specs.Output.{inner}
-use Rattle.escape_simd.specs.Stretch.{reach}
+use Rattle.escape_simd.proofs.Words.{true, ℕ, List, length, ap, subst, rules, arith, bytes_of, IsWrittenAt, mode_numbered, inner, reach}
 use Rattle.escape_simd.proofs.Stretches.{room-six}
 use Rattle.escape_simd.proofs.Whole.{all-inner}
 use Rattle.escape_simd.proofs.simd.body.escape_at.Goals as goal

@@ -1,5 +1,4 @@
-use Rattle.std.proofs.Common.{arith}
-use Rattle.escape_simd.specs.Modes.{mode_numbered}
+use Rattle.escape_simd.proofs.Words.{arith, mode_numbered}
 use Rattle.escape_simd.proofs.Costs.{body-all, body-on, body-rest, body-vectors}
 use Rattle.escape_simd.proofs.Vectors.{escapes-asked, escapes-bordered, passed-to}
 use Rattle.escape_simd.proofs.simd.body.escape_bytes.Goals as goal

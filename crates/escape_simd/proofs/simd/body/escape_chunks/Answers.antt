@@ -1,6 +1,4 @@
-use Rattle.std.proofs.Common.{◌+◌, ◌*◌, ◌≤◌, length, ap, rules, arith}
-use Rattle.escape_lanes.specs.Written.{bytes_of}
-use Rattle.escape_simd.specs.Modes.{mode_numbered}
+use Rattle.escape_simd.proofs.Words.{◌+◌, ◌*◌, ◌≤◌, length, ap, rules, arith, bytes_of, mode_numbered}
 use Rattle.escape_simd.proofs.Costs.{body-on}
 use Rattle.escape_simd.proofs.Parts.{part-escaped}
 use Rattle.escape_simd.proofs.Stretches.{room-six, stretch-on}

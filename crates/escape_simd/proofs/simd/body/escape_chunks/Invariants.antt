@@ -1,5 +1,4 @@
-use Rattle.std.proofs.Common.{◌-◌, ◌≤◌, length}
-use Rattle.escape_simd.specs.Modes.{mode_numbered}
+use Rattle.escape_simd.proofs.Words.{◌-◌, ◌≤◌, length, mode_numbered}
 use Rattle.escape_simd.proofs.Costs.{BodySoFar}
 use Rattle.escape_simd.proofs.simd.body.escape_chunks.Given as goal
 

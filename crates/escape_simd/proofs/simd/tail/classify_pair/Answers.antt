@@ -1,5 +1,4 @@
-use Rattle.std.proofs.Common.{ℕ, List, ◌++◌, false, replicate, length, ◌-◌, ◌∙◌, ap, arith}
-use Rattle.escape_simd.proofs.Words.{bits_of, mode_numbered}
+use Rattle.escape_simd.proofs.Words.{ℕ, List, ◌++◌, false, replicate, length, ◌-◌, ◌∙◌, ap, arith, bits_of, mode_numbered}
 use Rattle.escape_simd.proofs.Last.{last-pair}
 use Rattle.escape_simd.proofs.Vectors.{mask-held}
 use Rattle.escape_simd.proofs.simd.tail.classify_pair.Goals as goal

@@ -1,5 +1,4 @@
-use Rattle.std.proofs.Common.{◌++◌, false, replicate, ◌-◌, ◌∙◌, ap}
-use Rattle.escape_simd.proofs.Words.{bits_of, mode_numbered}
+use Rattle.escape_simd.proofs.Words.{◌++◌, false, replicate, ◌-◌, ◌∙◌, ap, bits_of, mode_numbered}
 use Rattle.escape_simd.proofs.Last.{last-mask, last-short}
 use Rattle.escape_simd.proofs.simd.tail.classify_short.Goals as goal
 

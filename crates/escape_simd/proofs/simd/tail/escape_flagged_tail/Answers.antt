@@ -1,5 +1,4 @@
-use Rattle.std.proofs.Common.{Bool, min}
-use Rattle.escape_simd.proofs.Words.{◌≡◌, ◌+◌, ◌-◌, ◌*◌, ◌∙◌, ◌++◌, true, false, ℕ, List, length, drop, take, replicate, ap, sym, subst, arith, bits_of, bytes_of, mode_numbered, HoldsFlags, reach}
+use Rattle.escape_simd.proofs.Words.{Bool, min, ◌≡◌, ◌+◌, ◌-◌, ◌*◌, ◌∙◌, ◌++◌, true, false, ℕ, List, length, drop, take, replicate, ap, sym, subst, arith, bits_of, bytes_of, mode_numbered, HoldsFlags, reach}
 use Rattle.escape_simd.proofs.Lanes.{held-shifted}
 use Rattle.escape_simd.proofs.Last.{last-all, last-vector, tail-rows, within-tail}
 use Rattle.escape_simd.proofs.Stretches.{room-on}

@@ -1,5 +1,4 @@
-use Rattle.std.proofs.Common.{◌≡◌, ℕ, List, true, ◌+◌, ◌-◌, ◌∙◌, length, length-drop, drop, replicate, ap, sym, subst, arith}
-use Rattle.escape_simd.proofs.Words.{mode_numbered, take-append_seam, take_all, Escapes, reach, state}
+use Rattle.escape_simd.proofs.Words.{◌≡◌, ℕ, List, true, ◌+◌, ◌-◌, ◌∙◌, length, length-drop, drop, replicate, ap, sym, subst, arith, mode_numbered, take-append_seam, take_all, Escapes, reach, state}
 use Rattle.escape_simd.proofs.Last.{one-begun, tail-clean_back, tail-clean_front, two-begun, two-clean}
 use Rattle.escape_simd.proofs.Lanes.{within-all}
 use Rattle.escape_simd.proofs.Stretches.{room-least}

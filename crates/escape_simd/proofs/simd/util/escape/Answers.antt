@@ -1,5 +1,4 @@
-use Rattle.std.proofs.Common.{◌≡◌, ℕ, ◌+◌, true, false, ◌==◌, List, length, take, drop, get_or, codes, if◌then◌else◌, refl, sym, ap, ◌∙◌, arith}
-use Rattle.escape_simd.proofs.Words.{script, entry_count, padded, mode_numbered, begins_separator, passed, first_replacement}
+use Rattle.escape_simd.proofs.Words.{◌≡◌, ℕ, ◌+◌, true, false, ◌==◌, List, length, take, drop, get_or, codes, if◌then◌else◌, refl, sym, ap, ◌∙◌, arith, script, entry_count, padded, mode_numbered, begins_separator, passed, first_replacement}
 use Rattle.escape_simd.proofs.ReplacementLemmas.{length-replacement}
 use Rattle.escape_simd.proofs.Stretches.{escaped_unit, ended}
 use Rattle.escape_simd.proofs.Escapes.{entry-counts, entry-front, entry-long, first-alone, is_script, not_script, third-at, third-inside, passed-alone}

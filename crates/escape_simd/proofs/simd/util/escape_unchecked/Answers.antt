@@ -1,5 +1,4 @@
-use Rattle.std.proofs.Common.{true, false}
-use Rattle.std.proofs.lemmas.Bool.{ne_eqb}
+use Rattle.escape_simd.proofs.Words.{true, false, ne_eqb}
 use Rattle.escape_simd.proofs.Stretches.{stretch-written, stretch-end}
 use Rattle.escape_simd.proofs.simd.util.escape_unchecked.Goals as goal
 

@@ -1,8 +1,4 @@
-use Rattle.std.proofs.Common.{ℕ, List, true, length, ap, subst, arith}
-use Rattle.escape_lanes.specs.Written.{bytes_of}
-use Rattle.escape_simd.specs.Modes.{mode_numbered}
-use Rattle.escape_simd.specs.Formatted.{IsFormatted}
-use Rattle.escape_simd.specs.Stretch.{reach}
+use Rattle.escape_simd.proofs.Words.{ℕ, List, true, length, ap, subst, arith, bytes_of, mode_numbered, IsFormatted, reach}
 use Rattle.escape_simd.proofs.Stretches.{room-six, stretch-on}
 use Rattle.escape_simd.proofs.Whole.{whole_formatted, bound-quotes, quote-short}
 use Rattle.escape_simd.proofs.simd.whole.format.Goals as goal

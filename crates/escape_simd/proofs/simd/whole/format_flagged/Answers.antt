@@ -1,9 +1,4 @@
-use Rattle.std.proofs.Common.{◌++◌, ℕ, List, true, rules, subst, ap, length, arith}
-use Rattle.escape_lanes.specs.Written.{bytes_of}
-use Rattle.escape_simd.specs.Formatted.{IsWrittenAt}
-use Rattle.escape_simd.specs.Modes.{mode_numbered}
-use Rattle.escape_simd.specs.Output.{inner, quote_of}
-use Rattle.escape_simd.specs.Stretch.{reach}
+use Rattle.escape_simd.proofs.Words.{◌++◌, ℕ, List, true, rules, subst, ap, length, arith, bytes_of, IsWrittenAt, mode_numbered, inner, quote_of, reach}
 use Rattle.escape_simd.proofs.Stretches.{room-six, stretch-on}
 use Rattle.escape_simd.proofs.Whole.{all-inner, written-onward}
 use Rattle.escape_simd.proofs.simd.whole.format_flagged.Goals as goal

@@ -1,5 +1,4 @@
-use Rattle.std.proofs.Common.{ℕ, List, true, length, ap, sym, subst, rules, arith}
-use Rattle.escape_simd.proofs.Words.{bytes_of, mode_numbered, quote_of, reach, IsWritten, IsWrittenAt}
+use Rattle.escape_simd.proofs.Words.{ℕ, List, true, length, ap, sym, subst, rules, arith, bytes_of, mode_numbered, quote_of, reach, IsWritten, IsWrittenAt}
 use Rattle.escape_simd.proofs.Stretches.{room-six, stretch-on}
 use Rattle.escape_simd.proofs.Whole.{bound-quotes, quote-short, quoted-before, target_written, written-laws}
 use Rattle.escape_simd.proofs.simd.whole.format_in_mode.Goals as goal

@@ -1,7 +1,4 @@
-use Rattle.std.proofs.Common.{ℕ, List, subst, rules}
-use Rattle.escape_lanes.specs.Written.{bytes_of}
-use Rattle.escape_simd.specs.Formatted.{IsWritten}
-use Rattle.escape_simd.specs.Modes.{mode_numbered}
+use Rattle.escape_simd.proofs.Words.{ℕ, List, subst, rules, bytes_of, IsWritten, mode_numbered}
 use Rattle.escape_simd.proofs.simd.whole.format_slice.Goals as goal
 
 pub returns : goal.returns

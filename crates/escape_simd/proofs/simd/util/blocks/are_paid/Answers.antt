@@ -1,6 +1,4 @@
-use Rattle.std.proofs.Common.{arith, take}
-use Rattle.std.proofs.lemmas.List.{length-take-le}
-use Rattle.escape_simd.proofs.Words.{◌≡◌, ◌<◌, ℕ, bits_of, first_set, false, get_or_past, none_set, length-bits_of}
+use Rattle.escape_simd.proofs.Words.{arith, take, length-take-le, ◌≡◌, ◌<◌, ℕ, bits_of, first_set, false, get_or_past, none_set, length-bits_of}
 use Rattle.escape_simd.proofs.Gaps.{gaps-most}
 use Rattle.escape_simd.proofs.Lanes.{first_set-here}
 use Rattle.escape_simd.proofs.PutApart.{blocks-most, blocks-some}

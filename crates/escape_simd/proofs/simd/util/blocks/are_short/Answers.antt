@@ -1,5 +1,4 @@
-use Rattle.std.proofs.Common.{◌≡◌, ◌∙◌, Bool, true, false, not, refl, sym, ap}
-use Rattle.escape_simd.proofs.Words.{◌+◌, ◌-◌, arith, bits_of, length-bits_of, mode_numbered}
+use Rattle.escape_simd.proofs.Words.{◌≡◌, ◌∙◌, Bool, true, false, not, refl, sym, ap, ◌+◌, ◌-◌, arith, bits_of, length-bits_of, mode_numbered}
 use Rattle.escape_simd.proofs.Vectors.{short-lanes}
 use Rattle.escape_simd.proofs.simd.util.blocks.are_short.Goals as goal
 

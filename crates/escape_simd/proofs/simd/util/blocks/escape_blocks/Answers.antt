@@ -1,5 +1,4 @@
-use Rattle.std.proofs.Common.{ℕ, List, false, ◌≡◌, ◌+◌, ◌-◌, ◌*◌, ◌/◌, ◌≤◌, take, drop, rules, refl, ap, subst, ◌∙◌, length, arith}
-use Rattle.escape_simd.proofs.Words.{length-drop, length-map, length-take-le, shortened, asked_of, flag_count, flagged_blocks, bits_of, IsWithin}
+use Rattle.escape_simd.proofs.Words.{ℕ, List, false, ◌≡◌, ◌+◌, ◌-◌, ◌*◌, ◌/◌, ◌≤◌, take, drop, rules, refl, ap, subst, ◌∙◌, length, arith, length-drop, length-map, length-take-le, shortened, asked_of, flag_count, flagged_blocks, bits_of, IsWithin}
 use Rattle.escape_simd.proofs.Lanes.{part-later}
 use Rattle.escape_simd.proofs.Pasted.{block-told, blocks-next, done-stored, done-stretch, done-ticks, first-valid, next-room}
 use Rattle.escape_simd.proofs.Shortened.{block-half}

@@ -69,11 +69,7 @@ module _ (mode : Mode) (text : List ℕ) (k : ℕ) where
           writes = s.writes;
         };
         passed = passed-to mode text (length text);
-        cost = record {
-          stored = omega (arith, e.cost.stored, u, u1, u2);
-          covered = e.cost.covered;
-          classified = omega (arith, e.cost.classified, u, u1, u2);
-        };
+        cost = omega (arith, e.cost, u, u1, u2);
       }
 
 -- two clean vectors that may have some of the same bytes
@@ -88,7 +84,7 @@ two-clean {mode = mode} {slack = slack} {n = n} {text = text} {old = old} {mid =
     record {
       stretch = onward_to slack first (ended rest (omega (arith, inside)) (omega (arith, inside))) (omega (arith, few, inside)) (omega arith);
       passed = passed-to mode text (length text);
-      cost = record { stored = omega (arith, s1.stored, s2.stored, same); covered = omega (arith, s1.stored, s2.stored); classified = omega (arith, same) };
+      cost = omega (arith, s1.stored, s2.stored, same);
     }
 
 -- A short text by its masks
@@ -148,27 +144,15 @@ last-mask mode n text lanes truths whole bits narrow few long loaded flagged all
 
 -- it is a short text
 pub last-short : {mode : Mode} {n : ℕ} {text : List ℕ} {none bits : List Bool} {first_asked last_asked : List ℕ} → length text < n → HoldsFlags mode text 0 (length text) 0 bits → last_asked ≡ text → AreTail mode n text none bits first_asked last_asked
-last-short {n = n} {text = text} few held asked =
+last-short {n = n} {text = text} {last_asked = last_asked} few held asked =
     let start : length text - n ≡ 0 = omega (arith, few) in
-    record {
-      few = omega (arith, few);
-      front = λ more. absurd (omega (arith, more, few));
-      back = grind arith;
-      front_asked = λ more. absurd (omega (arith, more, few));
-      back_asked = asked ∙ sym (ap (λ k. drop k text) start);
-    }
+    let whole : last_asked ≡ drop (length text - n) text = asked ∙ sym (ap (λ k. drop k text) start) in grind arith
 
 -- and so is one of a vector and more
 pub last-pair : {mode : Mode} {n : ℕ} {text : List ℕ} {first last : List Bool} {first_asked last_asked : List ℕ} → n ≤ length text → length text < 2 * n → HoldsFlags mode text 0 n 0 first → HoldsFlags mode text (length text - n) n (length text - n) last
     → first_asked ≡ take n text → last_asked ≡ take n (drop (length text - n) text) → AreTail mode n text first last first_asked last_asked
 last-pair {n = n} {text = text} inside few held1 held2 asked1 asked2 =
-    record {
-      few = few;
-      front = λ more. held1;
-      back = grind arith;
-      front_asked = λ more. asked1;
-      back_asked = asked2 ∙ take_all n (drop (length text - n) text) (omega (arith, length-drop (length text - n) text));
-    }
+    let whole = take_all n (drop (length text - n) text) (omega (arith, length-drop (length text - n) text)) in grind arith
 
 -- what is left of a text's last vector is among the bytes for which a classifier answered
 pub within-tail : (text rows whole : List ℕ) (border next k : ℕ) → rows ≡ drop next text ++ zeros k → whole ≡ drop border text → border ≤ next → next ≤ length text → IsWithin (take (length text - next) rows) whole

@@ -9,12 +9,7 @@ use Rattle.escape_simd.proofs.Turns.{ahead-front, ahead-passed, ahead-runs}
 
 -- just up to a border
 pub passed-to : (mode : Mode) (src : List ℕ) (border : ℕ) → Passed mode src border border
-passed-to mode src border = record {
-  whole = omega arith;
-  near = omega arith;
-  exact = λ bytewise. refl;
-  clean = λ p late early. absurd (omega (arith, late, early));
-}
+passed-to mode src border = grind arith
 
 -- clean bytes that were stored are passed
 pub clean-stored : {N : ℕ} (mode : Mode) (slack : ℕ) (src : List ℕ) (old new : Target N) (at valid to : ℕ) → at + valid ≤ length src → CleanFrom mode src at (at + valid) → IsStored slack src old new at valid to
@@ -31,11 +26,7 @@ vector-clean mode slack src old new at valid to ticks inside clean s =
     record {
       stretch = clean-stored mode slack src old new at valid to inside clean s;
       passed = passed-to mode src (at + valid);
-      cost = record {
-        stored = omega (arith, s.stored, same);
-        covered = omega (arith, s.stored);
-        classified = omega (arith, same);
-      };
+      cost = omega (arith, s.stored, same);
     }
 
 -- one stretch of vectors, and then the next
@@ -44,11 +35,7 @@ pub escapes-onward : {N : ℕ} {mode : Mode} {slack border border2 v1 v2 a1 a2 :
 escapes-onward a b = record {
   stretch = onward a.stretch b.stretch;
   passed = b.passed;
-  cost = record {
-    stored = omega (arith, a.cost.stored, b.cost.stored);
-    covered = omega (arith, a.cost.covered, b.cost.covered);
-    classified = omega (arith, a.cost.classified, b.cost.classified);
-  };
+  cost = omega (arith, a.cost, b.cost);
 }
 
 -- the same from, to and past places that are equal
@@ -69,15 +56,7 @@ escapes-ended {N} {mode} {slack} {border} {b} {vectors} {asked} {src} {old} {new
 -- the vectors that were classified before, counted with them
 pub escapes-asked : {N : ℕ} {mode : Mode} {slack border vectors : ℕ} {src : List ℕ} {old new : Target N} {at next to end t1 t2 : ℕ} (t0 asked : ℕ)
     → t1 ≡ t0 + asked → Escapes mode slack border vectors asked src (state old at to t1) (state new next end t2) → Escapes mode slack border vectors 0 src (state old at to t0) (state new next end t2)
-escapes-asked t0 asked e s = record {
-  stretch = s.stretch;
-  passed = s.passed;
-  cost = record {
-    stored = s.cost.stored;
-    covered = omega (arith, e, s.cost.covered);
-    classified = omega (arith, e, s.cost.classified);
-  };
-}
+escapes-asked t0 asked e s = record { stretch = s.stretch; passed = s.passed; cost = omega (arith, e, s.cost) }
 
 -- what escaped a text from a place on, as a text of its own
 pub escapes-later : {N : ℕ} {mode : Mode} {slack border vectors asked : ℕ} {old new : Target N} {next to end t0 t1 : ℕ} (src text : List ℕ) (at : ℕ) → text ≡ drop at src → at ≤ length src
@@ -95,11 +74,7 @@ escapes-later {N} {mode} {slack} {border} {vectors} {asked} {old} {new} {next} {
             let e2 : at + (i - at) ≡ i = omega (arith, late) in
             ap (needs_escape mode) (ap (λ k. get_or src k 0) (sym e2) ∙ sym (get_or-drop at src (i - at) 0)) ∙ p.clean (i - at) (omega (arith, late)) (omega (arith, early, late));
       };
-      cost = record {
-        stored = omega (arith, e.cost.stored, u);
-        covered = e.cost.covered;
-        classified = omega (arith, e.cost.classified, u);
-      };
+      cost = omega (arith, e.cost, u);
     }
 
 -- a mask of a text's bytes from a place on, as one of a text of their own
@@ -180,9 +155,5 @@ vector-blocks {N} mode slack src old new at valid to end size flags ticks_old ti
     record {
       stretch = widened slack far s;
       passed = passed-to mode src (at + valid);
-      cost = record {
-        stored = omega (arith, stored, paid, runs);
-        covered = omega (arith, stored, ticks);
-        classified = omega (arith, ticks, paid, runs);
-      };
+      cost = omega (arith, stored, ticks, paid, runs);
     }

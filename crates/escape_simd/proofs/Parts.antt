@@ -22,23 +22,11 @@ pub part-escaped : {N : ℕ} {mode : Mode} {src bytes : List ℕ} {old new : Tar
     → IsPartAt mode (reach true N) src bytes (bytes_of new) at to end
 part-escaped {N} {mode} {src} {bytes} {old} {new} {at} {to} {end} so_far is fits on =
     let s = so_far.stretch in let most = stretch-on s in
-    record {
-      forward = on;
-      inside = s.inside;
-      most = omega (arith, most);
-      fits = omega (arith, fits, s.same_slice.len, ap length is);
-      limit = grind (arith, rest-is, s.limit);
-      bytes = grind (arith, s.bytes);
-      kept = grind (arith, rest-is, s.limit, s.kept);
-    }
+    grind (arith, rest-is, most, s.same_slice.len)
 
 -- a clean front of a text, and a stretch more
 pub front-more : (mode : Mode) (src : List ℕ) (at end n : ℕ) → IsFront mode src at end → end + n ≤ length src → CleanFrom mode src end (end + n) → IsFront mode src at (end + n)
-front-more mode src at end n front inside clean = record {
-  forward = omega (arith, front.forward);
-  inside = inside;
-  clean = λ k after before. grind (arith, clean, front.clean);
-}
+front-more mode src at end n front inside clean = grind (arith, clean, front.clean)
 
 -- bytes of a text that were appended, and more of them
 pub copied-on : (text old items new : List ℕ) (at n m : ℕ) → items ≡ old ++ take at text → m ≡ n → new ≡ items ++ take m (drop at text) → new ≡ old ++ take (at + n) text
@@ -81,10 +69,7 @@ none-counted f xs none k h = let a = get_or-le-sum_by (λ y. cond (f y) 1 0) xs 
 
 -- an answer is right that says no of no clean text
 pub answered : (mode : Mode) (src : List ℕ) (at next : ℕ) (answer : Bool) → (answer ≡ true → CleanFrom mode src at next) → (CleanFrom mode src 0 (length src) → answer ≡ true) → IsAnswer mode src at next answer
-answered mode src at next answer clean whole = record {
-  clean = clean;
-  flagged = λ told. grind (arith, none-counted, whole);
-}
+answered mode src at next answer clean whole = grind (arith, none-counted, whole)
 
 -- no lane of clean bytes is set
 clean_none : (mode : Mode) (xs : List ℕ) → IsClean mode xs → none_set (map (needs_escape mode) xs) ≡ true
@@ -106,10 +91,7 @@ vector-answer mode src at n inside truths is =
 
 -- the answers for two stretches, the second no further on than where the first ends, as one
 answer-joined : (mode : Mode) (src : List ℕ) (at mid i to : ℕ) (a b all : List Bool) → length a ≡ length b → i ≤ mid → all ≡ zip2 ◌||◌ a b → IsAnswer mode src at mid (none_set a) → IsAnswer mode src i to (none_set b) → IsAnswer mode src at to (none_set all)
-answer-joined mode src at mid i to a b all same on is p q = record {
-  clean = λ none k after before. grind (arith, none_set-joined, p.clean, q.clean);
-  flagged = λ some. grind (arith, none_set-both, p.flagged, q.flagged, cases_Bool);
-}
+answer-joined mode src at mid i to a b all same on is p q = grind (arith, none_set-joined, none_set-both, p.clean, q.clean, p.flagged, q.flagged, cases_Bool)
 
 -- as many flags as a vector has lanes
 flags-long : (mode : Mode) (n : ℕ) (src : List ℕ) (at : ℕ) (truths : List Bool) → at + n ≤ length src → truths ≡ map (needs_escape mode) (take n (drop at src)) → length truths ≡ n

@@ -52,14 +52,8 @@ written-onward {slack} {slack2} {first} {second} {old} {mid} {new} {to} {i} {end
 pub whole_written : (lanes : ℕ) (mode : Mode) (text old new : List ℕ) (count : ℕ) → IsWrittenAt (reach true lanes) (plain mode text) old new 0 count → IsWritten lanes mode text old new count
 whole_written lanes mode text old new count at =
     let most = length-inner mode text in let long = length-plain mode text in let further = drop_further new old (count + reach true lanes) in
-    record {
-      exact = at.written;
-      ends = omega (arith, at.ends);
-      least = omega (arith, at.ends, most, long);
-      most = omega (arith, at.ends, most, long);
-      kept_bound = further (bound mode (length text)) (omega (arith, at.ends, most, long, two_quotes mode, bound-quotes mode (length text))) at.kept;
-      kept_past = further (count + lanes) (omega arith) at.kept;
-    }
+    let kept = further (bound mode (length text)) (omega (arith, at.ends, most, long, two_quotes mode, bound-quotes mode (length text))) at.kept in
+    let past = further (count + lanes) (omega arith) at.kept in grind arith
 
 -- what stands for a text and its last quotation mark, behind the first one
 pub quoted-before : {lanes : ℕ} {mode : Mode} {text old mid new : List ℕ} {opened count : ℕ} → IsWrittenAt (reach true lanes) (inner mode text ++ quote_of mode) mid new opened count → IsWrittenAt 0 (quote_of mode) old mid 0 opened → IsWritten lanes mode text old new count
@@ -101,14 +95,7 @@ module _ {N : ℕ} {mode : Mode} {text : List ℕ} {old first second new : Targe
 pub inner_written : (lanes : ℕ) (mode : Mode) (text old new : List ℕ) (count : ℕ) → IsWrittenAt (reach true lanes) (inner mode text) old new 0 count → IsInnerWritten lanes mode text old new count
 inner_written lanes mode text old new count at =
     let most = length-inner mode text in let further = drop_further new old (count + reach true lanes) in
-    record {
-      exact = at.written;
-      ends = omega (arith, at.ends);
-      least = omega (arith, at.ends, most);
-      most = omega (arith, at.ends, most);
-      kept_bound = further (6 * length text + 32) (omega (arith, at.ends, most)) at.kept;
-      kept_past = further (count + lanes) (omega arith) at.kept;
-    }
+    let kept = further (6 * length text + 32) (omega (arith, at.ends, most)) at.kept in let past = further (count + lanes) (omega arith) at.kept in grind arith
 
 -- what is said of an output that was written
 pub written-laws : {lanes : ℕ} {mode : Mode} {text old new : List ℕ} {count : ℕ} → IsWritten lanes mode text old new count → IsUtf8 text

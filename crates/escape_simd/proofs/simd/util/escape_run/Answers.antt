@@ -45,19 +45,9 @@ pub returns-then-entry-eq0 : goal.returns-then-entry-eq0
 returns-then-entry-eq0 g c =
     let mode = mode_numbered g.row.MODE in let inv = c.run.invariant in
     let clean = uncounted mode (get_or c.args.src.now c.run.next 0) c.entry.result.now.0 c.entry.ensures.count c.if-entry-eq0.true in
-    record {
-      stretch = inv.stretch;
-      place = sym (run_end-stop mode c.args.src.now c.run.next c.run-test.true clean) ∙ inv.place;
-      escaped = inv.escaped;
-      stored = inv.stored;
-    }
+    let stop = run_end-stop mode c.args.src.now c.run.next c.run-test.true clean in grind arith
 
 pub returns : goal.returns
 returns g c =
     let inv = c.run.invariant in
-    record {
-      stretch = inv.stretch;
-      place = sym (run_end-end (mode_numbered g.row.MODE) c.args.src.now c.run.next (omega (arith, c.run-test.false))) ∙ inv.place;
-      escaped = inv.escaped;
-      stored = inv.stored;
-    }
+    let stop = run_end-end (mode_numbered g.row.MODE) c.args.src.now c.run.next (omega (arith, c.run-test.false)) in grind arith

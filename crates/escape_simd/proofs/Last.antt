@@ -56,18 +56,10 @@ module _ (mode : Mode) (text : List ℕ) (k : ℕ) where
       let written : take end (bytes_of new) ≡ take to (bytes_of old) ++ inner mode text =
       append_cancel_right (take end (bytes_of new)) (take to (bytes_of old) ++ inner mode text) (inner mode (zeros k))
       (ap (λ xs. take end (bytes_of new) ++ xs) (sym past) ∙ s.bytes ∙ ap (λ xs. take to (bytes_of old) ++ xs) cut ∙ sym (append_assoc (take to (bytes_of old)) (inner mode text) (inner mode (zeros k)))) in
+      let limit = rest-is mode held (length text) ∙ ap length past in let front = rest-is mode text 0 in
+      let bytes = ap (λ xs. take end (bytes_of new) ++ xs) (ap (inner mode) none ∙ inner-nil mode) ∙ append-nil (take end (bytes_of new)) ∙ written in
       record {
-        stretch = record {
-          same_slice = s.same_slice;
-          forward = omega arith;
-          inside = omega arith;
-          limit = omega (arith, s.limit, r0, rest-is mode held (length text) ∙ ap length past, rest-is mode text 0, q1);
-          bytes = ap (λ xs. take end (bytes_of new) ++ xs) (ap (inner mode) none ∙ inner-nil mode) ∙ append-nil (take end (bytes_of new)) ∙ written;
-          kept = s.kept;
-          escaped = omega (arith, s.escaped, c, c1, c2);
-          quotes = s.quotes;
-          writes = s.writes;
-        };
+        stretch = grind arith;
         passed = passed-to mode text (length text);
         cost = omega (arith, e.cost, u, u1, u2);
       }

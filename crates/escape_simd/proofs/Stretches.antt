@@ -122,17 +122,7 @@ stretch-later {N} {mode} {slack} {old} {new} {next} {to} {end} src at inside s =
     let there : drop next (drop at src) ≡ drop (at + next) src = drop-drop next at src in let count = length-drop at src in
     let r0 = rest-is mode (drop at src) 0 in let r1 = rest-is mode (drop at src) next ∙ ap (λ xs. length (inner mode xs)) there in
     let q0 = rest-is mode src at in let q1 = rest-is mode src (at + next) in let c = ap (escaped_count mode) there in
-    record {
-      same_slice = s.same_slice;
-      forward = omega arith;
-      inside = omega (arith, s.inside, count, inside);
-      limit = omega (arith, s.limit, r0, r1, q0, q1);
-      bytes = ap (λ xs. take end (bytes_of new) ++ inner mode xs) (sym there) ∙ s.bytes;
-      kept = s.kept;
-      escaped = omega (arith, s.escaped, c);
-      quotes = s.quotes;
-      writes = s.writes;
-    }
+    let bytes = ap (λ xs. take end (bytes_of new) ++ inner mode xs) (sym there) ∙ s.bytes in grind arith
 
 -- in the modes that go byte by byte, what stands for bytes is cut where they are
 inner-cut : (is_html : Bool) (xs ys : List ℕ) → inner (mode_of is_html) (xs ++ ys) ≡ inner (mode_of is_html) xs ++ inner (mode_of is_html) ys

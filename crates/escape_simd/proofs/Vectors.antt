@@ -66,14 +66,7 @@ escapes-later {N} {mode} {slack} {border} {vectors} {asked} {old} {new} {next} {
     let p = e.passed in let u = ap (run_count mode) (drop-drop next at src) in
     record {
       stretch = stretch-later src at inside e.stretch;
-      passed = record {
-        whole = omega (arith, p.whole);
-        near = omega (arith, p.near);
-        exact = λ bytewise. ap (λ k. at + k) (p.exact bytewise);
-        clean = λ i late early.
-            let e2 : at + (i - at) ≡ i = omega (arith, late) in
-            ap (needs_escape mode) (ap (λ k. get_or src k 0) (sym e2) ∙ sym (get_or-drop at src (i - at) 0)) ∙ p.clean (i - at) (omega (arith, late)) (omega (arith, early, late));
-      };
+      passed = grind (arith, get_or-drop, p);
       cost = omega (arith, e.cost, u);
     }
 

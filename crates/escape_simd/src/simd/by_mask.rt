@@ -4,7 +4,7 @@ ghost use Rattle.escape_lanes.specs.Bits.{bits_of, none_set};
 ghost use Rattle.escape_lanes.specs.Classified.{asked_of, IsWithin, Tells};
 ghost use Rattle.escape_lanes.specs.Written.{bytes_of};
 ghost use Rattle.escape_simd.specs.Modes.{mode_numbered};
-ghost use Rattle.escape_simd.specs.Stretch.{CanStore, Escapes, IsByteWise, IsFinished, IsStored, IsVectorAt, IsVectorEnd, reach, state};
+ghost use Rattle.escape_simd.specs.Stretch.{CanStore, Escapes, IsFinished, IsStored, IsVectorAt, IsVectorEnd, reach, state};
 
 use crate::simd::store::store;
 use crate::simd::util::{are_paid, are_short, escape, escape_blocks};
@@ -137,18 +137,9 @@ pub(crate) fn escape_by_mask<V: Vector<N>, const MODE: u8, const N: usize, const
         to,
         ticks,
     );
-    (past_border::<MODE>(at + valid, at + passed), end)
-}
-
-/// Returns the place after a vector that ends at `border`: `next` in script mode, and the border in the other modes, where
-/// both are the same. So the next vector's address does not depend on this one's bytes.
-#[inline(always)]
-fn past_border<const MODE: u8>(border: usize, next: usize) -> usize
-    requires { IsByteWise (mode_numbered MODE) → next ≡ border }
-    ensures { result ≡ next }
-{
     if SCRIPT_MODE <= MODE {
-        return next;
+        return (at + passed, end);
     }
-    border
+    // Both places are the same. By this one the next vector's address does not depend on this one's bytes.
+    (at + valid, end)
 }

@@ -1,8 +1,9 @@
-use Rattle.escape_simd.proofs.Words.{◌+◌, ◌-◌, ◌∙◌, ℕ, not, nat_eq, List, length, length-drop, take, drop, sym, subst, arith, take_all, bits_of, bytes_of, mode_numbered, asked_of, Escapes, HasBlocks, IsWithin, reach, state}
+use Rattle.escape_simd.proofs.Words.{◌+◌, ◌-◌, ◌∙◌, ℕ, Bool, not, nat_eq, List, length, length-drop, take, drop, refl, sym, subst, arith, take_all, bits_of, bytes_of, mode_numbered, asked_of, Escapes, HasBlocks, IsVectorAt, IsWithin, Mode, Target, reach, state}
 use denote.Param.{number, value_of}
+use Rattle.escape_simd.proofs.Escapes.{bytewise-below}
 use Rattle.escape_simd.proofs.Lanes.{held-none}
 use Rattle.escape_simd.proofs.Stretches.{reach-bounds, room-near}
-use Rattle.escape_simd.proofs.Vectors.{escapes-later, vector-blocks, vector-clean, vector-later, vector-stores}
+use Rattle.escape_simd.proofs.Vectors.{escapes-ended, escapes-later, vector-blocks, vector-clean, vector-later, vector-stores}
 use Rattle.escape_simd.proofs.simd.by_mask.escape_by_mask.Goals as goal
 
 pub store-requires : goal.store-requires
@@ -39,9 +40,15 @@ escape_by_turns-passed-requires g c =
     let is = take_all (length src - at) (drop at src) (omega (arith, length-drop at src)) in
     (omega arith, (subst (λ xs. IsWithin (take c.args.valid xs) (asked_of c.args.classified)) (sym is) c.requires.classified, (vector-later (mode_numbered g.row.MODE) g.row.N (reach (not (nat_eq (value_of (number g.row.LAST)) 0)) g.row.N) src (take (length src - at) (drop at src)) at c.args.valid c.args.to (length (bytes_of c.args.target.now)) (bits_of 64 c.args.mask) is c.requires.vector, sym c.all_zero.ensures ∙ c.if-all_zero.false)))
 
+-- the first bytes of a text, as they were escaped as a text of their own
+by-turns : {N : ℕ} {mode : Mode} {slack valid size : ℕ} {src : List ℕ} {at to end t0 t1 passed : ℕ} {bits : List Bool} {old new : Target N} → IsVectorAt mode N slack src at valid to size bits
+    → Escapes mode slack valid 1 1 (take (length src - at) (drop at src)) (state old 0 to t0) (state new passed end t1) → Escapes mode slack (at + valid) 1 1 src (state old at to t0) (state new (at + passed) end t1)
+by-turns {src = src} {at = at} v e = escapes-later src (take (length src - at) (drop at src)) at (take_all (length src - at) (drop at src) (omega (arith, length-drop at src))) (omega (arith, v.inside)) e
+
+pub returns-then-this-ge-SCRIPT_MODE : goal.returns-then-this-ge-SCRIPT_MODE
+returns-then-this-ge-SCRIPT_MODE g c = by-turns c.requires.vector c.escape_by_turns-passed.ensures
+
 pub returns : goal.returns
 returns g c =
-    let mode = mode_numbered g.row.MODE in let src : List ℕ = c.args.src.now in let at : ℕ = c.args.at in let v = c.requires.vector in
-    let is = take_all (length src - at) (drop at src) (omega (arith, length-drop at src)) in
-    subst (λ k. Escapes mode (reach (not (nat_eq (value_of (number g.row.LAST)) 0)) g.row.N) (at + c.args.valid) 1 1 src (state c.args.target.now at c.args.to c.args.ticks.now) (state c.escape_by_turns-passed.new.target k c.escape_by_turns-passed.result.1 c.escape_by_turns-passed.new.ticks)) (sym c.past_border.ensures)
-    (escapes-later src (take (length src - at) (drop at src)) at is (omega (arith, v.inside)) c.escape_by_turns-passed.ensures)
+    let e = by-turns c.requires.vector c.escape_by_turns-passed.ensures in
+    escapes-ended refl (e.passed.exact (bytewise-below g.row.MODE c.if-this-ge-SCRIPT_MODE.false)) refl e

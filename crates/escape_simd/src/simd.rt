@@ -17,6 +17,5 @@ pub(crate) mod whole;
 pub(crate) use body::{escape_at, escape_chunks};
 pub use escape_lanes::simd::vector::{HTML_MODE, JSON_MODE, SCRIPT_MODE};
 pub use escape_lanes::simd::{BitMask, Flags, LoadLast, Mask, Simd, Vector, bits, target};
-pub(crate) use store::load_short;
 pub(crate) use tail::{classify_pair, classify_short};
 pub(crate) use whole::format_flagged;

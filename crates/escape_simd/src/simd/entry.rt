@@ -25,16 +25,13 @@ pub(crate) fn entry<const MODE: u8>(b: u8) -> &'static (u8, [u8; 8])
     }
 }
 
-/// The byte with which each separator begins, and other characters.
-pub(crate) const SEPARATOR_LEAD: u8 = 0xe2;
-
 /// Returns whether a separator begins at `at`: e2 80 a8 or e2 80 a9.
 #[inline(always)]
 pub(crate) fn is_separator(src: &[u8], at: usize) -> bool
     requires { at < length src.now }
     ensures { result ≡ begins_separator (drop at src.now) }
 {
-    if src[at] != SEPARATOR_LEAD {
+    if src[at] != 0xe2 {
         return false;
     }
     if src.len() - at < 3 {

@@ -30,6 +30,14 @@ pass() { passed=$((passed + 1)) && echo "passed $1"; }
 fail() { failed=$((failed + 1)) && echo "failed $1"; }
 skip() { skipped=$((skipped + 1)) && echo "skipped $1"; }
 
+# prints NAME WANTED COMMAND..: counts whether the command ends well and prints what is wanted.
+prints() {
+  local output
+  output=$("${@:3}" 2>&1) && [ "$output" = "$2" ] && pass "$1" && return
+  fail "$1"
+  printf '  it printed %s\n' "$output"
+}
+
 # Prints the counts, and fails where something failed.
 summary() {
   if [ "$skipped" = 0 ]; then
@@ -49,8 +57,17 @@ add_counts() {
   skipped=$((skipped + ${BASH_REMATCH[4]:-0}))
 }
 
+# Sets room to a new folder, which is removed at the end.
+make_room() {
+  room=$(mktemp -d) || exit 3
+  trap 'rm -rf "$room"' EXIT
+}
+
 # has COMMAND: whether it is there.
 has() { command -v "$1" >/dev/null; }
+
+# has_headers PYTHON: whether it is there with its headers, for a wheel.
+has_headers() { "$1" -c 'import os, sysconfig; os.stat(sysconfig.get_path("include") + "/Python.h")' 2>/dev/null; }
 
 # set_crates [NAMES]: sets crates to these crates and those that they stand on, or to all, lowest first. It starts no
 # process.

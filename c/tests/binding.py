@@ -401,8 +401,7 @@ def test_refused_memory():
 COUNTED = r"""
 import sys, escape_simd
 def blocks(call, text):
-    # Python itself keeps some blocks when its code is warm.
-    for _ in range(200):
+    for _ in range(3):
         attempt(call, text)
     before = sys.getallocatedblocks()
     for _ in range(200):

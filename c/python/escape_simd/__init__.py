@@ -30,12 +30,12 @@ class Markup(str):
 
 
 def _text(name, text, as_str=False):
-    """Returns the text of an object as a str or bytes: as a str if it is one or if that is wanted."""
+    """Returns the text of an object as a str if it is one or if that is wanted, else as bytes."""
     if issubclass(type(text), str):
         return str.__str__(text)
     try:
-        # A copy: another thread could change the object.
-        text = bytes(memoryview(text))
+        # A copy, unless it is bytes: another thread could change the object.
+        text = text if type(text) is bytes else bytes(memoryview(text))
     except TypeError:
         raise TypeError("%s() takes a str or bytes, not %s" % (name, type(text).__name__)) from None
     return text.decode() if as_str else text
@@ -60,5 +60,5 @@ def _script(text, /, *, markup=False):
     return Markup(output) if markup else output
 
 
-# The calls go to these where they have more than a str or bytes themselves.
+# The calls in C are for a str or bytes alone. With other arguments they call these.
 _escape._json, _escape._html, _escape._script = _json, _html, _script

@@ -46,24 +46,29 @@ static void measure(struct output *output, const char *piece, size_t count) {
     output->size += count - following;
 }
 
-/* Writes a piece. The masks drop the bits that say how many bytes a character has. */
-static void put(struct output *output, const char *piece, size_t count) {
-    const char *end = piece + count;
-    size_t at = output->size;
-    if (output->greatest < 0x80) {
-        memcpy(output->data + at, piece, count);
-        output->size += count;
-        return;
-    }
+/* Writes the characters of UTF-8 from the index `at` on. Returns the index after them. The masks
+ * drop the bits that say how many bytes a character has. */
+static inline size_t decode(int kind, void *data, size_t at, const char *piece, const char *end) {
     for (; piece < end; at++) {
         unsigned char first = (unsigned char)*piece++;
         Py_UCS4 c = first;
         if (first >= 0x80) c = (c & 0x1f) << 6 | (*piece++ & 0x3f);
         if (first >= 0xe0) c = c << 6 | (*piece++ & 0x3f);
         if (first >= 0xf0) c = (c & 0x7fff) << 6 | (*piece++ & 0x3f);
-        PyUnicode_WRITE(output->kind, output->data, at, c);
+        PyUnicode_WRITE(kind, data, at, c);
     }
-    output->size = at;
+    return at;
+}
+
+/* Writes a piece. Each kind has a loop of its own. */
+static void put(struct output *output, const char *piece, size_t count) {
+    const char *end = piece + count;
+    size_t at = output->size;
+    output->size = at + count;
+    if (output->greatest < 0x80) memcpy(output->data + at, piece, count);
+    else if (output->kind == 1) output->size = decode(1, output->data, at, piece, end);
+    else if (output->kind == 2) output->size = decode(2, output->data, at, piece, end);
+    else output->size = decode(4, output->data, at, piece, end);
 }
 
 /* Escapes the text, and measures or writes each piece. Returns whether the text is UTF-8. */
@@ -139,7 +144,7 @@ static PyObject *call_with(
     if (count == 1 && !names && (PyUnicode_CheckExact(*arguments) || PyBytes_CheckExact(*arguments))) {
         return escape(mode, *arguments);
     }
-    others = PyObject_GetAttrString(module, mode->others);
+    others = PyMapping_GetItemString(PyModule_GetDict(module), mode->others);
     output = others ? PyObject_Vectorcall(others, arguments, (size_t)count, names) : NULL;
     Py_XDECREF(others);
     return output;

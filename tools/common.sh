@@ -1,4 +1,4 @@
-# What the scripts share: help, counts, the list of crates, levels and builds. Read by them, and not run by itself.
+# What the scripts share: --help, counts, the list of crates, levels and builds. Read by them, and not run by itself.
 # It sets top, the checkout's folder, and script, the script that reads it.
 
 [ -n "${BASH_VERSION-}" ] || { echo "${0##*/}: it needs bash: run $0 itself, or bash $0" >&2; exit 3; }
@@ -20,6 +20,8 @@ usage() {
   help >&2
   exit 2
 }
+
+[ "${1-}" != --help ] || { help; exit; }
 
 # The version of the library and the program.
 version() { awk '/^#define ESCAPE_VERSION_(MAJOR|MINOR|PATCH) / { printf "%s%s", dot, $3; dot = "." }' "$top/c/escape.h"; }
@@ -140,10 +142,11 @@ find_rt() {
     say "the proofs are for Rattle's logic $logic, and rt version prints: $found. They may fail here"
 }
 
-# Waits until no other call builds. Its file is closed by unlock.
+# lock NEED: waits until no other call builds, and says what is needed where that can't be written. Its file is closed by
+# unlock.
 lock() {
   if ! { mkdir -p "$top/.build" && true >>"$top/.build/lock"; } 2>/dev/null; then
-    say "it has to prove and build first, which writes to $top/.build and to $top/crates/*/out, and it can't write there"
+    say "$1, and it can't write there"
     return 1
   fi
   exec 9>>"$top/.build/lock"
@@ -176,7 +179,7 @@ build() {
   built=$top/.build/$1-$2
   set_crates "$1"
   is_fresh "$built" "${crates[@]}" && return
-  find_rt && lock || return
+  find_rt && lock "it has to prove and build first, which writes to $top/.build and to $top/crates/*/out" || return
   # Another call may have built it meanwhile. That call's file is closed before the program runs.
   is_fresh "$built" "${crates[@]}" || build_anew "$1" "$2"
   set -- $?

@@ -142,8 +142,8 @@ find_rt() {
     say "the proofs are for Rattle's logic $logic, and rt version prints: $found. They may fail here"
 }
 
-# lock NEED: waits until no other call builds, and says what is needed where that can't be written. Its file is closed by
-# unlock.
+# lock NEED: waits until no other call builds, and says what is needed where that can't be written. Closing the file 9
+# ends it.
 lock() {
   if ! { mkdir -p "$top/.build" && true >>"$top/.build/lock"; } 2>/dev/null; then
     say "$1, and it can't write there"
@@ -154,8 +154,6 @@ lock() {
   say "waiting for the build that another call began"
   flock 9
 }
-
-unlock() { exec 9>&-; }
 
 # is_fresh BUILD CRATE..: whether the build is there, and no source of the crates is newer. Folders
 # count, for files that were removed.
@@ -175,16 +173,16 @@ is_fresh() {
 # source, and sets built to its file. Says on standard error how far it is, and what disk was taken. What an interrupted
 # call has proved is kept.
 build() {
-  local crates
+  local crates status=0
   built=$top/.build/$1-$2
   set_crates "$1"
   is_fresh "$built" "${crates[@]}" && return
   find_rt && lock "it has to prove and build first, which writes to $top/.build and to $top/crates/*/out" || return
-  # Another call may have built it meanwhile. That call's file is closed before the program runs.
-  is_fresh "$built" "${crates[@]}" || build_anew "$1" "$2"
-  set -- $?
-  unlock
-  return "$1"
+  # Another call may have built it meanwhile.
+  is_fresh "$built" "${crates[@]}" || build_anew "$1" "$2" || status=$?
+  # The lock isn't kept while the program runs.
+  exec 9>&-
+  return "$status"
 }
 
 # The build gets the time at which it began, so that a later edit outdates it.

@@ -23,8 +23,10 @@ usage() {
 
 [ "${1-}" != --help ] || { help; exit; }
 
-# The version of the library and the program.
-version() { awk '/^#define ESCAPE_VERSION_(MAJOR|MINOR|PATCH) / { printf "%s%s", dot, $3; dot = "." }' "$top/c/escape.h"; }
+# version [HEADER]: the version of the library and the program, which a header has.
+version() {
+  awk '/^#define ESCAPE_VERSION_(MAJOR|MINOR|PATCH) / { printf "%s%s", dot, $3; dot = "." } END { print "" }' "${1:-$top/c/escape.h}"
+}
 
 # What a script of tests counts, and its last line.
 passed=0 failed=0 skipped=0
@@ -68,8 +70,19 @@ make_room() {
 # has COMMAND: whether it is there.
 has() { command -v "$1" >/dev/null; }
 
-# has_headers PYTHON: whether it is there with its headers, for a wheel.
-has_headers() { "$1" -c 'import os, sysconfig; os.stat(sysconfig.get_path("include") + "/Python.h")' 2>/dev/null; }
+# makes_wheels PYTHON: whether it is there with its headers, and a C compiler. has_pip PYTHON: whether it has pip.
+makes_wheels() {
+  has "$(compiler_for C x86-64-v2)" &&
+    "$1" -c 'import os, sysconfig; os.stat(sysconfig.get_path("include") + "/Python.h")' 2>/dev/null
+}
+has_pip() { "$1" -m pip --version >/dev/null 2>&1; }
+
+# pip_install PYTHON FOLDER WHAT: installs a wheel, or a package's folder, into the folder alone, with what is on this
+# machine.
+pip_install() {
+  PIP_NO_INDEX=1 PIP_DISABLE_PIP_VERSION_CHECK=1 PIP_ROOT_USER_ACTION=ignore PYTHONDONTWRITEBYTECODE=1 \
+    "$1" -m pip install --quiet --no-build-isolation --no-deps --target "$2" "$3"
+}
 
 # set_crates [NAMES]: sets crates to these crates and those that they stand on, or to all, lowest first. It starts no
 # process.

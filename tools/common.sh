@@ -1,4 +1,4 @@
-# What the scripts share: help, counts, the list of crates, levels and builds. Read by them, and not run by itself.
+# What the scripts share: --help, counts, the list of crates, levels and builds. Read by them, and not run by itself.
 # It sets top, the checkout's folder, and script, the script that reads it.
 
 [ -n "${BASH_VERSION-}" ] || { echo "${0##*/}: it needs bash: run $0 itself, or bash $0" >&2; exit 3; }
@@ -21,14 +21,26 @@ usage() {
   exit 2
 }
 
-# The version of the library and the program.
-version() { awk '/^#define ESCAPE_VERSION_(MAJOR|MINOR|PATCH) / { printf "%s%s", dot, $3; dot = "." }' "$top/c/escape.h"; }
+[ "${1-}" != --help ] || { help; exit; }
+
+# version [HEADER]: the version of the library and the program, which a header has.
+version() {
+  awk '/^#define ESCAPE_VERSION_(MAJOR|MINOR|PATCH) / { printf "%s%s", dot, $3; dot = "." } END { print "" }' "${1:-$top/c/escape.h}"
+}
 
 # What a script of tests counts, and its last line.
 passed=0 failed=0 skipped=0
 pass() { passed=$((passed + 1)) && echo "passed $1"; }
 fail() { failed=$((failed + 1)) && echo "failed $1"; }
 skip() { skipped=$((skipped + 1)) && echo "skipped $1"; }
+
+# prints NAME WANTED COMMAND..: counts whether the command ends well and prints what is wanted.
+prints() {
+  local output
+  output=$("${@:3}" 2>&1) && [ "$output" = "$2" ] && pass "$1" && return
+  fail "$1"
+  printf '  it printed %s\n' "$output"
+}
 
 # Prints the counts, and fails where something failed.
 summary() {
@@ -49,8 +61,28 @@ add_counts() {
   skipped=$((skipped + ${BASH_REMATCH[4]:-0}))
 }
 
+# Sets room to a new folder, which is removed at the end.
+make_room() {
+  room=$(mktemp -d) || exit 3
+  trap 'rm -rf "$room"' EXIT
+}
+
 # has COMMAND: whether it is there.
 has() { command -v "$1" >/dev/null; }
+
+# makes_wheels PYTHON: whether it is there with its headers, and a C compiler. has_pip PYTHON: whether it has pip.
+makes_wheels() {
+  has "$(compiler_for C x86-64-v2)" &&
+    "$1" -c 'import os, sysconfig; os.stat(sysconfig.get_path("include") + "/Python.h")' 2>/dev/null
+}
+has_pip() { "$1" -m pip --version >/dev/null 2>&1; }
+
+# pip_install PYTHON FOLDER WHAT: installs a wheel, or a package's folder, into the folder alone, with what is on this
+# machine.
+pip_install() {
+  PIP_NO_INDEX=1 PIP_DISABLE_PIP_VERSION_CHECK=1 PIP_ROOT_USER_ACTION=ignore PYTHONDONTWRITEBYTECODE=1 \
+    "$1" -m pip install --quiet --no-build-isolation --no-deps --target "$2" "$3"
+}
 
 # set_crates [NAMES]: sets crates to these crates and those that they stand on, or to all, lowest first. It starts no
 # process.
@@ -123,10 +155,11 @@ find_rt() {
     say "the proofs are for Rattle's logic $logic, and rt version prints: $found. They may fail here"
 }
 
-# Waits until no other call builds. Its file is closed by unlock.
+# lock NEED: waits until no other call builds, and says what is needed where that can't be written. Closing the file 9
+# ends it.
 lock() {
   if ! { mkdir -p "$top/.build" && true >>"$top/.build/lock"; } 2>/dev/null; then
-    say "it has to prove and build first, which writes to $top/.build and to $top/crates/*/out, and it can't write there"
+    say "$1, and it can't write there"
     return 1
   fi
   exec 9>>"$top/.build/lock"
@@ -134,8 +167,6 @@ lock() {
   say "waiting for the build that another call began"
   flock 9
 }
-
-unlock() { exec 9>&-; }
 
 # is_fresh BUILD CRATE..: whether the build is there, and no source of the crates is newer. Folders
 # count, for files that were removed.
@@ -155,16 +186,16 @@ is_fresh() {
 # source, and sets built to its file. Says on standard error how far it is, and what disk was taken. What an interrupted
 # call has proved is kept.
 build() {
-  local crates
+  local crates status=0
   built=$top/.build/$1-$2
   set_crates "$1"
   is_fresh "$built" "${crates[@]}" && return
-  find_rt && lock || return
-  # Another call may have built it meanwhile. That call's file is closed before the program runs.
-  is_fresh "$built" "${crates[@]}" || build_anew "$1" "$2"
-  set -- $?
-  unlock
-  return "$1"
+  find_rt && lock "it has to prove and build first, which writes to $top/.build and to $top/crates/*/out" || return
+  # Another call may have built it meanwhile.
+  is_fresh "$built" "${crates[@]}" || build_anew "$1" "$2" || status=$?
+  # The lock isn't kept while the program runs.
+  exec 9>&-
+  return "$status"
 }
 
 # The build gets the time at which it began, so that a later edit outdates it.

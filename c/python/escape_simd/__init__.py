@@ -29,5 +29,36 @@ class Markup(str):
         return self
 
 
-# With markup=True the calls return it.
-_escape.Markup = Markup
+def _text(name, text, as_str=False):
+    """Returns the text of an object as a str if it is one or if that is wanted, else as bytes."""
+    if issubclass(type(text), str):
+        return str.__str__(text)
+    try:
+        # A copy, unless it is bytes: another thread could change the object.
+        text = text if type(text) is bytes else bytes(memoryview(text))
+    except TypeError:
+        raise TypeError("%s() takes a str or bytes, not %s" % (name, type(text).__name__)) from None
+    return text.decode() if as_str else text
+
+
+def _json(text, /):
+    return json(_text("json", text))
+
+
+def _html(text, /, *, markup=False):
+    if hasattr(text, "__html__"):
+        output = text.__html__()
+        if not isinstance(output, str):
+            raise TypeError("__html__() returned %s, not a str" % type(output).__name__)
+    else:
+        output = html(_text("html", text, markup))
+    return Markup(output) if markup else output
+
+
+def _script(text, /, *, markup=False):
+    output = script(_text("script", text, markup))
+    return Markup(output) if markup else output
+
+
+# The calls in C are for a str or bytes alone. With other arguments they call these.
+_escape._json, _escape._html, _escape._script = _json, _html, _script

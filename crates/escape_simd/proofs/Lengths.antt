@@ -76,9 +76,7 @@ module _ (mode : Mode) (src : List ℕ) (at valid : ℕ) (inside : at + valid �
     module _ (some : none_set bits ≡ false) (f : ℕ) (is : f ≡ first_set bits) where
       -- the next one is a flagged byte of the part
       pub counted-first : IsFlaggedAt mode src (at + f) × (f < valid)
-      counted-first =
-          let first = first-set mode src at valid so_far.next bits so_far.flags some in
-          (record { inside = omega (arith, first.0, is, inside); needed = ap (λ k. needs_escape mode (get_or src (at + k) 0)) is ∙ first.1 }, omega (arith, first.0, is))
+      counted-first = grind (arith, first-set mode src at valid so_far.next bits so_far.flags some)
 
       -- one more
       pub counted-next : (more : ℕ) → IsPartLength mode src (at + f) (at + f + 1) (more + 1) → CountedSoFar mode src at valid (len + more) (clear_first (first_set bits + 1) bits)

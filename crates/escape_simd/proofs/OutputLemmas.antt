@@ -88,8 +88,7 @@ CanBeCutAfter mode first = Unit {0}
 -- what stands for the bytes of a text, and for bytes after them
 inner-text : (mode : Mode) (text rest : List ℕ) → inner mode (encode_utf8_all text ++ rest) ≡ inner mode (encode_utf8_all text) ++ inner mode rest
 inner-text mode [] rest = rw (inner-nil mode) refl
-inner-text mode (c ∷ cs) rest =
-    rw (append_assoc, inner-past mode c (encode_utf8_all cs ++ rest), inner-text mode cs rest, inner-past mode c (encode_utf8_all cs), append_assoc) refl
+inner-text mode (c ∷ cs) rest = grind (arith, append_assoc, inner-past, inner-text mode cs rest)
 
 -- what stands for two byte lists joined
 pub inner-append : (mode : Mode) (bytes first second : List ℕ) → bytes ≡ first ++ second → CanBeCutAfter mode first → inner mode bytes ≡ inner mode first ++ inner mode second

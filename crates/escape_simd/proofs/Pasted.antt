@@ -97,10 +97,7 @@ module _ {mode : Mode} {src : List ℕ} (f : ℕ) {at valid to size : ℕ} (h : 
 
     -- the mask tells of them
     pub block-told : Tells mode (take valid (drop at src)) bits (8 * block) (min valid (8 * block + 8))
-    block-told k later few =
-        let t = h.flags.set k in let u = h.flags.unset k in
-        let there : get_or (take valid (drop at src)) k 0 ≡ get_or src (at + k) 0 = get_or-take valid (drop at src) k 0 (omega (arith, few)) ∙ get_or-drop at src k 0 in
-        grind (arith, cases_Bool)
+    block-told k later few = grind (arith, cases_Bool, get_or-take, get_or-drop, h.flags.set k, h.flags.unset k)
 
     -- and there is room for a block
     pub next-room : p + 16 ≤ length (bytes_of mid)
@@ -151,10 +148,10 @@ module _ {mode : Mode} {src : List ℕ} (f : ℕ) {at valid to size : ℕ} (h : 
     -- no block after it has a flag
     pub done-stored : stored_of new + flagged_blocks 8 bits ≡ stored_of old + (valid + 7) / 8
     done-stored =
+        let left : List Bool = drop (8 * blocks) bits in
+        let none = count-none left (λ i s. absurd (let t = h.flags.set (8 * blocks + i) (sym (get_or-drop (8 * blocks) bits i false) ∙ s) in omega (arith, t, over))) in
         let all : blocks + (8 - blocks) ≡ 8 = omega (arith, d.few, h.few) in
-        let none = blocks-none (8 - blocks) (drop (8 * blocks) bits) (count-none (drop (8 * blocks) bits) (λ i s. absurd (let t = h.flags.set (8 * blocks + i) (sym (get_or-drop (8 * blocks) bits i false) ∙ s) in omega (arith, t, over)))) in
-        let parts = rw all at (blocks-onward blocks (8 - blocks) bits) in
-        omega (arith, d.stored, d.few, over, none, parts)
+        omega (arith, d.stored, d.few, over, blocks-none (8 - blocks) left none, rw all at (blocks-onward blocks (8 - blocks) bits))
 
     -- each of them but the first was classified
     pub done-ticks : {own : List ℕ} {used : Bool} {ticks_old ticks_new : ℕ} → BlocksSoFar mode src bits old new at valid to end blocks own used ticks_old ticks_new → ticks_new ≡ ticks_old + ((valid + 7) / 8 - (flagged_blocks 8 bits + 1))

@@ -35,10 +35,7 @@ blocks-most (suc n) flags = let rest = blocks-most n (drop 8 flags) in grind (ar
 pub blocks-none : (n : ℕ) (flags : List Bool) → flag_count flags ≡ 0 → flagged_blocks n flags ≡ 0
 unfolding flagged_blocks
 blocks-none zero flags none = refl
-blocks-none (suc n) flags none =
-    let parts = sum_by-take-drop (λ b. cond b 1 0) flags 8 in
-    let here : flag_count (take 8 flags) ≡ 0 = omega (arith, parts, none) in
-    rw here (omega (arith, blocks-none n (drop 8 flags) (omega (arith, parts, none))))
+blocks-none (suc n) flags none = grind (arith, nat_tests, sum_by-take-drop (λ b. cond b 1 0) flags 8, blocks-none n (drop 8 flags))
 
 -- one at least where a lane is
 pub blocks-some : (n k : ℕ) (flags : List Bool) → k < 8 * n → get_or flags k false ≡ true → 1 ≤ flagged_blocks n flags

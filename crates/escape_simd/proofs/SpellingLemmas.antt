@@ -77,10 +77,6 @@ module _ (Item : List ℕ → ℕ → Type 0) (read : List ℕ → Option ℕ ×
   only_pieces P Q p q f least only (i ∷ is) (j ∷ js) (c ∷ cs) h k also small =
       let rest = (apart i j (concat is) (concat js) c c (p i c h.0) (q j c k.0) also).1 in
       let same : i ≡ j = append_cancel_right i j (concat js) (cc) in
-      let long = pieces_le P f least is cs h.1 in
-      let sizes : (length i ≡ length (f c)) × (length (concat is) ≤ length (flat_map f cs)) =
-      (omega (arith, length-append {A = ℕ}, least i c h.0), omega (arith, length-append {A = ℕ}, least i c h.0)) in
-      let tail = only_pieces P Q p q f least only is js cs h.1 k.1 rest sizes.1 in
-      let head = only j c k.0 (sym (ap length same) ∙ sizes.0) in
-      cc
+      let sizes : (length i ≡ length (f c)) × (length (concat is) ≤ length (flat_map f cs)) = omega (arith, length-append {A = ℕ}, least i c h.0, pieces_le P f least is cs h.1) in
+      cc (only_pieces P Q p q f least only is js cs h.1 k.1 rest sizes.1, only j c k.0 (sym (ap length same) ∙ sizes.0))
   only_pieces P Q p q f least only is js cs h k also small = grind arith

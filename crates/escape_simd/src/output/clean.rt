@@ -11,23 +11,23 @@ ghost use Rattle.escape_simd.specs.Stretch.{HoldsFlags, rest_length};
 
 use crate::output::length::added;
 use crate::output::{N, V};
-use crate::simd::{flags_at, load_last};
-use escape_lanes::simd::classify::flags;
+use crate::simd::load_last;
+use escape_lanes::simd::classify::{classify, flags};
 use escape_lanes::simd::lane_bits::clear_first_lane;
 use escape_lanes::simd::target::Ticks;
 use escape_lanes::simd::{BitMask, Flags};
 
 /// Returns whether no byte of four vectors of the text from `at` on is flagged.
 #[inline(always)]
-pub(super) fn is_clean_chunk<const MODE: u8>(src: &[u8], at: usize) -> bool
+fn is_clean_chunk<const MODE: u8>(src: &[u8], at: usize) -> bool
     requires { at + 4 * N ≤ length src.now }
     ensures { IsAnswer (mode_numbered MODE) src.now at (at + 4 * N) result }
 {
     let mut ticks = Ticks::new();
-    let flags1 = flags_at::<V, MODE, N>(src, at, &mut ticks);
-    let flags2 = flags_at::<V, MODE, N>(src, at + N, &mut ticks);
-    let flags3 = flags_at::<V, MODE, N>(src, at + 2 * N, &mut ticks);
-    let flags4 = flags_at::<V, MODE, N>(src, at + 3 * N, &mut ticks);
+    let (flags1, _) = classify::<V, MODE, N>(src, at, &mut ticks);
+    let (flags2, _) = classify::<V, MODE, N>(src, at + N, &mut ticks);
+    let (flags3, _) = classify::<V, MODE, N>(src, at + 2 * N, &mut ticks);
+    let (flags4, _) = classify::<V, MODE, N>(src, at + 3 * N, &mut ticks);
     flags1.join(&flags2).join(&flags3.join(&flags4)).none()
 }
 
@@ -41,7 +41,7 @@ pub(super) fn mask_at<const MODE: u8>(src: &[u8], at: usize, count: usize) -> u6
 {
     let mut ticks = Ticks::new();
     if count == N {
-        return flags_at::<V, MODE, N>(src, at, &mut ticks).bits();
+        return classify::<V, MODE, N>(src, at, &mut ticks).0.bits();
     }
     let flags = flags::<V, MODE, N>(&load_last::<V, N>(src, count), &mut ticks).bits();
     flags.clear_high_bits(64 - count)

@@ -5,4 +5,4 @@ use Rattle.escape_simd.proofs.output.clean.is_clean_chunk.Goals as goal
 pub returns : goal.returns
 returns g c =
     subst (IsAnswer (mode_numbered g.row.MODE) c.args.src.now c.args.at (c.args.at + 128)) (sym c.none.ensures)
-    (chunk-answer (mode_numbered g.row.MODE) c.args.src.now c.args.at 32 c.requires _ _ _ _ _ _ _ c.flags_at-flags1.ensures.flagged c.flags_at-flags2.ensures.flagged c.flags_at-flags3.ensures.flagged c.flags_at-flags4.ensures.flagged c.join.ensures c.join-2.ensures c.join-3.ensures)
+    (chunk-answer (mode_numbered g.row.MODE) c.args.src.now c.args.at 32 c.requires _ _ _ _ _ _ _ c.classify-flags1.ensures.flagged c.classify-flags2.ensures.flagged c.classify-flags3.ensures.flagged c.classify-flags4.ensures.flagged c.join.ensures c.join-2.ensures c.join-3.ensures)

@@ -8,7 +8,7 @@ pub returns-then-count-eq-N : goal.returns-then-count-eq-N
 returns-then-count-eq-N g c =
     let whole : c.args.count ≡ 32 = omega (arith, c.if-count-eq-N.true) in
     subst (λ n. HoldsFlags (mode_numbered g.row.MODE) c.args.src.now c.args.at n c.args.at (bits_of 64 c.bits.result)) (sym whole)
-    (mask-held (mode_numbered g.row.MODE) 32 c.args.src.now c.args.at _ (bits_of 64 c.bits.result) (omega arith) (omega (arith, c.requires.inside, whole)) c.flags_at.ensures.flagged c.bits.ensures)
+    (mask-held (mode_numbered g.row.MODE) 32 c.args.src.now c.args.at _ (bits_of 64 c.bits.result) (omega arith) (omega (arith, c.requires.inside, whole)) c.classify.ensures.flagged c.bits.ensures)
 
 pub returns : goal.returns
 returns g c =

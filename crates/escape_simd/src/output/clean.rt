@@ -6,7 +6,7 @@ ghost use Rattle.escape_lanes.specs.Replacement.{needs_escape};
 ghost use Rattle.escape_simd.specs.Lengths.{IsPartLength};
 ghost use Rattle.escape_simd.specs.Modes.{mode_numbered};
 ghost use Rattle.escape_simd.specs.Output.{inner};
-ghost use Rattle.escape_simd.specs.Parts.{IsAnswer, IsFront};
+ghost use Rattle.escape_simd.specs.Parts.{IsFront};
 ghost use Rattle.escape_simd.specs.Stretch.{HoldsFlags, rest_length};
 
 use crate::output::length::added;
@@ -21,7 +21,7 @@ use escape_lanes::simd::{BitMask, Flags};
 #[inline(always)]
 fn is_clean_chunk<const MODE: u8>(src: &[u8], at: usize) -> bool
     requires { at + 4 * N ≤ length src.now }
-    ensures { IsAnswer (mode_numbered MODE) src.now at (at + 4 * N) result }
+    ensures { result ≡ true → IsFront (mode_numbered MODE) src.now at (at + 4 * N) }
 {
     let mut ticks = Ticks::new();
     let (flags1, _) = classify::<V, MODE, N>(src, at, &mut ticks);

@@ -6,7 +6,7 @@ use Rattle.escape_simd.proofs.output.clean.clean_end.Goals as goal
 
 pub chunks-preserved : goal.chunks-preserved
 chunks-preserved g c =
-    front-more (mode_numbered g.row.MODE) c.args.src.now c.args.at c.chunks.end 128 c.chunks.invariant (omega (arith, c.chunks.invariant.inside, c.chunks-test.true)) (c.is_clean_chunk.ensures.clean c.if-not-is_clean_chunk.false)
+    front-more (mode_numbered g.row.MODE) c.args.src.now c.args.at c.chunks.end 128 c.chunks.invariant (omega (arith, c.chunks.invariant.inside, c.chunks-test.true)) (c.is_clean_chunk.ensures c.if-not-is_clean_chunk.false).clean
 
 pub vectors-preserved : goal.vectors-preserved
 vectors-preserved g c =

@@ -62,8 +62,12 @@ pub(super) fn append_long<const MODE: u8, A: Allocator>(text: &[u8], dst: &mut V
         ++ (inner (mode_numbered MODE) text.now ++ quote_of (mode_numbered MODE)) }
 {
     let end = clean_end::<MODE>(text, 0);
-    push_all(dst, &text[..end]);
-    let rest = &text[end..];
+    let mut at = 0;
+    'vectors: while N <= end - at {
+        push_all(dst, &text[at..at + N]);
+        at += N;
+    }
+    let rest = &text[at..];
     if rest.len() < 2 * N {
         return append_last::<MODE, A>(rest, dst);
     }

@@ -63,6 +63,10 @@ pub(super) fn append_long<const MODE: u8, A: Allocator>(text: &[u8], dst: &mut V
 {
     let end = clean_end::<MODE>(text, 0);
     let mut at = 0;
+    if 4 * N <= end {
+        push_all(dst, &text[..end]);
+        at = end;
+    }
     'vectors: while N <= end - at {
         push_all(dst, &text[at..at + N]);
         at += N;

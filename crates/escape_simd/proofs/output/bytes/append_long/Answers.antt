@@ -8,8 +8,8 @@ vectors-preserved g c =
     let i = c.vectors.invariant in
     record {
       before = omega (arith, c.vectors-test.true);
-      copied = copied-on c.args.text.now c.args.dst.now.items c.vectors.dst.items c.push_all.new.dst.items c.vectors.at 32 (c.vectors.at + 32 - c.vectors.at) i.copied (omega arith) c.push_all.ensures.items;
-      capacity = omega (arith, i.capacity, c.push_all.ensures.capacity);
+      copied = copied-on c.args.text.now c.args.dst.now.items c.vectors.dst.items c.push_all-in-vectors.new.dst.items c.vectors.at 32 (c.vectors.at + 32 - c.vectors.at) i.copied (omega arith) c.push_all-in-vectors.ensures.items;
+      capacity = omega (arith, i.capacity, c.push_all-in-vectors.ensures.capacity);
     }
 
 pub returns-then-rest : goal.returns-then-rest

@@ -57,22 +57,21 @@ pub(super) fn append_last<const MODE: u8, A: Allocator>(text: &[u8], dst: &mut V
 /// Appends what stands for a text of two vectors or more: its clean front as it is, and the rest in place.
 #[inline(never)]
 pub(super) fn append_long<const MODE: u8, A: Allocator>(text: &[u8], dst: &mut Vec<u8, A>)
-    requires several { 2 * N ≤ length text.now }
-    requires room { vec_len dst.old + 6 * length text.now + N ≤ vec_capacity dst.old }
+    requires { vec_len dst.old + 6 * length text.now + N ≤ vec_capacity dst.old }
     ensures { dst.new.items ≡ dst.old.items
         ++ (inner (mode_numbered MODE) text.now ++ quote_of (mode_numbered MODE)) }
 {
-    let (len, end) = (dst.len(), clean_end::<MODE>(text, 0));
-    // Few bytes are copied with some that follow, so that the compiler knows how many and makes no loop.
-    if end <= 2 * N {
-        push_all(dst, &text[..2 * N]);
-    } else if end <= 4 * N && 4 * N <= text.len() {
-        push_all(dst, &text[..4 * N]);
-    } else {
+    let end = clean_end::<MODE>(text, 0);
+    let mut at = 0;
+    if 4 * N <= end {
         push_all(dst, &text[..end]);
+        at = end;
     }
-    dst.truncate(len + end);
-    let rest = &text[end..];
+    'vectors: while N <= end - at {
+        push_all(dst, &text[at..at + N]);
+        at += N;
+    }
+    let rest = &text[at..];
     if rest.len() < 2 * N {
         return append_last::<MODE, A>(rest, dst);
     }

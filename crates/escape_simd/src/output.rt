@@ -85,6 +85,19 @@ pub fn write_inner<const MODE: u8>(value: &str, dst: &mut [u8], at: usize) -> us
     escape_at::<V, MODE, N>(value.as_bytes(), dst, at)
 }
 
+/// Appends the output of a text to a vector that has room for it.
+fn append_output<const MODE: u8, A: Allocator>(value: &str, dst: &mut Vec<u8, A>)
+    requires { vec_len dst.old + bound (mode_numbered MODE) (length value.now) ≤ vec_capacity dst.old }
+    ensures { dst.new.items ≡ dst.old.items ++ plain (mode_numbered MODE) value.now }
+{
+    push_quote::<MODE, A>(dst);
+    let text = value.as_bytes();
+    if text.len() < 2 * N {
+        return append_last::<MODE, A>(text, dst);
+    }
+    append_long::<MODE, A>(text, dst);
+}
+
 /// Appends the output of a text in the mode `MODE` to `dst`. The bytes that `dst` has are kept, and may be any bytes.
 ///
 /// If `dst` has room for fewer bytes than the bound ([`scratch_bound`]) past those that it has, the call reserves
@@ -118,13 +131,7 @@ pub fn append<const MODE: u8, A: Allocator>(
         return Err(Refusal::TooLarge);
     };
     dst.reserve(scratch)?;
-    push_quote::<MODE, A>(dst);
-    let text = value.as_bytes();
-    if text.len() < 2 * N {
-        append_last::<MODE, A>(text, dst);
-    } else {
-        append_long::<MODE, A>(text, dst);
-    }
+    append_output::<MODE, A>(value, dst);
     Ok(())
 }
 
@@ -148,8 +155,11 @@ pub(crate) fn text<const MODE: u8, A: Allocator>(
     ensures too_large { (result ≡ Err Refusal.TooLarge)
         ↔ (usize.MAX < bound (mode_numbered MODE) (length value.now)) }
 {
-    let mut bytes = Vec::new(alloc);
-    append::<MODE, A>(value, &mut bytes)?;
+    let Some(capacity) = scratch_bound::<MODE>(value.len()) else {
+        return Err(Refusal::TooLarge);
+    };
+    let mut bytes = Vec::with_capacity(alloc, capacity)?;
+    append_output::<MODE, A>(value, &mut bytes);
     // The output for a text is a text.
     Ok(unsafe { String::from_utf8_unchecked(bytes) })
 }

@@ -17,20 +17,6 @@ use escape_lanes::simd::lane_bits::clear_first_lane;
 use escape_lanes::simd::target::Ticks;
 use escape_lanes::simd::{BitMask, Flags};
 
-/// Returns whether no byte of four vectors of the text from `at` on is flagged.
-#[inline(always)]
-fn is_clean_chunk<const MODE: u8>(src: &[u8], at: usize) -> bool
-    requires { at + 4 * N ≤ length src.now }
-    ensures { result ≡ true → IsFront (mode_numbered MODE) src.now at (at + 4 * N) }
-{
-    let mut ticks = Ticks::new();
-    let (flags1, _) = classify::<V, MODE, N>(src, at, &mut ticks);
-    let (flags2, _) = classify::<V, MODE, N>(src, at + N, &mut ticks);
-    let (flags3, _) = classify::<V, MODE, N>(src, at + 2 * N, &mut ticks);
-    let (flags4, _) = classify::<V, MODE, N>(src, at + 3 * N, &mut ticks);
-    flags1.join(&flags2).join(&flags3.join(&flags4)).none()
-}
-
 /// Returns the flags of `count` bytes of the text from `at` on: of a vector, or of the last bytes if they are fewer.
 #[inline(always)]
 pub(super) fn mask_at<const MODE: u8>(src: &[u8], at: usize, count: usize) -> u64
@@ -56,7 +42,12 @@ pub(super) fn clean_end<const MODE: u8>(src: &[u8], at: usize) -> usize
 {
     let mut end = at;
     'chunks: while 5 * N <= src.len() - end {
-        if !is_clean_chunk::<MODE>(src, end) {
+        let mut ticks = Ticks::new();
+        let (flags1, _) = classify::<V, MODE, N>(src, end, &mut ticks);
+        let (flags2, _) = classify::<V, MODE, N>(src, end + N, &mut ticks);
+        let (flags3, _) = classify::<V, MODE, N>(src, end + 2 * N, &mut ticks);
+        let (flags4, _) = classify::<V, MODE, N>(src, end + 3 * N, &mut ticks);
+        if !flags1.join(&flags2).join(&flags3.join(&flags4)).none() {
             break;
         }
         end += 4 * N;

@@ -63,7 +63,7 @@ pub(super) fn append_long<const MODE: u8, A: Allocator>(text: &[u8], dst: &mut V
 {
     let end = clean_end::<MODE>(text, 0);
     let mut at = 0;
-    // Few bytes are copied by vectors: the compiler would copy them one by one.
+    // Fewer bytes than four vectors are copied by vectors: the compiler would copy them one by one.
     'vectors: while end < 4 * N && N <= end - at {
         push_all(dst, &text[at..at + N]);
         at += N;

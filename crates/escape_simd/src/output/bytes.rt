@@ -63,15 +63,17 @@ pub(super) fn append_long<const MODE: u8, A: Allocator>(text: &[u8], dst: &mut V
 {
     let end = clean_end::<MODE>(text, 0);
     let mut at = 0;
-    // Fewer bytes than four vectors are copied by vectors: the compiler would copy them one by one.
-    'vectors: while end < 4 * N && N <= end - at {
+    if 4 * N <= end {
+        push_all(dst, &text[..end]);
+        at = end;
+    }
+    // Fewer bytes are copied by vectors: the compiler would copy them one by one.
+    'vectors: while N <= end - at {
         push_all(dst, &text[at..at + N]);
         at += N;
     }
-    push_all(dst, &text[at..end]);
-    let rest = &text[end..];
-    if rest.len() < 2 * N {
-        return append_last::<MODE, A>(rest, dst);
+    if text.len() - at < 2 * N {
+        return append_last::<MODE, A>(&text[at..], dst);
     }
-    append_in_place::<MODE, A>(rest, dst);
+    append_in_place::<MODE, A>(&text[at..], dst);
 }

@@ -46,10 +46,7 @@ pub fn scratch_bound<const MODE: u8>(len: usize) -> Option<usize>
     } else {
         (json::CAPACITY_FACTOR, json::CAPACITY_SLACK)
     };
-    if (usize::MAX - slack) / factor < len {
-        return None;
-    }
-    Some(factor * len + slack)
+    len.checked_mul(factor)?.checked_add(slack)
 }
 
 /// Returns what stands before and after an output: a quotation mark in JSON, also in script mode, and nothing in HTML.

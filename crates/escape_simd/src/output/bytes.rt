@@ -5,12 +5,11 @@ ghost use Rattle.std.specs.Prelude.{◌≡◌, ◌+◌, ◌*◌, ◌<◌, ◌≤
 ghost use Rattle.escape_simd.specs.Modes.{mode_numbered};
 ghost use Rattle.escape_simd.specs.Output.{inner, quote_of};
 
-use crate::output::clean::{is_clean_chunk, mask_at};
+use crate::output::clean::clean_end;
 use crate::output::in_place::{append_flagged, append_in_place};
 use crate::output::push::{push_all, push_quote};
 use crate::output::{N, V};
 use crate::simd::{Simd, classify_pair, classify_short};
-use escape_lanes::simd::BitMask;
 use escape_lanes::simd::target::Ticks;
 use std::alloc::Allocator;
 
@@ -62,20 +61,19 @@ pub(super) fn append_long<const MODE: u8, A: Allocator>(text: &[u8], dst: &mut V
     ensures { dst.new.items ≡ dst.old.items
         ++ (inner (mode_numbered MODE) text.now ++ quote_of (mode_numbered MODE)) }
 {
+    let end = clean_end::<MODE>(text, 0);
     let mut at = 0;
-    'chunks: while 5 * N <= text.len() - at {
-        if !is_clean_chunk::<MODE>(text, at) {
-            break;
-        }
-        push_all(dst, &text[at..at + 4 * N]);
-        at += 4 * N;
+    if 4 * N <= end {
+        push_all(dst, &text[..end]);
+        at = end;
     }
-    'vectors: while 2 * N <= text.len() - at {
-        if !mask_at::<MODE>(text, at, N).all_zero() {
-            return append_in_place::<MODE, A>(&text[at..], dst);
-        }
+    // Fewer bytes are copied by vectors: the compiler would copy them one by one.
+    'vectors: while N <= end - at {
         push_all(dst, &text[at..at + N]);
         at += N;
     }
-    append_last::<MODE, A>(&text[at..], dst);
+    if text.len() - at < 2 * N {
+        return append_last::<MODE, A>(&text[at..], dst);
+    }
+    append_in_place::<MODE, A>(&text[at..], dst);
 }

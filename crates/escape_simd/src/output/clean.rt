@@ -6,7 +6,7 @@ ghost use Rattle.escape_lanes.specs.Replacement.{needs_escape};
 ghost use Rattle.escape_simd.specs.Lengths.{IsPartLength};
 ghost use Rattle.escape_simd.specs.Modes.{mode_numbered};
 ghost use Rattle.escape_simd.specs.Output.{inner};
-ghost use Rattle.escape_simd.specs.Parts.{IsAnswer, IsFront};
+ghost use Rattle.escape_simd.specs.Parts.{IsFront};
 ghost use Rattle.escape_simd.specs.Stretch.{HoldsFlags, rest_length};
 
 use crate::output::length::added;
@@ -16,20 +16,6 @@ use escape_lanes::simd::classify::{classify, flags};
 use escape_lanes::simd::lane_bits::clear_first_lane;
 use escape_lanes::simd::target::Ticks;
 use escape_lanes::simd::{BitMask, Flags};
-
-/// Returns whether no byte of four vectors of the text from `at` on is flagged.
-#[inline(always)]
-pub(super) fn is_clean_chunk<const MODE: u8>(src: &[u8], at: usize) -> bool
-    requires { at + 4 * N ≤ length src.now }
-    ensures { IsAnswer (mode_numbered MODE) src.now at (at + 4 * N) result }
-{
-    let mut ticks = Ticks::new();
-    let flags1 = classify::<V, MODE, N>(src, at, &mut ticks).0;
-    let flags2 = classify::<V, MODE, N>(src, at + N, &mut ticks).0;
-    let flags3 = classify::<V, MODE, N>(src, at + 2 * N, &mut ticks).0;
-    let flags4 = classify::<V, MODE, N>(src, at + 3 * N, &mut ticks).0;
-    flags1.join(&flags2).join(&flags3.join(&flags4)).none()
-}
 
 /// Returns the flags of `count` bytes of the text from `at` on: of a vector, or of the last bytes if they are fewer.
 #[inline(always)]
@@ -56,7 +42,12 @@ pub(super) fn clean_end<const MODE: u8>(src: &[u8], at: usize) -> usize
 {
     let mut end = at;
     'chunks: while 5 * N <= src.len() - end {
-        if !is_clean_chunk::<MODE>(src, end) {
+        let mut ticks = Ticks::new();
+        let (flags1, _) = classify::<V, MODE, N>(src, end, &mut ticks);
+        let (flags2, _) = classify::<V, MODE, N>(src, end + N, &mut ticks);
+        let (flags3, _) = classify::<V, MODE, N>(src, end + 2 * N, &mut ticks);
+        let (flags4, _) = classify::<V, MODE, N>(src, end + 3 * N, &mut ticks);
+        if !flags1.join(&flags2).join(&flags3.join(&flags4)).none() {
             break;
         }
         end += 4 * N;

@@ -61,8 +61,7 @@ pub fn escaped_len<const MODE: u8>(value: &str) -> Option<usize>
     'parts: while at < src.len() {
         let end = clean_end::<MODE>(src, at);
         let count = N.min(src.len() - end);
-        let len = end - at + part_len::<MODE>(src, end, count);
-        total = total.checked_add(len)?;
+        total = total.checked_add(end - at + part_len::<MODE>(src, end, count))?;
         at = end + count;
     }
     Some(total)

@@ -3,8 +3,8 @@ use Rattle.escape_simd.proofs.Lengths.{part-few, plain-long, rest-past}
 use Rattle.escape_simd.proofs.RestSteps.{clean_rest}
 use Rattle.escape_simd.proofs.output.length.escaped_len.Goals as goal
 
-pub overflow_add-len : goal.overflow_add-len
-overflow_add-len g c =
+pub overflow_add-end : goal.overflow_add-end
+overflow_add-end g c =
     let mode = mode_numbered g.row.MODE in let src : List ℕ = c.as_bytes-src.result.now in let front = c.clean_end-end.ensures in
     let few = part-few mode src c.clean_end-end.result (c.clean_end-end.result + c.min-count.result) c.part_len.result (omega arith) (omega (arith, front.inside, c.min-count.ensures)) c.part_len.ensures in
     omega (arith, few, front.inside, c.min-count.ensures, c.as_bytes-src.ensures.len)

@@ -1,5 +1,5 @@
 -- How long what stands for parts of a text is, and for the whole.
-use Rattle.escape_simd.proofs.Words.{◌≡◌, ℕ, zero, suc, ◌+◌, ◌-◌, ◌*◌, ◌<◌, ◌≤◌, Bool, true, false, List, [], ◌∷◌, ◌++◌, length, drop, get_or, replicate, ap, ◌∙◌, arith, rules, length-append, length-drop, inl, inr, cases_lt, count_by, nat_tests, first_set, none_set, clear_first, clear_last, entry_count, map, take-append-le, Mode, script, needs_escape, replacement, inner, begins_separator, passed, first_replacement, plain, quote_count, rest_length, HoldsFlags, IsFlaggedAt, IsFront, IsPartLength}
+use Rattle.escape_simd.proofs.Words.{◌≡◌, ℕ, zero, suc, ◌+◌, ◌-◌, ◌*◌, ◌<◌, ◌≤◌, Bool, true, false, List, [], ◌∷◌, ◌++◌, length, drop, get_or, replicate, ap, ◌∙◌, arith, rules, length-append, length-drop, length-replicate, inl, inr, cases_lt, count_by, nat_tests, first_set, none_set, clear_first, clear_last, entry_count, map, take-append-le, Mode, script, needs_escape, replacement, inner, begins_separator, passed, first_replacement, plain, quote_count, rest_length, HoldsFlags, IsFlaggedAt, IsFront, IsPartLength}
 use Rattle.escape_simd.proofs.Escapes.{entry-counts, first-alone, passed-alone}
 use Rattle.escape_simd.proofs.Lanes.{CleanFrom, held-cut, cleared-later, first-set, first_set-here, held-cleared, held-first, held-further, held-none}
 use Rattle.escape_simd.proofs.OutputLemmas.{length-plain}
@@ -32,10 +32,11 @@ part-few mode src at next len forward inside part = omega (arith, rest-between m
 -- The last bytes
 
 -- their mask, told of the whole text
-pub last-held : (mode : Mode) (n : ℕ) (src lanes : List ℕ) (at count : ℕ) (truths whole bits : List Bool) → n ≤ 64 → at + count ≡ length src → count ≤ n → length lanes ≡ n
+pub last-held : (mode : Mode) (n : ℕ) (src lanes : List ℕ) (at count : ℕ) (truths whole bits : List Bool) → n ≤ 64 → at + count ≡ length src → count ≤ n
     → lanes ≡ drop (length src - count) src ++ replicate (n - count) 0 → truths ≡ map (needs_escape mode) lanes → whole ≡ truths ++ replicate (64 - n) false → bits ≡ clear_last (64 - count) whole
     → HoldsFlags mode src at count at bits
-last-held mode n src lanes at count truths whole bits narrow ends few long loaded flagged all cut =
+last-held mode n src lanes at count truths whole bits narrow ends few loaded flagged all cut =
+    let long : length lanes ≡ n = omega (arith, few, ends, ap length loaded, length-append (drop (length src - count) src) (replicate (n - count) 0), length-drop (length src - count) src, length-replicate {A = ℕ} (n - count) 0) in
     let from : length src - count ≡ at = omega (arith, ends) in
     held-cut mode src lanes at n count long narrow few (grind (arith, take-append-le, length-drop {A = ℕ})) bits (cc)
 

@@ -52,10 +52,7 @@ pub(super) fn clean_end<const MODE: u8>(src: &[u8], at: usize) -> usize
         }
         end += 4 * N;
     }
-    'vectors: while 2 * N <= src.len() - end {
-        if !mask_at::<MODE>(src, end, N).all_zero() {
-            return end;
-        }
+    'vectors: while 2 * N <= src.len() - end && mask_at::<MODE>(src, end, N).all_zero() {
         end += N;
     }
     end

@@ -26,5 +26,5 @@ chunks-preserved g c =
 
 pub vectors-preserved : goal.vectors-preserved
 vectors-preserved g c =
-    let clean = held-none (mode_numbered g.row.MODE) c.args.src.now c.vectors.end 32 c.vectors.end (bits_of 64 c.mask_at.result) c.mask_at.ensures (omega arith) (sym c.all_zero.ensures ∙ c.if-not-all_zero.false) in
+    let clean = held-none (mode_numbered g.row.MODE) c.args.src.now c.vectors.end 32 c.vectors.end (bits_of 64 c.mask_at.result) c.mask_at.ensures (omega arith) (sym c.all_zero.ensures ∙ c.if-all_zero.true) in
     front-more (mode_numbered g.row.MODE) c.args.src.now c.args.at c.vectors.end 32 c.vectors.invariant (omega (arith, c.vectors.invariant.inside, c.vectors-test.true)) clean

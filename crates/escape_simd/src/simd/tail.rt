@@ -4,7 +4,9 @@ ghost use Rattle.std.specs.List.{flat_map};
 ghost use Rattle.escape_lanes.specs.Bits.{bits_of, none_set};
 ghost use Rattle.escape_lanes.specs.Classified.{asked_of};
 ghost use Rattle.escape_lanes.specs.Written.{bytes_of};
+ghost use Rattle.escape_simd.specs.Formatted.{IsWrittenAt};
 ghost use Rattle.escape_simd.specs.Modes.{mode_numbered};
+ghost use Rattle.escape_simd.specs.Output.{inner};
 ghost use Rattle.escape_simd.specs.Stretch.{AreTail, Escapes, HasRoom, HoldsFlags, reach, state};
 
 use crate::simd::Vector;
@@ -210,4 +212,20 @@ pub(crate) fn escape_tail<V: Vector<N>, const MODE: u8, const N: usize>(
         Ok(end) => end,
         Err(flags) => escape_flagged_tail::<V, MODE, N>(text, flags, target, to, ticks),
     }
+}
+
+/// As [`escape_flagged_tail`], to `dst`, and with no count.
+#[inline(always)]
+pub(crate) fn escape_flagged_at<V: Vector<N>, const MODE: u8, const N: usize>(
+    text: &[u8],
+    flags: TailFlags<'_>,
+    dst: &mut [u8],
+    to: usize,
+) -> usize
+    requires flagged { AreTail (mode_numbered MODE) N text.now (bits_of 64 flags.first) (bits_of 64 flags.last) (asked_of flags.first_classified) (asked_of flags.last_classified) }
+    requires room { to + 6 * length text.now + 32 ≤ length dst.old }
+    ensures { IsWrittenAt (reach true N) (inner (mode_numbered MODE) text.now) dst.old dst.new to result }
+{
+    let mut target = Target::<N>::new(dst);
+    escape_flagged_tail::<V, MODE, N>(text, flags, &mut target, to, &mut Ticks::new())
 }

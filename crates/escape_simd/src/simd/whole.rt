@@ -1,15 +1,15 @@
 //! A whole text: its bytes between quotation marks.
-ghost use Rattle.std.specs.Prelude.{◌+◌, ◌*◌, ◌<◌, ◌≤◌, ◌++◌, true, length, take, chars};
+ghost use Rattle.std.specs.Prelude.{◌<◌, ◌≤◌, length, take, chars};
 ghost use Rattle.escape_lanes.specs.Bits.{bits_of};
 ghost use Rattle.escape_lanes.specs.Classified.{asked_of};
 ghost use Rattle.escape_lanes.specs.Mode.{mode_of};
 ghost use Rattle.escape_lanes.specs.Written.{bytes_of};
-ghost use Rattle.escape_simd.specs.Formatted.{IsFormatted, IsQuoted, IsWritten, IsWrittenAt};
+ghost use Rattle.escape_simd.specs.Formatted.{IsFormatted, IsQuoted, IsWritten};
 ghost use Rattle.escape_simd.specs.Headline.{IsOnlyOutput};
 ghost use Rattle.escape_simd.specs.Laws.{IsOfOneText};
 ghost use Rattle.escape_simd.specs.Modes.{mode_numbered};
-ghost use Rattle.escape_simd.specs.Output.{bound, inner, quote_of};
-ghost use Rattle.escape_simd.specs.Stretch.{AreTail, reach};
+ghost use Rattle.escape_simd.specs.Output.{bound};
+ghost use Rattle.escape_simd.specs.Stretch.{AreTail};
 
 use crate::simd::body::escape_bytes;
 use crate::simd::tail::{TailFlags, escape_flagged_tail, store_clean_tail};
@@ -76,23 +76,21 @@ fn format_slice<V: Vector<N>, const MODE: u8, const N: usize>(value: &str, dst: 
     format::<V, MODE, N>(value, &mut target, &mut ticks)
 }
 
-/// Escapes a short text for which a classifier answered to `dst` from `to` on, and writes the last quotation mark. Returns the
-/// place after it.
+/// As [`format_slice`], of a short text for which a classifier answered.
 ///
 /// The parts of [`TailFlags`] are arguments of their own, so that they are passed in registers.
 #[inline(never)]
-pub(crate) fn format_flagged<V: Vector<N>, const MODE: u8, const N: usize>(
+fn format_flagged<V: Vector<N>, const MODE: u8, const N: usize>(
     text: &[u8],
     first: u64,
     first_classified: Classified<'_>,
     last: u64,
     last_classified: Classified<'_>,
     dst: &mut [u8],
-    to: usize,
 ) -> usize
     requires flagged { AreTail (mode_numbered MODE) N text.now (bits_of 64 first) (bits_of 64 last) (asked_of first_classified) (asked_of last_classified) }
-    requires room { to + 6 * length text.now + 32 ≤ length dst.old }
-    ensures { IsWrittenAt (reach true N) (inner (mode_numbered MODE) text.now ++ quote_of (mode_numbered MODE)) dst.old dst.new to result }
+    requires room { bound (mode_numbered MODE) (length text.now) ≤ length dst.old }
+    ensures { IsWritten N (mode_numbered MODE) text.now dst.old dst.new result }
 {
     let flags = TailFlags {
         first,
@@ -101,7 +99,14 @@ pub(crate) fn format_flagged<V: Vector<N>, const MODE: u8, const N: usize>(
         last_classified,
     };
     let mut target = Target::<N>::new(dst);
-    let close = escape_flagged_tail::<V, MODE, N>(text, flags, &mut target, to, &mut Ticks::new());
+    let open = quote::<MODE, N>(&mut target, 0);
+    let close = escape_flagged_tail::<V, MODE, N>(
+        text,
+        flags,
+        &mut target,
+        open,
+        &mut Ticks::new(),
+    );
     quote::<MODE, N>(&mut target, close)
 }
 
@@ -131,7 +136,6 @@ pub(crate) fn format_in_mode<V: Vector<N>, const MODE: u8, const N: usize>(
             flags.last,
             flags.last_classified,
             dst,
-            open,
         ),
     }
 }

@@ -1,13 +1,12 @@
 -- A text that is appended: from registers, or part by part in place.
-use Rattle.escape_simd.proofs.Words.{◌≡◌, ℕ, suc, ◌+◌, ◌-◌, ◌*◌, ◌<◌, ◌≤◌, Bool, true, false, cond, ◌||◌, List, [], ◌∷◌, ◌++◌, length, length-drop, length-take-le, take, drop, slice_range, replicate, map, get_or, refl, sym, ap, ◌∙◌, append_assoc, arith, count_by, zip2, take-add, take-append-add, take-append_seam, cases_Bool, nat_tests, append-nil, length-map, take-append-drop, take-take, take_all, get_or-le-sum_by, length-zip2, none_set, Mode, needs_escape, bytes_of, Target, inner, quote_of, IsAnswer, IsFront, IsPartAt, AreTail, reach}
+use Rattle.escape_simd.proofs.Words.{◌≡◌, ℕ, ◌+◌, ◌-◌, ◌<◌, ◌≤◌, Bool, true, false, cond, List, [], ◌++◌, length, length-drop, take, drop, slice_range, replicate, get_or, sym, ap, ◌∙◌, append_assoc, arith, count_by, take-add, take-append-add, take-append_seam, nat_tests, append-nil, take-append-drop, take-take, take_all, get_or-le-sum_by, none_set, Mode, bytes_of, Target, inner, quote_of, IsFront, IsPartAt, AreTail, reach}
 use Rattle.escape_simd.proofs.Costs.{BodySoFar}
-use Rattle.escape_simd.proofs.Lanes.{CleanFrom, clean-list, none_set-joined}
+use Rattle.escape_simd.proofs.Lanes.{CleanFrom, clean-list}
 use Rattle.escape_simd.proofs.Last.{tail-clean_back, tail-clean_front}
 use Rattle.escape_simd.proofs.ReplacementLemmas.{inner-nil}
 use Rattle.escape_simd.proofs.RestSteps.{rest-is}
 use Rattle.escape_simd.proofs.Stretches.{stretch-on}
 use Rattle.escape_simd.proofs.Texts.{IsClean, inner-clean}
-use Rattle.escape_simd.proofs.Vectors.{flags-clean}
 
 -- bytes that need no escape stand for themselves
 pub itself : (mode : Mode) (text : List ℕ) → CleanFrom mode text 0 (length text) → inner mode text ≡ text
@@ -66,46 +65,3 @@ vector-front old text lanes n len is loaded = let t = take-append-add old lanes 
 -- where none is counted, none needs an escape
 pub none-counted : (f : ℕ → Bool) (xs : List ℕ) → count_by f xs ≡ 0 → (k : ℕ) → k < length xs → f (get_or xs k 0) ≡ false
 none-counted f xs none k h = let a = get_or-le-sum_by (λ y. cond (f y) 1 0) xs k 0 h in grind (arith, nat_tests)
-
--- an answer is right that says no of no clean text
-pub answered : (mode : Mode) (src : List ℕ) (at next : ℕ) (answer : Bool) → (answer ≡ true → CleanFrom mode src at next) → (CleanFrom mode src 0 (length src) → answer ≡ true) → IsAnswer mode src at next answer
-answered mode src at next answer clean whole = grind (arith, none-counted, whole)
-
--- no lane of clean bytes is set
-clean_none : (mode : Mode) (xs : List ℕ) → IsClean mode xs → none_set (map (needs_escape mode) xs) ≡ true
-unfolding none_set
-clean_none mode [] clean = refl
-clean_none mode (x ∷ xs) clean = rw (clean 0 (omega arith)) (clean_none mode xs (λ k h. clean (suc k) (omega (arith, h))))
-
--- nor of two masks joined
-none_set-both : (xs ys : List Bool) → none_set xs ≡ true → none_set ys ≡ true → none_set (zip2 ◌||◌ xs ys) ≡ true
-unfolding none_set
-none_set-both (false ∷ xs) (false ∷ ys) a b = none_set-both xs ys a b
-none_set-both [] ys a b = refl
-none_set-both xs ys a b = cc
-
--- the answer for a vector
-pub vector-answer : (mode : Mode) (src : List ℕ) (at n : ℕ) → at + n ≤ length src → (truths : List Bool) → truths ≡ map (needs_escape mode) (take n (drop at src)) → IsAnswer mode src at (at + n) (none_set truths)
-vector-answer mode src at n inside truths is =
-    answered mode src at (at + n) (none_set truths) (flags-clean mode n src at truths inside is) (λ clean. grind (arith, clean_none, clean-list))
-
--- the answers for two stretches, the second no further on than where the first ends, as one
-answer-joined : (mode : Mode) (src : List ℕ) (at mid i to : ℕ) (a b all : List Bool) → length a ≡ length b → i ≤ mid → all ≡ zip2 ◌||◌ a b → IsAnswer mode src at mid (none_set a) → IsAnswer mode src i to (none_set b) → IsAnswer mode src at to (none_set all)
-answer-joined mode src at mid i to a b all same on is p q = grind (arith, none_set-joined, none_set-both, p.clean, q.clean, p.flagged, q.flagged, cases_Bool)
-
--- as many flags as a vector has lanes
-flags-long : (mode : Mode) (n : ℕ) (src : List ℕ) (at : ℕ) (truths : List Bool) → at + n ≤ length src → truths ≡ map (needs_escape mode) (take n (drop at src)) → length truths ≡ n
-flags-long mode n src at truths inside is = grind (arith, length-map, length-take-le {A = ℕ}, length-drop {A = ℕ})
-
--- the answer for four vectors
-pub chunk-answer : (mode : Mode) (src : List ℕ) (at n : ℕ) → at + 4 * n ≤ length src → (a b c d ab cd all : List Bool)
-    → a ≡ map (needs_escape mode) (take n (drop at src)) → b ≡ map (needs_escape mode) (take n (drop (at + n) src)) → c ≡ map (needs_escape mode) (take n (drop (at + 2 * n) src)) → d ≡ map (needs_escape mode) (take n (drop (at + 3 * n) src))
-    → ab ≡ zip2 ◌||◌ a b → cd ≡ zip2 ◌||◌ c d → all ≡ zip2 ◌||◌ ab cd → IsAnswer mode src at (at + 4 * n) (none_set all)
-chunk-answer mode src at n inside a b c d ab cd all ea eb ec ed eab ecd e =
-    let la = flags-long mode n src at a (omega (arith, inside)) ea in let lb = flags-long mode n src (at + n) b (omega (arith, inside)) eb in
-    let lc = flags-long mode n src (at + 2 * n) c (omega (arith, inside)) ec in let ld = flags-long mode n src (at + 3 * n) d (omega (arith, inside)) ed in
-    let vab = answer-joined mode src at (at + n) (at + n) (at + n + n) a b ab (omega (arith, la, lb)) (omega arith) eab (vector-answer mode src at n (omega (arith, inside)) a ea) (vector-answer mode src (at + n) n (omega (arith, inside)) b eb) in
-    let vcd = answer-joined mode src (at + 2 * n) (at + 2 * n + n) (at + 3 * n) (at + 3 * n + n) c d cd (omega (arith, lc, ld)) (omega arith) ecd (vector-answer mode src (at + 2 * n) n (omega (arith, inside)) c ec) (vector-answer mode src (at + 3 * n) n (omega (arith, inside)) d ed) in
-    let same : length ab ≡ length cd = grind (arith, length-zip2, la, lb, lc, ld) in
-    let v = answer-joined mode src at (at + n + n) (at + 2 * n) (at + 3 * n + n) ab cd all same (omega arith) e vab vcd in
-    record { clean = λ none k after before. v.clean none k after (omega (arith, before)); flagged = v.flagged }

@@ -1,6 +1,5 @@
 -- A text that is escaped part by part, and what is told of it before it is written.
-use Rattle.std.specs.Prelude.{◌≡◌, ℕ, ◌+◌, ◌*◌, ◌<◌, ◌≤◌, Bool, true, false, List, ◌++◌, length, take, drop, slice_index}
-use Rattle.std.specs.List.{count_by}
+use Rattle.std.specs.Prelude.{◌≡◌, ℕ, ◌+◌, ◌*◌, ◌<◌, ◌≤◌, false, List, ◌++◌, length, take, drop, slice_index}
 use Rattle.escape_lanes.specs.Mode.{Mode}
 use Rattle.escape_lanes.specs.Replacement.{needs_escape}
 use Rattle.escape_simd.specs.Output.{inner}
@@ -15,11 +14,6 @@ pub record IsPartAt (mode : Mode) (slack : ℕ) (text old new : List ℕ) (next 
   pub limit : end + length (inner mode (drop next text)) ≡ to + length (inner mode text)
   pub bytes : take end new ++ inner mode (drop next text) ≡ take to old ++ inner mode text
   pub kept : drop (to + length (inner mode text) + slack) new ≡ drop (to + length (inner mode text) + slack) old
-
--- the answer whether none of a text's bytes from one place up to another needs an escape
-pub record IsAnswer (mode : Mode) (text : List ℕ) (at next : ℕ) (answer : Bool) : Type 0 where
-  pub clean : answer ≡ true → (k : ℕ) → at ≤ k → k < next → needs_escape mode (slice_index text k) ≡ false
-  pub flagged : answer ≡ false → 0 < count_by (needs_escape mode) text
 
 -- None of a text's bytes from one place up to another needs an escape.
 pub record IsFront (mode : Mode) (text : List ℕ) (at end : ℕ) : Type 0 where

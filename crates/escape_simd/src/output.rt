@@ -25,7 +25,7 @@ pub use length::escaped_len;
 use push::push_quote;
 use std::alloc::Allocator;
 
-/// The vector by which texts are appended, and how many bytes it has.
+/// The vector of these calls, and how many bytes it has.
 type V = Simd256u;
 
 const N: usize = 32;

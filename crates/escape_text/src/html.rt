@@ -100,8 +100,8 @@ pub fn escape_html_into_string<A: Allocator>(
 /// Returns the text as HTML, as [`escape_html`](escape_simd::html::escape_html) returns it, in a `String` that
 /// reserves the length of the output and no more.
 ///
-/// The call makes one allocation, from `alloc`, of `n` to `6 * n` bytes for a text of `n` bytes. It reads the text
-/// twice. [`escape_html`](escape_simd::html::escape_html) is faster, and its `String` keeps `6 * n + 32` bytes.
+/// The call makes at most one allocation, from `alloc`, of `n` to `6 * n` bytes for a text of `n` bytes. It goes
+/// through the text twice. [`escape_html`](escape_simd::html::escape_html) is faster, and its `String` keeps `6 * n + 32` bytes.
 ///
 /// # Errors
 ///

@@ -157,8 +157,8 @@ pub fn escape_script_into_string<A: Allocator>(
 /// Returns the literal of a text, as [`escape`](escape_simd::json::escape) returns it, in a `String` that reserves
 /// the length of the literal and no more.
 ///
-/// The call makes one allocation, from `alloc`, of `n + 2` to `6 * n + 2` bytes for a text of `n` bytes. It reads the
-/// text twice. [`escape`](escape_simd::json::escape) is faster, and its `String` keeps `6 * n + 35` bytes.
+/// The call makes one allocation, from `alloc`, of `n + 2` to `6 * n + 2` bytes for a text of `n` bytes. It goes
+/// through the text twice. [`escape`](escape_simd::json::escape) is faster, and its `String` keeps `6 * n + 35` bytes.
 ///
 /// # Errors
 ///

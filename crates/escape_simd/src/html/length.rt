@@ -9,7 +9,7 @@ use crate::simd::HTML_MODE;
 /// Returns the length in bytes of the output that [`escape_html`](crate::html::escape_html) returns. Returns `None`
 /// if it exceeds `usize::MAX`.
 ///
-/// The call allocates nothing. It reads clean bytes once, and bytes near an escape up to six times.
+/// The call allocates nothing. It classifies clean text once, and bytes near an escape up to six times.
 ///
 /// `escape_html_compact` of `escape_text` reserves exactly this length. The calls of this crate that write the output
 /// need [`html_capacity`](crate::html::html_capacity) bytes, which is more.

@@ -9,7 +9,7 @@ use crate::simd::{JSON_MODE, SCRIPT_MODE};
 /// Returns the length in bytes of the literal that [`escape`](crate::json::escape) returns, with its quotation marks.
 /// Returns `None` if it exceeds `usize::MAX`.
 ///
-/// The call allocates nothing. It reads clean bytes once, and bytes near an escape up to six times.
+/// The call allocates nothing. It classifies clean text once, and bytes near an escape up to six times.
 ///
 /// `escape_compact` of `escape_text` reserves exactly this length. The calls of this crate that write the literal
 /// need [`json_capacity`](crate::json::json_capacity) bytes, which is more.

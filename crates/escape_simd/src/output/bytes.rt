@@ -1,6 +1,6 @@
 //! Appending what stands for a text's bytes, and the last quotation mark, to a vector that has room for them.
 //!
-//! Each form appends the last quotation mark itself, so that its call is the caller's last instruction.
+//! Each form appends that quotation mark itself, so that a call of one ends its caller.
 ghost use Rattle.std.specs.Prelude.{◌≡◌, ◌+◌, ◌*◌, ◌<◌, ◌≤◌, ◌++◌, length, vec_len, vec_capacity};
 ghost use Rattle.escape_simd.specs.Modes.{mode_numbered};
 ghost use Rattle.escape_simd.specs.Output.{inner, quote_of};
@@ -54,7 +54,7 @@ pub(super) fn append_last<const MODE: u8, A: Allocator>(text: &[u8], dst: &mut V
     );
 }
 
-/// Appends what stands for a text of two vectors or more: its clean front as it is, and the rest in place.
+/// Appends what stands for a text of two vectors or more: its clean front as it is, and then the rest.
 #[inline(never)]
 pub(super) fn append_long<const MODE: u8, A: Allocator>(text: &[u8], dst: &mut Vec<u8, A>)
     requires { vec_len dst.old + 6 * length text.now + N ≤ vec_capacity dst.old }

@@ -43,8 +43,8 @@ pub(super) fn append_flagged<const MODE: u8, A: Allocator>(
     push_quote::<MODE, A>(dst);
 }
 
-/// Appends what stands for the text's bytes, and the last quotation mark. The vector is filled for one chunk at a time,
-/// and then for the rest.
+/// Appends what stands for the text's bytes, and the last quotation mark. The vector is filled for a chunk or
+/// more at a time, and then for the rest.
 #[inline(never)]
 pub(super) fn append_in_place<const MODE: u8, A: Allocator>(src: &[u8], dst: &mut Vec<u8, A>)
     requires { vec_len dst.old + 6 * length src.now + N ≤ vec_capacity dst.old }

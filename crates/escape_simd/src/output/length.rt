@@ -45,7 +45,7 @@ fn part_len<const MODE: u8>(src: &[u8], at: usize, count: usize) -> usize
 
 /// Returns the length in bytes of the output of a text in the mode `MODE`. Returns `None` if it exceeds `usize::MAX`.
 ///
-/// The call allocates nothing. It reads clean bytes once, and bytes near an escape up to six times.
+/// The call allocates nothing. It classifies clean text once, and bytes near an escape up to six times.
 ///
 /// ```rust
 /// let len = output::escaped_len::<{ HTML_MODE }>("a<b"); // Some(6)

@@ -36,9 +36,9 @@ pub(crate) fn escape_bytes<V: Vector<N>, const MODE: u8, const N: usize>(
     escape_tail::<V, MODE, N>(&src[at..], target, end, ticks)
 }
 
-/// Escapes chunks of the text to `dst` from `to` on, as long as one more has room. Returns the places after them.
+/// Escapes chunks of the text to `dst` from `to` on, while five vectors are left and a chunk has room. Returns the places after them.
 ///
-/// The target is made here: so the compiler keeps its counts in registers, or removes them.
+/// The target is made here: so the compiler keeps it in registers.
 #[inline(never)]
 pub(crate) fn escape_chunks<V: Vector<N>, const MODE: u8, const N: usize>(
     src: &[u8],

@@ -63,7 +63,7 @@ fn finish_vector<V: Vector<N>, const MODE: u8, const N: usize, const LAST: bool>
 /// after them.
 ///
 /// The vector is stored. Then each turn passes the clean bytes before the next flagged one, writes what stands for that
-/// one, and where no flagged byte follows it stores the vector that begins there. The loop ends in the middle of a turn:
+/// one, and unless a flagged byte follows, stores the vector that begins there. The loop ends in the middle of a turn:
 /// so the compiler peels the first turn, and a vector with one escape takes no branch of the loop.
 #[inline(always)]
 pub(crate) fn escape_by_turns<V: Vector<N>, const MODE: u8, const N: usize, const LAST: bool>(

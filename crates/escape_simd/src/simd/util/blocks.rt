@@ -41,9 +41,9 @@ pub(crate) fn are_short<const MODE: u8, const N: usize>(src: &[u8], at: usize, f
     MODE != HTML_MODE && !has_long::<MODE>(&src[at..at + N], flags)
 }
 
-/// Returns the classification by which a block without an escape is stored, the text's bytes from `from` up to `until`, what is
-/// left of the text's own, and whether that is used up: the first such block takes it, and each other one is classified by
-/// the mask. A block with an escape needs none.
+/// Returns the classification for a block of the text's bytes from `from` up to `until`, what is left of the text's own, and
+/// whether that is used up. The first block without an escape takes the text's own, and each other one is classified by the
+/// mask. A block with an escape needs none.
 #[inline(always)]
 fn classify_block<'a, const MODE: u8>(
     text: &'a [u8],

@@ -72,6 +72,5 @@ pub(crate) fn escape_at<V: Vector<N>, const MODE: u8, const N: usize>(
     ensures { IsWrittenAt (reach true N) (inner (mode_numbered MODE) src.now) dst.old dst.new to result }
 {
     let mut target = Target::<N>::new(dst);
-    let mut ticks = Ticks::new();
-    escape_bytes::<V, MODE, N>(src, &mut target, to, &mut ticks)
+    escape_bytes::<V, MODE, N>(src, &mut target, to, &mut Ticks::new())
 }

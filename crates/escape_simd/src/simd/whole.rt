@@ -72,8 +72,7 @@ fn format_slice<V: Vector<N>, const MODE: u8, const N: usize>(value: &str, dst: 
     ensures { IsWritten N (mode_numbered MODE) value.now dst.old dst.new result }
 {
     let mut target = Target::<N>::new(dst);
-    let mut ticks = Ticks::new();
-    format::<V, MODE, N>(value, &mut target, &mut ticks)
+    format::<V, MODE, N>(value, &mut target, &mut Ticks::new())
 }
 
 /// As [`format_slice`], of a short text for which a classifier answered.

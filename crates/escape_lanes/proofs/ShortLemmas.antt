@@ -1,5 +1,5 @@
 -- Bytes with a short escape: how a vector of them is shortened, and asked for the others.
-use Rattle.std.proofs.Common.{◌≡◌, ℕ, zero, suc, ◌+◌, ◌-◌, ◌*◌, ◌/◌, ◌%◌, ◌^◌, ◌<◌, ◌≤◌, Bool, true, false, not, cond, ◌&&◌, ◌||◌, List, [], ◌∷◌, ◌++◌, length, take, take_all, drop, replicate, map, nat_eq, nat_le, nat_lt, ltb, bit_and, bit_or, bit_xor, get_or, set, refl, sym, ap, ap₂, subst, ◌∙◌, arith, inl, inr}
+use Rattle.std.proofs.Common.{◌≡◌, ◌≢◌, ℕ, zero, suc, ◌+◌, ◌-◌, ◌*◌, ◌/◌, ◌%◌, ◌^◌, ◌<◌, ◌≤◌, Bool, true, false, cond, ◌&&◌, ◌||◌, List, [], ◌∷◌, ◌++◌, length, take, take_all, drop, replicate, map, nat_eq, nat_le, nat_lt, ltb, bit_and, bit_or, bit_xor, get_or, set, refl, sym, ap, ap₂, subst, ◌∙◌, arith, inl, inr}
 use Rattle.std.proofs.Math.Nat.{lt_irrefl}
 use Rattle.std.proofs.Math.Seq.{take-add}
 use Rattle.std.proofs.lemmas.Bool.{agree_below, agree_below_at, eqb-true}
@@ -16,8 +16,8 @@ use mir.Syntax.{w8}
 use mir.Val.{zeroes}
 use Rattle.escape_lanes.specs.Bits.{bits_of, length-bits_of, none_set}
 use Rattle.escape_lanes.specs.Lanes.{AreBytes}
-use Rattle.escape_lanes.specs.Mode.{Mode, json, script, mode_numbered}
-use Rattle.escape_lanes.specs.Replacement.{needs_escape, replacement}
+use Rattle.escape_lanes.specs.Mode.{Mode, json, html, script}
+use Rattle.escape_lanes.specs.Replacement.{replacement}
 use Rattle.escape_lanes.specs.Short.{is_long, shortened}
 use Rattle.escape_lanes.proofs.BitLemmas.{bits-wide}
 use Rattle.escape_lanes.proofs.LaneLemmas.{bits-and, bits-mask, map-bytes}
@@ -114,9 +114,11 @@ long-bits mode long told xs v bytes is ms e =
     let full : length ms ≡ 16 = ap length same ∙ length-map xs (is_long mode) ∙ bytes.full in
     rw (mask_l-mod ms 64 (omega (arith, full)), bits-wide 16 48 (mask_l ms) (rw full at (mask_l-lt ms)), bits-mask ms 16 full) (ap (λ bs. bs ++ replicate 48 false) same)
 
--- a number past those of the other modes
-pub mode-script : (n : ℕ) → 2 ≤ n → mode_numbered n ≡ script
-mode-script n h = grind arith
+-- the mode that has short escapes and is not the third one
+pub json-left : {mode : Mode} → mode ≢ html → mode ≢ script → mode ≡ json
+json-left {mode = json} short other = refl
+json-left {mode = html} short other = absurd (short refl)
+json-left {mode = script} short other = absurd (other refl)
 
 -- as many lanes
 pub shortened-full : (xs v : List ℕ) → AreBytes 16 xs → v ≡ map shortened xs → length v ≡ 16

@@ -11,6 +11,7 @@ mod halves;
 pub mod lane_bits;
 mod lanes;
 pub mod last;
+pub mod mode;
 pub mod neon;
 pub mod short;
 pub mod sse2;

@@ -1,6 +1,6 @@
 //! The calls on which further calls are built. Each has the number of the mode as its constant parameter `MODE`:
-//! [`JSON_MODE`](crate::simd::JSON_MODE), [`HTML_MODE`] or [`SCRIPT_MODE`](crate::simd::SCRIPT_MODE). No other number is
-//! accepted.
+//! [`JSON_MODE`](crate::simd::JSON_MODE), [`HTML_MODE`](crate::simd::HTML_MODE) or
+//! [`SCRIPT_MODE`](crate::simd::SCRIPT_MODE). No other number is accepted.
 ghost use Rattle.std.specs.Prelude.{◌≡◌, ◌+◌, ◌*◌, ◌<◌, ◌≤◌, ◌^◌, ◌↔◌, ◌++◌, length, take, chars, string_bytes, vec_len, vec_capacity, Err, IsOk, IfOk, OnOk, OnErr, IfSome, IsNone};
 ghost use Rattle.escape_simd.specs.Modes.{mode_numbered};
 ghost use Rattle.escape_simd.specs.Output.{plain, inner, quote_of, bound};
@@ -16,13 +16,14 @@ mod length;
 mod push;
 
 use crate::simd::avx2::Simd256u;
-use crate::simd::{HTML_MODE, escape_at};
+use crate::simd::escape_at;
 use crate::{html, json};
 use bytes::{append_last, append_long};
 pub use clean::is_clean;
 pub use error::Refusal;
+use escape_lanes::simd::mode::is_quoted;
 pub use length::escaped_len;
-use push::push_quote;
+use push::push_all;
 use std::alloc::Allocator;
 
 /// The vector of these calls, and how many bytes it has.
@@ -41,10 +42,10 @@ pub fn scratch_bound<const MODE: u8>(len: usize) -> Option<usize>
     ensures fits { IfSome result (λ n. n ≡ bound (mode_numbered MODE) len) }
     ensures passes { IsNone result ↔ (usize.MAX < bound (mode_numbered MODE) len) }
 {
-    let (factor, slack) = if MODE == HTML_MODE {
-        (html::CAPACITY_FACTOR, html::CAPACITY_SLACK)
-    } else {
+    let (factor, slack) = if is_quoted::<MODE>() {
         (json::CAPACITY_FACTOR, json::CAPACITY_SLACK)
+    } else {
+        (html::CAPACITY_FACTOR, html::CAPACITY_SLACK)
     };
     len.checked_mul(factor)?.checked_add(slack)
 }
@@ -59,7 +60,7 @@ pub fn quote<const MODE: u8>() -> &'static str
     requires mode { MODE ≤ 2 }
     ensures { result.now ≡ quote_of (mode_numbered MODE) }
 {
-    if MODE == HTML_MODE { "" } else { "\"" }
+    if is_quoted::<MODE>() { "\"" } else { "" }
 }
 
 /// Writes the output of a text in the mode `MODE`, without its quotation marks, to `dst` from the index `at` on.
@@ -84,10 +85,11 @@ pub fn write_inner<const MODE: u8>(value: &str, dst: &mut [u8], at: usize) -> us
 
 /// Appends the output of a text to a vector that has room for it.
 fn append_output<const MODE: u8, A: Allocator>(value: &str, dst: &mut Vec<u8, A>)
-    requires { vec_len dst.old + bound (mode_numbered MODE) (length value.now) ≤ vec_capacity dst.old }
+    requires mode { MODE ≤ 2 }
+    requires room { vec_len dst.old + bound (mode_numbered MODE) (length value.now) ≤ vec_capacity dst.old }
     ensures { dst.new.items ≡ dst.old.items ++ plain (mode_numbered MODE) value.now }
 {
-    push_quote::<MODE, A>(dst);
+    push_all(dst, quote::<MODE>().as_bytes());
     let text = value.as_bytes();
     if text.len() < 2 * N {
         return append_last::<MODE, A>(text, dst);

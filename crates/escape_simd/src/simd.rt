@@ -5,8 +5,8 @@ pub mod avx512;
 mod body;
 mod by_mask;
 mod chunk;
-pub(crate) mod entry;
 pub mod neon;
+pub(crate) mod separator;
 pub mod sse2;
 mod store;
 mod tail;
@@ -15,6 +15,6 @@ pub mod v128;
 pub(crate) mod whole;
 
 pub(crate) use body::{escape_at, escape_chunks};
-pub use escape_lanes::simd::vector::{HTML_MODE, JSON_MODE, SCRIPT_MODE};
+pub use escape_lanes::simd::mode::{HTML_MODE, JSON_MODE, SCRIPT_MODE};
 pub use escape_lanes::simd::{BitMask, Flags, LoadLast, Mask, Simd, Vector, bits, target};
 pub(crate) use tail::{TailFlags, classify_pair, classify_short, escape_flagged_at};

@@ -5,7 +5,6 @@ ghost use Rattle.escape_simd.specs.Output.{plain, inner};
 
 use crate::piecewise::{escape_inner, split_front};
 use escape_simd::output::{quote, write_inner};
-use escape_simd::simd::target::Target;
 
 /// The number of bytes at the end of an output that are made in an array.
 const END: usize = 64;
@@ -63,6 +62,5 @@ fn write_end<const MODE: u8>(rest: &str, dst: &mut [u8], at: usize)
 {
     let mut room = [0; END_ROOM];
     let end = escape_inner::<MODE>(rest, &mut room);
-    let mut target = Target::<{ END }>::new(dst);
-    target.put_front(at, end.as_bytes());
+    dst[at..].copy_from_slice(end.as_bytes());
 }

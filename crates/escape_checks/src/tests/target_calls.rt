@@ -26,8 +26,8 @@ fn written_to<const N: usize, S: Simd<Element = u8>>() -> [u8; 160]
     target.quote(0);
     target.escape(1, b"&lt;\0\0\0\0");
     target.escape_block(9, u8x16::from_array(*b"a\"b\\cdefghijklmn"), 0b1010);
-    target.put_front(25, b"f");
-    target.put(27, &[b'p'; N]);
+    target.store_front(25, &S::splat(b'f'), 1);
+    target.store(27, &S::splat(b'p'));
     target.store(91, &S::loadu(LANES));
     target.quote(target.len() - 1);
     bytes

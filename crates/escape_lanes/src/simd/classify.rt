@@ -5,8 +5,9 @@ ghost use Rattle.escape_lanes.specs.Classified.{asked_of, Tells};
 ghost use Rattle.escape_lanes.specs.Mode.{mode_numbered};
 ghost use Rattle.escape_lanes.specs.Replacement.{needs_escape};
 
+use crate::simd::mode::flags;
 use crate::simd::ticks::Ticks;
-use crate::simd::vector::{HTML_MODE, JSON_MODE, Vector};
+use crate::simd::vector::Vector;
 
 /// Bytes for which a classifier answered. Only the functions below make one, and it can't be cloned.
 ///
@@ -24,21 +25,6 @@ impl Classified<'static> {
         ensures { asked_of result ≡ [] }
     {
         Classified { bytes: &[] }
-    }
-}
-
-/// Returns which lanes of a vector are flagged in the mode numbered `MODE`. Ticks once.
-#[inline(always)]
-pub fn flags<V: Vector<N>, const MODE: u8, const N: usize>(v: &V, ticks: &mut Ticks) -> V::Flags
-    ensures lanes { V.Flags.truths result ≡ map (needs_escape (mode_numbered MODE)) (V.lanes v.now) }
-    ensures tick { ticks.new ≡ ticks.old + 1 }
-{
-    if MODE == JSON_MODE {
-        v.json_flags(ticks)
-    } else if MODE == HTML_MODE {
-        v.html_flags(ticks)
-    } else {
-        v.script_flags(ticks)
     }
 }
 

@@ -1,9 +1,10 @@
-//! The flags of a vector: first as lanes, which are joined with those of other vectors, then as a number.
+//! The flags of a vector: first in the form that the classifier makes, which are joined with those of other vectors, then as a
+//! number.
 ghost use Rattle.std.specs.Prelude.{◌≡◌, ℕ, ◌-◌, ◌≤◌, ◌||◌, ◌++◌, Bool, List, false, length, replicate};
 ghost use Rattle.std.specs.Simd.Lanes.{zip2};
 ghost use Rattle.escape_lanes.specs.Bits.{bits_of, none_set};
 
-/// Which lanes of a vector are flagged, as a vector.
+/// Which lanes of a vector are flagged: as a vector, and in `avx512` as bits.
 ///
 /// The flags of several vectors are joined, and asked once whether any lane is flagged. Only then is a
 /// number made of each.

@@ -2,12 +2,12 @@
 ghost use Rattle.std.specs.Prelude.{◌≡◌, ◌≢◌, ℕ, ◌+◌, ◌*◌, ◌/◌, ◌%◌, ◌<◌, ◌≤◌, ◌++◌, ◌&&◌, not, false, [], length, take, drop, map, replicate, slice_index_or};
 ghost use Rattle.std.specs.Simd.Lanes.{zip2};
 ghost use Rattle.escape_lanes.specs.Bits.{bits_of, none_set};
-ghost use Rattle.escape_lanes.specs.Mode.{mode_numbered};
+ghost use Rattle.escape_lanes.specs.Mode.{html, mode_numbered};
 ghost use Rattle.escape_lanes.specs.Short.{shortened, is_long};
 
 use crate::simd::lane_bits::shift_lanes;
 use crate::simd::lanes::load;
-use crate::simd::vector::SCRIPT_MODE;
+use crate::simd::mode::is_script;
 use std::simd::prelude::*;
 
 /// Returns the 16 bytes of the text from `at` on, with the letter of its short escape in place of each control
@@ -67,13 +67,13 @@ pub fn half(piece: u8x16, block: usize) -> u8x16
 /// Returns a bit for each of the text's 16 bytes from `at` on: it is set if the byte needs an escape and has no short one.
 #[inline(always)]
 fn long_lanes<const MODE: u8>(text: &[u8], at: usize) -> u64
-    requires mode { MODE ≢ 1 }
+    requires mode { mode_numbered MODE ≢ html }
     requires inside { at + 16 ≤ length text.now }
     ensures { bits_of 64 result ≡ map (is_long (mode_numbered MODE)) (take 16 (drop at text.now)) ++ replicate 48 false }
 {
     let bytes = shorten(text, at);
     let control = bytes.simd_le(u8x16::splat(0x1f));
-    if MODE < SCRIPT_MODE {
+    if !is_script::<MODE>() {
         return control.to_bitmask();
     }
     let angle = (bytes | u8x16::splat(2)).simd_eq(u8x16::splat(b'>'));
@@ -88,7 +88,7 @@ fn long_lanes<const MODE: u8>(text: &[u8], at: usize) -> u64
 /// The text has a multiple of 16 bytes, at most 64. Of a text with `"` and `\u{1}` that is so where the second is flagged.
 #[inline(always)]
 pub fn has_long<const MODE: u8>(text: &[u8], flags: u64) -> bool
-    requires mode { MODE ≢ 1 }
+    requires mode { mode_numbered MODE ≢ html }
     requires sixteens { length text.now ≡ 16 * (length text.now / 16) }
     requires few { length text.now ≤ 64 }
     ensures { result ≡ not (none_set (zip2 ◌&&◌ (map (is_long (mode_numbered MODE)) text.now) (bits_of 64 flags))) }

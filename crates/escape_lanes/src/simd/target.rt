@@ -93,9 +93,7 @@ impl<'a, const N: usize> Target<'a, N> {
         ensures quotes { quotes_of self.new ≡ quotes_of self.old }
         ensures writes { writes_of self.new ≡ writes_of self.old + 1 }
     {
-        let mut lanes = [0u8; N];
-        v.put(&mut lanes);
-        self.put(at, &lanes);
+        self.store_front(at, v, N);
     }
 
     /// Writes exactly the first `k` lanes of `v` at `at`.
@@ -115,30 +113,7 @@ impl<'a, const N: usize> Target<'a, N> {
     {
         let mut lanes = [0u8; N];
         v.put(&mut lanes);
-        self.put_front(at, &lanes[..k]);
-    }
-
-    /// Writes the `N` lanes of a vector at `at`, as [`store`](Target::store) does.
-    ///
-    /// The target has `N` bytes from `at` on.
-    #[inline(always)]
-    pub fn put(&mut self, at: usize, lanes: &[u8; N])
-        requires room { at + N ≤ length (bytes_of self.old) }
-        ensures { Writes 1 0 0 self.old self.new at lanes.now }
-    {
-        self.put_front(at, lanes);
-    }
-
-    /// Writes the first lanes of a vector at `at`, and nothing past them.
-    ///
-    /// There are at most `N` of them, and the target has as many bytes from `at` on.
-    #[inline(always)]
-    pub fn put_front(&mut self, at: usize, lanes: &[u8])
-        requires count { length lanes.now ≤ N }
-        requires room { at + length lanes.now ≤ length (bytes_of self.old) }
-        ensures { Writes 1 0 0 self.old self.new at lanes.now }
-    {
-        self.write(at, lanes);
+        self.write(at, &lanes[..k]);
         self.stored.raise();
     }
 

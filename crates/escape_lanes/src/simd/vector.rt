@@ -1,4 +1,4 @@
-//! What a kernel asks of its vector, and the modes as numbers.
+//! What a kernel asks of its vector.
 ghost use Rattle.std.specs.Prelude.{◌≡◌, ◌+◌, ◌*◌, ◌/◌, ◌≤◌, map};
 ghost use Rattle.escape_lanes.specs.Mode.{json, html, script};
 ghost use Rattle.escape_lanes.specs.Replacement.{needs_escape};
@@ -6,15 +6,6 @@ ghost use Rattle.escape_lanes.specs.Replacement.{needs_escape};
 use crate::simd::flags::Flags;
 use crate::simd::last::LoadLast;
 use crate::simd::ticks::Ticks;
-
-/// The number of the mode that writes a JSON string literal.
-pub const JSON_MODE: u8 = 0;
-
-/// The number of the mode that writes HTML.
-pub const HTML_MODE: u8 = 1;
-
-/// The number of the mode that writes a JSON string literal for a script element.
-pub const SCRIPT_MODE: u8 = 2;
 
 /// A vector of `N` bytes that a kernel loads, classifies and stores.
 pub trait Vector<const N: usize>: LoadLast {

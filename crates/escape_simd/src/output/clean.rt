@@ -12,8 +12,9 @@ ghost use Rattle.escape_simd.specs.Stretch.{HoldsFlags, rest_length};
 use crate::output::length::added;
 use crate::output::{N, V};
 use crate::simd::LoadLast;
-use escape_lanes::simd::classify::{classify, flags};
+use escape_lanes::simd::classify::classify;
 use escape_lanes::simd::lane_bits::clear_first_lane;
+use escape_lanes::simd::mode::flags;
 use escape_lanes::simd::target::Ticks;
 use escape_lanes::simd::{BitMask, Flags};
 

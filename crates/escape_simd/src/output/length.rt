@@ -7,10 +7,10 @@ ghost use Rattle.escape_simd.specs.Stretch.{IsFlaggedAt};
 
 use crate::output::clean::{clean_end, mask_at};
 use crate::output::{N, quote};
-use crate::simd::SCRIPT_MODE;
-use crate::simd::entry::{entry, is_separator};
+use crate::simd::separator::is_separator;
 use escape_lanes::simd::BitMask;
 use escape_lanes::simd::lane_bits::clear_first_lane;
+use escape_lanes::simd::mode::entry;
 
 /// Returns how many bytes more than itself stand for the flagged byte at `at`, or for the separator that
 /// begins with it.
@@ -19,7 +19,7 @@ pub(super) fn added<const MODE: u8>(src: &[u8], at: usize) -> usize
     requires { IsFlaggedAt (mode_numbered MODE) src.now at }
     ensures { IsPartLength (mode_numbered MODE) src.now at (at + 1) (result + 1) }
 {
-    if SCRIPT_MODE <= MODE && is_separator(src, at) {
+    if is_separator::<MODE>(src, at) {
         // Six bytes stand for three.
         return 3;
     }

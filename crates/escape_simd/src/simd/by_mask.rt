@@ -6,12 +6,13 @@ ghost use Rattle.escape_lanes.specs.Written.{bytes_of};
 ghost use Rattle.escape_simd.specs.Modes.{mode_numbered};
 ghost use Rattle.escape_simd.specs.Stretch.{CanStore, Escapes, IsFinished, IsStored, IsVectorAt, IsVectorEnd, reach, state};
 
+use crate::simd::Vector;
 use crate::simd::store::store;
 use crate::simd::util::{are_paid, are_short, escape, escape_blocks};
-use crate::simd::{SCRIPT_MODE, Vector};
 use escape_lanes::simd::BitMask;
 use escape_lanes::simd::classify::{Classified, classify_by_mask};
 use escape_lanes::simd::lane_bits::clear_first_lane;
+use escape_lanes::simd::mode::is_script;
 use escape_lanes::simd::target::{Target, Ticks};
 
 /// Stores the text's bytes from `from` on, where a run of escapes has ended, up to the vector's `border`. The mask has
@@ -137,7 +138,7 @@ pub(crate) fn escape_by_mask<V: Vector<N>, const MODE: u8, const N: usize, const
         to,
         ticks,
     );
-    if SCRIPT_MODE <= MODE {
+    if is_script::<MODE>() {
         return (at + passed, end);
     }
     // Both places are the same. By this one the next vector's address does not depend on this one's bytes.

@@ -9,9 +9,10 @@ ghost use Rattle.escape_simd.specs.Stretch.{Escaped, IsFlaggedAt, Stretch, run_e
 
 mod blocks;
 
-use crate::simd::entry::{entry, is_separator, separator_entry};
-use crate::simd::{HTML_MODE, JSON_MODE, SCRIPT_MODE};
+use crate::simd::separator::{is_separator, separator_entry};
+use crate::simd::{HTML_MODE, JSON_MODE};
 pub(crate) use blocks::{are_paid, are_short, escape_blocks};
+use escape_lanes::simd::mode::entry;
 use escape_lanes::simd::target::Target;
 
 /// Writes what stands for the byte at `at`, which needs an escape, or for the separator that begins
@@ -27,7 +28,7 @@ pub(crate) fn escape<const MODE: u8, const N: usize>(
     requires room { to + 8 ≤ length (bytes_of target.old) }
     ensures { Escaped (mode_numbered MODE) src.now target.old target.new at result.0 to result.1 }
 {
-    if SCRIPT_MODE <= MODE && is_separator(src, at) {
+    if is_separator::<MODE>(src, at) {
         target.escape(to, separator_entry(src[at + 2]));
         return (at + 3, to + 6);
     }

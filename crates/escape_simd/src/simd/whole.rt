@@ -15,6 +15,7 @@ use crate::simd::body::escape_bytes;
 use crate::simd::tail::{TailFlags, escape_flagged_tail, store_clean_tail};
 use crate::simd::{HTML_MODE, JSON_MODE, Vector};
 use escape_lanes::simd::classify::Classified;
+use escape_lanes::simd::mode::is_quoted;
 use escape_lanes::simd::target::{Target, Ticks};
 
 /// Writes a quotation mark in JSON, also in script mode, and nothing in HTML. Returns the place after it.
@@ -23,7 +24,7 @@ fn quote<const MODE: u8, const N: usize>(target: &mut Target<'_, N>, to: usize) 
     requires { to < length (bytes_of target.old) }
     ensures { IsQuoted (mode_numbered MODE) target.old target.new to result }
 {
-    if MODE == HTML_MODE {
+    if !is_quoted::<MODE>() {
         return to;
     }
     target.quote(to);

@@ -8,9 +8,9 @@ ghost use Rattle.escape_lanes.specs.Written.{bytes_of, stored_of};
 ghost use Rattle.escape_simd.specs.Modes.{mode_numbered};
 ghost use Rattle.escape_simd.specs.Stretch.{AreShort, HasBlocks, Stretch};
 
-use crate::simd::HTML_MODE;
 use escape_lanes::simd::classify::{Classified, classify_by_mask};
 use escape_lanes::simd::lane_bits::{count_flagged_blocks, count_gaps, eight_lanes, is_flagged};
+use escape_lanes::simd::mode::has_short_escapes;
 use escape_lanes::simd::short::{half, has_long, shorten_vector};
 use escape_lanes::simd::target::{Target, Ticks};
 use std::simd::prelude::*;
@@ -38,7 +38,7 @@ pub(crate) fn are_short<const MODE: u8, const N: usize>(src: &[u8], at: usize, f
     requires inside { at + N ≤ length src.now }
     ensures { result ≡ true → AreShort (mode_numbered MODE) N src.now at (bits_of 64 flags) }
 {
-    MODE != HTML_MODE && !has_long::<MODE>(&src[at..at + N], flags)
+    has_short_escapes::<MODE>() && !has_long::<MODE>(&src[at..at + N], flags)
 }
 
 /// Returns the classification for a block of the text's bytes from `from` up to `until`, what is left of the text's own, and

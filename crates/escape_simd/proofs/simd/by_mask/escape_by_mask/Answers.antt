@@ -1,6 +1,6 @@
-use Rattle.escape_simd.proofs.Words.{◌+◌, ◌-◌, ◌∙◌, ℕ, Bool, not, nat_eq, List, length, length-drop, take, drop, refl, sym, subst, arith, take_all, bits_of, bytes_of, mode_numbered, asked_of, Escapes, HasBlocks, IsVectorAt, IsWithin, Mode, Target, reach, state}
+use Rattle.escape_simd.proofs.Words.{true≢false, ◌+◌, ◌-◌, ◌∙◌, ℕ, Bool, not, nat_eq, List, length, length-drop, take, drop, refl, sym, subst, arith, take_all, bits_of, bytes_of, mode_numbered, asked_of, Escapes, HasBlocks, IsVectorAt, IsWithin, Mode, Target, reach, state}
 use denote.Param.{number, value_of}
-use Rattle.escape_simd.proofs.Escapes.{bytewise-below}
+use Rattle.escape_simd.proofs.Escapes.{bytewise-but-script}
 use Rattle.escape_simd.proofs.Lanes.{held-none}
 use Rattle.escape_simd.proofs.Stretches.{reach-bounds, room-near}
 use Rattle.escape_simd.proofs.Vectors.{escapes-ended, escapes-later, vector-blocks, vector-clean, vector-later, vector-stores}
@@ -45,10 +45,10 @@ by-turns : {N : ℕ} {mode : Mode} {slack valid size : ℕ} {src : List ℕ} {at
     → Escapes mode slack valid 1 1 (take (length src - at) (drop at src)) (state old 0 to t0) (state new passed end t1) → Escapes mode slack (at + valid) 1 1 src (state old at to t0) (state new (at + passed) end t1)
 by-turns {src = src} {at = at} v e = escapes-later src (take (length src - at) (drop at src)) at (take_all (length src - at) (drop at src) (omega (arith, length-drop at src))) (omega (arith, v.inside)) e
 
-pub returns-then-this-ge-SCRIPT_MODE : goal.returns-then-this-ge-SCRIPT_MODE
-returns-then-this-ge-SCRIPT_MODE g c = by-turns c.requires.vector c.escape_by_turns-passed.ensures
+pub returns-then-is_script : goal.returns-then-is_script
+returns-then-is_script g c = by-turns c.requires.vector c.escape_by_turns-passed.ensures
 
 pub returns : goal.returns
 returns g c =
     let e = by-turns c.requires.vector c.escape_by_turns-passed.ensures in
-    escapes-ended refl (e.passed.exact (bytewise-below g.row.MODE c.if-this-ge-SCRIPT_MODE.false)) refl e
+    escapes-ended refl (e.passed.exact (bytewise-but-script (λ e. true≢false (sym (c.is_script.ensures.1 e) ∙ c.if-is_script.false)))) refl e

@@ -1,8 +1,7 @@
-use Rattle.escape_simd.proofs.Words.{◌≡◌, ℕ, ◌+◌, true, false, ◌==◌, List, length, take, drop, get_or, codes, if◌then◌else◌, refl, sym, ap, ◌∙◌, arith, script, entry_count, padded, mode_numbered, begins_separator, passed, first_replacement}
+use Rattle.escape_simd.proofs.Words.{◌≡◌, ℕ, ◌+◌, true, ◌==◌, List, length, take, drop, get_or, codes, if◌then◌else◌, refl, sym, ap, ◌∙◌, arith, script, entry_count, padded, mode_numbered, begins_separator, passed, first_replacement}
 use Rattle.escape_simd.proofs.ReplacementLemmas.{length-replacement}
 use Rattle.escape_simd.proofs.Stretches.{escaped_unit, ended}
-use Rattle.escape_simd.proofs.Escapes.{entry-counts, entry-front, entry-long, first-alone, is_script, not_script, third-at, third-inside, passed-alone}
-use Rattle.escape_simd.proofs.simd.util.escape.Goals.{else-this-ge-SCRIPT_MODE-via-then-this-ge-SCRIPT_MODE+else-is_separator, else-this-ge-SCRIPT_MODE-via-else-this-ge-SCRIPT_MODE}
+use Rattle.escape_simd.proofs.Escapes.{entry-counts, entry-front, entry-long, first-alone, third-at, third-inside, passed-alone}
 use Rattle.escape_simd.proofs.simd.util.escape.Goals as goal
 
 -- the entry of a separator begins with what stands for it
@@ -12,13 +11,12 @@ separator-front : (src : List ℕ) (at third : ℕ) (entry : List ℕ) → begin
 separator-front src at third entry begins is e = grind (arith, third-at)
 
 pub bounds-src-at : goal.bounds-src-at
-bounds-src-at g c = third-inside c.args.src.now c.args.at (sym c.is_separator.ensures ∙ c.if-is_separator.true)
+bounds-src-at g c = third-inside c.args.src.now c.args.at (c.is_separator.ensures.begins c.if-is_separator.true).1
 
 pub returns-then-is_separator : goal.returns-then-is_separator
 returns-then-is_separator g c =
     let mode = mode_numbered g.row.MODE in let src : List ℕ = c.args.src.now in let at : ℕ = c.args.at in let e = c.escape.ensures in
-    let third = is_script g.row.MODE c.if-this-ge-SCRIPT_MODE.true in
-    let begins : begins_separator (drop at src) ≡ true = sym c.is_separator.ensures ∙ c.if-is_separator.true in
+    let is = c.is_separator.ensures.begins c.if-is_separator.true in let third = is.0 in let begins = is.1 in
     let f = separator-front src at (get_or src (at + 2) 0) c.separator_entry.result.now begins refl c.separator_entry.ensures in
     let three : passed mode (drop at src) ≡ 3 = ap (λ m. passed m (drop at src)) third ∙ rw begins refl in
     let step : at + passed mode (drop at src) ≡ at + 3 = ap (λ k. at + k) three in
@@ -33,11 +31,7 @@ returns-then-is_separator g c =
 pub returns : goal.returns
 returns g c =
     let mode = mode_numbered g.row.MODE in let src : List ℕ = c.args.src.now in let at : ℕ = c.args.at in let e = c.escape-2.ensures in let b : ℕ = get_or src at 0 in
-    let none : mode ≡ script → begins_separator (drop at src) ≡ false =
-    elim c.else-this-ge-SCRIPT_MODE.branch [
-      | else-this-ge-SCRIPT_MODE-via-then-this-ge-SCRIPT_MODE+else-is_separator w ↦ λ e. sym w.is_separator.ensures ∙ w.if-is_separator.false
-      | else-this-ge-SCRIPT_MODE-via-else-this-ge-SCRIPT_MODE w ↦ λ e. absurd (not_script g.row.MODE w.if-this-ge-SCRIPT_MODE.false e)
-    ] in
+    let none = c.is_separator.ensures.none c.if-is_separator.false in
     let needed = c.requires.flagged.needed in let entry = c.entry-entry.ensures in
     let step : at + passed mode (drop at src) ≡ at + 1 = ap (λ k. at + k) (passed-alone mode src at none) in
     let six = (length-replacement mode b).1 in let count = entry.count ∙ entry-counts mode b needed in

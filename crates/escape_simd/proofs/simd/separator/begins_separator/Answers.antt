@@ -1,6 +1,6 @@
 use Rattle.escape_simd.proofs.Words.{arith, nat_tests, get_or_past}
 use Rattle.escape_simd.proofs.Escapes.{begins-at}
-use Rattle.escape_simd.proofs.simd.entry.is_separator.Goals as goal
+use Rattle.escape_simd.proofs.simd.separator.begins_separator.Goals as goal
 
 pub returns-then-src-at : goal.returns-then-src-at
 returns-then-src-at c = let e = begins-at c.args.src.now c.args.at in grind (arith, nat_tests, e)

@@ -23,7 +23,7 @@ pub use clean::is_clean;
 pub use error::Refusal;
 use escape_lanes::simd::mode::is_quoted;
 pub use length::escaped_len;
-use push::push_all;
+use push::push_quote;
 use std::alloc::Allocator;
 
 /// The vector of these calls, and how many bytes it has.
@@ -85,11 +85,10 @@ pub fn write_inner<const MODE: u8>(value: &str, dst: &mut [u8], at: usize) -> us
 
 /// Appends the output of a text to a vector that has room for it.
 fn append_output<const MODE: u8, A: Allocator>(value: &str, dst: &mut Vec<u8, A>)
-    requires mode { MODE ≤ 2 }
-    requires room { vec_len dst.old + bound (mode_numbered MODE) (length value.now) ≤ vec_capacity dst.old }
+    requires { vec_len dst.old + bound (mode_numbered MODE) (length value.now) ≤ vec_capacity dst.old }
     ensures { dst.new.items ≡ dst.old.items ++ plain (mode_numbered MODE) value.now }
 {
-    push_all(dst, quote::<MODE>().as_bytes());
+    push_quote::<MODE, A>(dst);
     let text = value.as_bytes();
     if text.len() < 2 * N {
         return append_last::<MODE, A>(text, dst);

@@ -7,8 +7,8 @@ ghost use Rattle.escape_simd.specs.Output.{inner, quote_of};
 
 use crate::output::clean::clean_end;
 use crate::output::in_place::{append_flagged, append_in_place};
-use crate::output::push::push_all;
-use crate::output::{N, V, quote};
+use crate::output::push::{push_all, push_quote};
+use crate::output::{N, V};
 use crate::simd::{Simd, classify_pair, classify_short};
 use escape_lanes::simd::target::Ticks;
 use std::alloc::Allocator;
@@ -16,7 +16,6 @@ use std::alloc::Allocator;
 /// Appends what stands for a text of fewer bytes than two vectors have: from registers if no byte is flagged.
 #[inline(always)]
 pub(super) fn append_last<const MODE: u8, A: Allocator>(text: &[u8], dst: &mut Vec<u8, A>)
-    requires mode { MODE ≤ 2 }
     requires few { length text.now < 2 * N }
     requires room { vec_len dst.old + 6 * length text.now + N ≤ vec_capacity dst.old }
     ensures { dst.new.items ≡ dst.old.items
@@ -30,7 +29,7 @@ pub(super) fn append_last<const MODE: u8, A: Allocator>(text: &[u8], dst: &mut V
             v.storeu(&mut lanes);
             push_all(dst, &lanes);
             dst.truncate(len + count);
-            return push_all(dst, quote::<MODE>().as_bytes());
+            return push_quote::<MODE, A>(dst);
         }
         flags
     } else {
@@ -41,7 +40,7 @@ pub(super) fn append_last<const MODE: u8, A: Allocator>(text: &[u8], dst: &mut V
             // The last vector overlaps the first one.
             dst.truncate(len + last);
             push_all(dst, &text[last..last + N]);
-            return push_all(dst, quote::<MODE>().as_bytes());
+            return push_quote::<MODE, A>(dst);
         }
         flags
     };
@@ -58,8 +57,7 @@ pub(super) fn append_last<const MODE: u8, A: Allocator>(text: &[u8], dst: &mut V
 /// Appends what stands for a text of two vectors or more: its clean front as it is, and then the rest.
 #[inline(never)]
 pub(super) fn append_long<const MODE: u8, A: Allocator>(text: &[u8], dst: &mut Vec<u8, A>)
-    requires mode { MODE ≤ 2 }
-    requires room { vec_len dst.old + 6 * length text.now + N ≤ vec_capacity dst.old }
+    requires { vec_len dst.old + 6 * length text.now + N ≤ vec_capacity dst.old }
     ensures { dst.new.items ≡ dst.old.items
         ++ (inner (mode_numbered MODE) text.now ++ quote_of (mode_numbered MODE)) }
 {

@@ -6,8 +6,8 @@ ghost use Rattle.escape_simd.specs.Modes.{mode_numbered};
 ghost use Rattle.escape_simd.specs.Output.{inner, quote_of};
 ghost use Rattle.escape_simd.specs.Stretch.{AreTail};
 
-use crate::output::push::{fill, push_all};
-use crate::output::{N, V, quote};
+use crate::output::push::{fill, push_quote};
+use crate::output::{N, V};
 use crate::simd::{TailFlags, escape_at, escape_chunks, escape_flagged_at};
 use escape_lanes::simd::classify::Classified;
 use std::alloc::Allocator;
@@ -25,7 +25,6 @@ pub(super) fn append_flagged<const MODE: u8, A: Allocator>(
     last_classified: Classified<'_>,
     dst: &mut Vec<u8, A>,
 )
-    requires mode { MODE ≤ 2 }
     requires flagged { AreTail (mode_numbered MODE) N text.now (bits_of 64 first) (bits_of 64 last) (asked_of first_classified) (asked_of last_classified) }
     requires room { vec_len dst.old + 6 * length text.now + N ≤ vec_capacity dst.old }
     ensures { dst.new.items ≡ dst.old.items
@@ -41,15 +40,14 @@ pub(super) fn append_flagged<const MODE: u8, A: Allocator>(
     fill(dst, old + 6 * text.len() + N);
     let end = escape_flagged_at::<V, MODE, N>(text, flags, dst, old);
     dst.truncate(end);
-    push_all(dst, quote::<MODE>().as_bytes());
+    push_quote::<MODE, A>(dst);
 }
 
 /// Appends what stands for the text's bytes, and the last quotation mark. The vector is filled for a chunk or
 /// more at a time, and then for the rest.
 #[inline(never)]
 pub(super) fn append_in_place<const MODE: u8, A: Allocator>(src: &[u8], dst: &mut Vec<u8, A>)
-    requires mode { MODE ≤ 2 }
-    requires room { vec_len dst.old + 6 * length src.now + N ≤ vec_capacity dst.old }
+    requires { vec_len dst.old + 6 * length src.now + N ≤ vec_capacity dst.old }
     ensures { dst.new.items ≡ dst.old.items
         ++ (inner (mode_numbered MODE) src.now ++ quote_of (mode_numbered MODE)) }
 {
@@ -64,5 +62,5 @@ pub(super) fn append_in_place<const MODE: u8, A: Allocator>(src: &[u8], dst: &mu
     fill(dst, end + 6 * left.len() + N);
     let close = escape_at::<V, MODE, N>(left, dst, end);
     dst.truncate(close);
-    push_all(dst, quote::<MODE>().as_bytes());
+    push_quote::<MODE, A>(dst);
 }

@@ -1,6 +1,9 @@
 //! Bytes at the end of a vector that has room for them.
-ghost use Rattle.std.specs.Prelude.{◌≡◌, ◌+◌, ◌≤◌, ◌++◌, length, take, drop, vec_len, vec_capacity};
+ghost use Rattle.std.specs.Prelude.{◌≡◌, ◌+◌, ◌<◌, ◌≤◌, ◌++◌, length, take, drop, vec_len, vec_capacity};
+ghost use Rattle.escape_simd.specs.Modes.{mode_numbered};
+ghost use Rattle.escape_simd.specs.Output.{quote_of};
 
+use escape_lanes::simd::mode::is_quoted;
 use std::alloc::Allocator;
 
 /// How many bytes of a vector are filled with zeros at a time, if it has room for them.
@@ -25,6 +28,18 @@ pub(super) fn push_all<A: Allocator>(dst: &mut Vec<u8, A>, bytes: &[u8])
     let Ok(()) = dst.extend_from_slice(bytes) else {
         unreachable!()
     };
+}
+
+/// Appends the quotation mark, if the mode has one.
+#[inline(always)]
+pub(super) fn push_quote<const MODE: u8, A: Allocator>(dst: &mut Vec<u8, A>)
+    requires { vec_len dst.old < vec_capacity dst.old }
+    ensures items { dst.new.items ≡ dst.old.items ++ quote_of (mode_numbered MODE) }
+    ensures capacity { vec_capacity dst.old ≤ vec_capacity dst.new }
+{
+    if is_quoted::<MODE>() {
+        dst.push_reserved(b'"');
+    }
 }
 
 /// Makes the vector `len` bytes long or longer by zeros, where it is shorter. It has room for `len`.

@@ -7,9 +7,9 @@ returns-then-none g c =
     let mode = mode_numbered g.row.MODE in let text : List ℕ = c.args.text.now in let old : List ℕ = c.args.dst.now.items in let len : ℕ = c.len-len.result in
     let none = c.none.ensures c.if-none.true in let itself = tail-itself mode 32 text c.classify_short.ensures.flagged none.0 none.1 in
     let pushed = c.push_all.ensures.items ∙ ap (λ xs. old ++ xs) (c.storeu.ensures ∙ append-nil _) in
-    marked mode text old c.truncate.new.self.items c.push_all-then-none.new.dst.items
+    marked mode text old c.truncate.new.self.items c.push_quote.new.dst.items
     (c.truncate.ensures.items ∙ ap (take (len + length text)) pushed ∙ vector-front old text _ 32 len (omega (arith, c.len-len.ensures)) c.classify_short.ensures.loaded ∙ ap (λ xs. old ++ xs) (sym itself))
-    (c.push_all-then-none.ensures.items ∙ ap (λ q. c.truncate.new.self.items ++ q) (c.as_bytes.ensures.value ∙ c.quote.ensures))
+    c.push_quote.ensures.items
 
 pub push_all-requires-then-none-2 : goal.push_all-requires-then-none-2
 push_all-requires-then-none-2 g c = omega (arith, length-take-le 32 c.args.text.now (omega (arith, c.if-count-lt-N.false)), c.if-count-lt-N.false, c.requires.room)
@@ -20,10 +20,10 @@ returns-then-none-2 g c =
     let len : ℕ = c.len-len.result in let last : ℕ = length text - 32 in
     let all : last + 32 ≡ length text = omega (arith, c.if-count-lt-N.false) in let one : last + 32 - last ≡ 32 = omega arith in
     let none = c.none-else-count-lt-N.ensures c.if-none-2.true in let itself = tail-itself mode 32 text c.classify_pair-flags.ensures.flagged none.0 none.1 in
-    marked mode text old c.push_all-then-none-2-2.new.dst.items c.push_all-then-none-2-3.new.dst.items
+    marked mode text old c.push_all-then-none-2-2.new.dst.items c.push_quote-then-none-2.new.dst.items
     (c.push_all-then-none-2-2.ensures.items
     ∙ ap (λ k. c.truncate-then-none-2.new.self.items ++ take k (drop last text)) one
     ∙ ap (λ xs. xs ++ take 32 (drop last text)) c.truncate-then-none-2.ensures.items
     ∙ vector-over old text c.push_all-then-none-2.new.dst.items len last 32 32 (omega (arith, c.len-len.ensures)) (omega (arith, c.requires.few)) c.push_all-then-none-2.ensures.items
     ∙ ap (λ xs. old ++ xs) (take_all (last + 32) text (omega (arith, all)) ∙ sym itself))
-    (c.push_all-then-none-2-3.ensures.items ∙ ap (λ q. c.push_all-then-none-2-2.new.dst.items ++ q) (c.as_bytes-then-none-2.ensures.value ∙ c.quote-then-none-2.ensures))
+    c.push_quote-then-none-2.ensures.items

@@ -76,7 +76,7 @@ pub extern "C" fn escape_html_unchecked(
 ///
 /// # Errors
 ///
-/// 1: the text is not UTF-8. 3: the length exceeds `SIZE_MAX`. `count` is then 0.
+/// 1: the text is not UTF-8. 3: the output exceeds `SIZE_MAX`, or the text `PTRDIFF_MAX`. `count` is then 0.
 #[unsafe(no_mangle)]
 pub extern "C" fn escape_html_length(text: &[u8], count: &mut usize) -> u32
     ensures refused { (why : Refusal) → (result ≡ status_of why) ↔ RefusesLength html text.now why }
@@ -87,13 +87,13 @@ pub extern "C" fn escape_html_length(text: &[u8], count: &mut usize) -> u32
     escape_length::<{ HTML_MODE }>(text, count)
 }
 
-/// Writes the text as HTML to the front of `buffer`, which has room for it, and returns the status.
-/// `count` gets how many bytes that has. The bytes after it are unchanged.
+/// Writes the text as HTML to the front of `buffer`, if it has room, and returns the status.
+/// `count` gets the output's length. The bytes after the output are unchanged.
 ///
 /// # Errors
 ///
-/// 1: the text is not UTF-8. 2: `buffer` is shorter than the output. 3: the output's length exceeds `SIZE_MAX`.
-/// `buffer` is then unchanged. `count` is the output's length at 2, and 0 at 1 and 3.
+/// 1: the text is not UTF-8. 2: `buffer` is shorter than the output. 3: the output exceeds `SIZE_MAX`, or the
+/// text `PTRDIFF_MAX`. `buffer` is then unchanged. `count` is the output's length at 2, and 0 at 1 and 3.
 #[unsafe(no_mangle)]
 pub extern "C" fn escape_html_exact(text: &[u8], buffer: &mut [u8], count: &mut usize) -> u32
     ensures refused { (why : Refusal) → (result ≡ status_of why)

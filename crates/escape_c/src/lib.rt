@@ -1,7 +1,7 @@
 //! The calls that C, and what can call C, makes of this project. `c/escape.h` declares them.
 //!
-//! For each mode there is the bound for a length, the escaping of a text into the caller's buffer, and the
-//! same for callers who know that their bytes are UTF-8. What a caller can get wrong is answered by a
+//! Each mode has the bound, the length of an output, and calls that escape into a buffer of either size. The `_unchecked`
+//! calls trust that the bytes are UTF-8, and the `_inner` calls take a text in pieces. What a caller can get wrong is answered by a
 //! status, never by a condition: only that pointers are valid, and that the bytes are UTF-8 where a call
 //! is `_unchecked`, is the caller's affair. No call takes memory or keeps state.
 #![tactic(auto)]

@@ -21,7 +21,7 @@ pub record AreWhole (one n : ℕ) (lanes : List ℕ) : Type 0 where
   pub full : length lanes ≡ n
   pub whole : lanes ≡ mask_lanes one (set_lanes one lanes)
 
--- A vector of flags has 80 or more in each lane that is flagged, and less in the others.
+-- A vector of flags has 0x80 or more in each lane that is flagged, and less in the others.
 
 -- whether each lane is flagged
 abbrev pub flagged_lanes : List ℕ → List Bool

@@ -50,7 +50,7 @@ pub fn script_entry(b: u8) -> &'static (u8, [u8; 8])
     &SCRIPT_TAB[b as usize]
 }
 
-/// Returns the places that the bytes of a block of eight are taken from, where so many of them are flagged: place 8
+/// Returns the places that the bytes of a block of eight are taken from, by their flags: place 8
 /// stands before each flagged byte, and fills the row.
 ///
 /// `spread_row(0b10)` is `[0, 8, 1, 2, 3, 4, 5, 6, 7, 8, 8, 8, 8, 8, 8, 8]`.

@@ -9,7 +9,7 @@ use Rattle.escape_simd.specs.Output.{plain}
 use Rattle.escape_simd.specs.Script.{IsSafeInScript}
 use Rattle.escape_simd.specs.Spelling.{IsTextOf}
 
--- no byte is a control character, so that the bytes stand on one line
+-- no byte is below 0x20: there is no line feed and no carriage return
 abbrev pub IsOneLine : List ℕ → Type 0
 IsOneLine bytes = All (λ b. 0x20 ≤ b) bytes
 

@@ -90,7 +90,7 @@ pub fn escape_html_in<A: Allocator>(alloc: A, value: &str) -> Result<String<A>, 
     Ok(text::<{ HTML_MODE }, A>(alloc, value)?)
 }
 
-/// Appends the output that [`escape_html`] returns to `dst`. The bytes that `dst` has are kept, and may be any bytes.
+/// Appends to `dst` the output that [`escape_html`] returns. The bytes that `dst` has are kept, and may be any bytes.
 ///
 /// If `dst` has room for less than `6 * n + 32` more bytes, for a text of `n` bytes, the call reserves them from the
 /// allocator of `dst`. Else it allocates nothing.

@@ -90,7 +90,7 @@ pub fn escape_in<A: Allocator>(alloc: A, value: &str) -> Result<String<A>, Escap
     Ok(text::<{ JSON_MODE }, A>(alloc, value)?)
 }
 
-/// Appends the literal that [`escape`] returns to `dst`. The bytes that `dst` has are kept, and may be any bytes.
+/// Appends to `dst` the literal that [`escape`] returns. The bytes that `dst` has are kept, and may be any bytes.
 ///
 /// If `dst` has room for less than `6 * n + 35` more bytes, for a text of `n` bytes, the call reserves them from the
 /// allocator of `dst`. Else it allocates nothing.
@@ -122,7 +122,7 @@ pub fn escape_into<A: Allocator>(value: &str, dst: &mut Vec<u8, A>) -> Result<()
 ///
 /// As [`escape`], and the characters `<`, `>`, `&`, U+2028 and U+2029 are written as hex escapes. So the literal has
 /// no `</script`, which would end the element, and no `<!--`, which would begin a comment. JavaScript of every
-/// version reads it as the same string. Any other literal of the text with these escapes is longer, or has an
+/// version reads it as the same string. Any other literal of the text without these characters is longer, or has an
 /// upper-case hex digit. Sizes and memory are those of [`escape`].
 ///
 /// # Errors
@@ -162,7 +162,7 @@ pub fn escape_script_in<A: Allocator>(alloc: A, value: &str) -> Result<String<A>
     Ok(text::<{ SCRIPT_MODE }, A>(alloc, value)?)
 }
 
-/// Appends the literal that [`escape_script`] returns to `dst`. The bytes that `dst` has are kept, and may be any
+/// Appends to `dst` the literal that [`escape_script`] returns. The bytes that `dst` has are kept, and may be any
 /// bytes.
 ///
 /// If `dst` has room for less than `6 * n + 35` more bytes, for a text of `n` bytes, the call reserves them from the

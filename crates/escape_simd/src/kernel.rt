@@ -4,7 +4,7 @@
 ///
 /// Use `Kernel::default()` if you have no reason for another. The name tells the size of a vector and how its bytes
 /// are classified. It does not tell which instructions run: each kernel is built for every target, and the build's
-/// `--cpu` decides. So each kernel runs on every processor.
+/// `--cpu` decides. So each kernel runs wherever the build runs.
 ///
 /// ```rust
 /// let len = format_json_string(Kernel::default(), "x", &mut dst); // 3

@@ -106,7 +106,7 @@ pub fn escape_html_into_string<A: Allocator>(
 /// # Errors
 ///
 /// - [`EscapeHtmlError::TooLarge`]: the length of the output exceeds `usize::MAX`.
-/// - [`EscapeHtmlError::OutOfMemory`]: the allocator refused the memory.
+/// - [`EscapeHtmlError::OutOfMemory`]: the allocator refused the memory, or the length exceeds `isize::MAX`.
 ///
 /// ```rust
 /// let text = escape_html_compact(rt.alloc(), "a<b")?; // a&lt;b

@@ -163,7 +163,7 @@ pub fn escape_script_into_string<A: Allocator>(
 /// # Errors
 ///
 /// - [`EscapeError::TooLarge`]: the length of the literal exceeds `usize::MAX`.
-/// - [`EscapeError::OutOfMemory`]: the allocator refused the memory.
+/// - [`EscapeError::OutOfMemory`]: the allocator refused the memory, or the length exceeds `isize::MAX`.
 ///
 /// ```rust
 /// let literal = escape_compact(rt.alloc(), "a\n")?; // "a\n"
@@ -238,7 +238,8 @@ pub fn escape_joined_into<A: Allocator>(
 ///
 /// # Errors
 ///
-/// The error for the first text that is refused, or `OutOfMemory` for a bracket or a comma. `dst` is then unchanged.
+/// The error for the first text that is refused, or `OutOfMemory` for a bracket or a comma. `dst` keeps the bytes that it
+/// had, and has no others.
 ///
 /// ```rust
 /// escape_array_into(&["a", "\n"], &mut line)?; // ["a","\n"]

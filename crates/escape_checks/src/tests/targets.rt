@@ -103,6 +103,15 @@ fn slices_are_answered_as_text(rt: HostRuntime) {
     assert!(rt; slices_are_text(Kernel::default(), &mut [0; 41]));
 }
 
+fn padded(alloc: Global) -> Result<String, AllocError> {
+    format!(in alloc; "{:*>9}", json::Escaped("a"))
+}
+
+#[test]
+fn width_and_fill_have_no_effect(rt: HostRuntime) {
+    assert!(rt; padded(rt.alloc()).expect(&rt, "memory").as_str() == "\"a\"");
+}
+
 fn arrays_have_commas(dst: &mut Vec<u8>) -> bool {
     escape_array_into(&["a", "\n"], dst).is_ok()
         && escape_array_into(&[], dst).is_ok()

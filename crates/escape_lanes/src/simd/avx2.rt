@@ -111,7 +111,7 @@ impl Mask for Mask256 {
 /// Which lanes of a [`Simd256u`] are flagged.
 #[derive(Debug, Clone, Copy)]
 pub struct Flags256 {
-    // 80 or more in a lane that is flagged, and less in the others.
+    // 0x80 or more in a lane that is flagged, and less in the others.
     lanes: u8x32,
     ghost are_bytes: { AreBytes 32 lanes },
 }

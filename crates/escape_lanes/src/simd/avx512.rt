@@ -100,8 +100,8 @@ impl Mask for Mask512 {
 
 /// Which lanes of a [`Simd512u`] are flagged.
 ///
-/// They are bits from the start: four vectors of 64 bytes and their flags as vectors are more than the
-/// sixteen registers of 32 bytes hold.
+/// They are bits from the start: four vectors of 64 bytes and their flags as vectors would fill all sixteen
+/// registers of 32 bytes.
 #[derive(Debug, Clone, Copy)]
 pub struct Flags512 {
     // Bit `i` is set where lane `i` is flagged.

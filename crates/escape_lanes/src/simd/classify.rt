@@ -11,8 +11,8 @@ use crate::simd::vector::Vector;
 
 /// Bytes for which a classifier answered. Only the functions below make one, and it can't be cloned.
 ///
-/// A store of a vector takes one, and so does a block without an escape: so each of them was classified. Nothing reads
-/// the bytes, and the compiler removes them.
+/// In `escape_simd` each store of a vector takes one, and so does each block without an escape: so each of them was
+/// classified. Nothing reads the bytes, and the compiler removes them.
 #[derive(Drop)]
 pub struct Classified<'a> {
     bytes: &'a [u8],

@@ -1,5 +1,4 @@
-//! The flags of a vector: first in the form that the classifier makes, which are joined with those of other vectors, then as a
-//! number.
+//! The flags of a vector: first as the classifier makes them, to be joined with others, then as a number.
 ghost use Rattle.std.specs.Prelude.{◌≡◌, ℕ, ◌-◌, ◌≤◌, ◌||◌, ◌++◌, Bool, List, false, length, replicate};
 ghost use Rattle.std.specs.Simd.Lanes.{zip2};
 ghost use Rattle.escape_lanes.specs.Bits.{bits_of, none_set};

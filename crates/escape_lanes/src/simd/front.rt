@@ -2,8 +2,8 @@
 //! known only at run time is a call.
 ghost use Rattle.std.specs.Prelude.{◌≡◌, ◌*◌, ◌+◌, ◌<◌, ◌≤◌, length, take, drop};
 
-/// Returns the `P` lanes from `at` on, apart: so they are moved to the target at once. As a part of a slice they might
-/// overlap it, which would be asked first.
+/// Returns the `P` lanes from `at` on, apart: so they are moved to the target at once. Slices
+/// might overlap, which would be tested first.
 #[inline(always)]
 fn piece<const P: usize>(lanes: &[u8], at: usize) -> [u8; P]
     requires { at + P ≤ length lanes.now }
@@ -46,7 +46,7 @@ fn copy_up_to_three(dst: &mut [u8], lanes: &[u8])
 }
 
 /// Copies all lanes, at most 64. Where their number is known when this is compiled, that is one move,
-/// or two halves of 64.
+/// and two for 64.
 #[inline]
 pub(crate) fn copy_front(dst: &mut [u8], lanes: &[u8])
     requires same { length lanes.now ≡ length dst.old }

@@ -1,8 +1,7 @@
 //! What the vectors over `std::simd` share, at every width.
 //!
-//! A mask is a vector of bytes, ff in each lane that is set and 00 in the others, since the masks
-//! of `std::simd` have no `Debug`. Flags are less: only the top bit of a lane counts, so that a
-//! difference can flag it.
+//! A mask is a vector of bytes, 0xff in each lane that is set and 0 in the others, since the masks
+//! of `std::simd` have no `Debug`. Of a flag only the lane's top bit counts, so a difference can set it.
 ghost use Rattle.std.specs.Prelude.{◌≡◌, ℕ, ◌++◌, ◌<◌, ◌≤◌, ◌^◌, ◌%◌, ◌||◌, ◌&&◌, length, take, drop, replicate, map, nat_eq, nat_le, slice_index, bit_and, bit_xor, ◌-◌};
 ghost use Rattle.std.specs.Simd.Lanes.{zip2};
 ghost use Rattle.escape_lanes.specs.Bits.{bits_of, none_set};
@@ -163,7 +162,7 @@ pub(crate) fn is<const N: usize>(v: &Simd<u8, N>, byte: u8) -> Simd<u8, N>
     eq(v, &splat(byte))
 }
 
-/// Returns flags where the lane is at most `most`: it then leaves 80 or more of 80 and `most`.
+/// Returns flags where the lane is at most `most`: it then leaves 0x80 or more of 0x80 and `most`.
 #[inline(always)]
 pub(crate) fn is_at_most<const N: usize>(v: &Simd<u8, N>, most: u8) -> Simd<u8, N>
     requires bytes { AreBytes N v.now }
@@ -207,7 +206,7 @@ pub(crate) fn is_without<const N: usize>(v: &Simd<u8, N>, bit: u8, byte: u8) -> 
 
 /// Returns flags where the lane is a control character or the quotation mark.
 ///
-/// A flip of bit 1 brings the quotation mark, 22, to 20, past the control characters, which stay
+/// A flip of bit 1 brings the quotation mark, 0x22, to 0x20, past the control characters, which stay
 /// below it.
 #[inline(always)]
 pub(crate) fn is_control_or_quote<const N: usize>(v: &Simd<u8, N>) -> Simd<u8, N>

@@ -13,7 +13,7 @@ use std::simd::prelude::*;
 /// Returns the 16 bytes of the text from `at` on, with the letter of its short escape in place of each control
 /// character that has one.
 ///
-/// Of a line end that is `n`, and of any other byte that is no control character the byte itself.
+/// Of a line feed that is `n`, and of a byte without such a letter the byte itself.
 #[inline(always)]
 pub fn shorten(text: &[u8], at: usize) -> u8x16
     requires { at + 16 ≤ length text.now }

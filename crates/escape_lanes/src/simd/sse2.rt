@@ -29,7 +29,7 @@ pub struct Simd128u {
 /// A truth value for each lane of a [`Simd128u`].
 #[derive(Debug, Clone, Copy)]
 pub struct Mask128 {
-    // 00 in a lane that is clear, and ff in one that is set.
+    // 0 in a lane that is clear, and 0xff in one that is set.
     lanes: u8x16,
     ghost are_whole: { AreWhole 255 16 lanes },
 }
@@ -99,7 +99,7 @@ impl Mask for Mask128 {
 /// Which lanes of a [`Simd128u`] are flagged.
 #[derive(Debug, Clone, Copy)]
 pub struct Flags128 {
-    // 80 or more in a lane that is flagged, and less in the others.
+    // 0x80 or more in a lane that is flagged, and less in the others.
     lanes: u8x16,
     ghost are_bytes: { AreBytes 16 lanes },
 }

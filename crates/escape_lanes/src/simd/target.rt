@@ -15,12 +15,12 @@ use std::simd::prelude::*;
 /// The first eight lanes of a vector, and the first eight of another.
 const FIRST_HALVES: [usize; 16] = [0, 1, 2, 3, 4, 5, 6, 7, 16, 17, 18, 19, 20, 21, 22, 23];
 
-/// A slice that a kernel with vectors of `N` bytes writes to, and nowhere else.
+/// The one slice that a kernel with vectors of `N` bytes writes to.
 ///
 /// A contract sees its bytes and four counts: the vectors stored, the escapes written, the quotes
 /// written, and the writes. The counts take no bytes, so a target is as large as the reference that
-/// it holds. Each call changes its own range and its own count, raises the writes by one, and leaves
-/// the rest.
+/// it holds. Each call that writes changes its own range and its own counts, raises the writes by one,
+/// and leaves the rest.
 ///
 /// ```rust
 /// let mut target = Target::<16>::new(&mut dst);

@@ -41,7 +41,7 @@ pub struct Mask128 {
 /// Which lanes of a [`Simd128u`] are flagged.
 #[derive(Debug, Drop)]
 pub struct Flags128 {
-    // 80 or more in a lane that is flagged, and less in the others. The first lane is lowest.
+    // 0x80 or more in a lane that is flagged, and less in the others. The first lane is lowest.
     low: u64,
     high: u64,
 }
@@ -365,7 +365,7 @@ impl Vector<16> for Simd128u {
     }
 }
 
-/// Returns in each lane the bits of `kept`, with those of `flipped` flipped, and `more` on top: 80 or more
+/// Returns in each lane the bits of `kept`, with those of `flipped` flipped, and `more` on top: 0x80 or more
 /// where what is kept and flipped is not below `80 - more`.
 ///
 /// All three are below 80, so no lane runs over into the next.
@@ -381,7 +381,7 @@ fn sums(lanes: u64, kept: u8, flipped: u8, more: u8) -> u64
 
 /// Returns flags where JSON needs an escape, in one word.
 ///
-/// A flip of bit 1 brings the quotation mark, 22, to 20, past the control characters, which stay
+/// A flip of bit 1 brings the quotation mark, 0x22, to 0x20, past the control characters, which stay
 /// below it. A byte that is not ASCII needs none.
 #[inline(always)]
 fn json_needs(lanes: u64) -> u64

@@ -2,7 +2,7 @@
 
 /// For each byte of a text, the count of bytes that stand for it in a JSON string literal that can
 /// stand in a script element, and those bytes, padded with zeros (RFC 8259, section 7). The entry is
-/// `(0, [0; 8])` where the byte stands for itself.
+/// `(0, [0; 8])` where the byte is not flagged.
 ///
 /// It has the entries of [`QUOTE_TAB`](crate::tables::QUOTE_TAB), and those of `&`, `<`, `>` and e2.
 /// That of e2 is the byte itself: where a separator begins with it, [`LINE_SEPARATOR`] or

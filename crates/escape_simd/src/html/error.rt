@@ -27,7 +27,7 @@ impl std::error::Error for InputTooLarge {}
 pub enum EscapeHtmlError {
     /// The size that is needed exceeds `usize::MAX`: see [`InputTooLarge`].
     TooLarge(InputTooLarge),
-    /// The allocator refused the memory.
+    /// The allocator refused the memory, or the size exceeds `isize::MAX`.
     OutOfMemory,
 }
 

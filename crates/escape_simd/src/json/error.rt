@@ -9,7 +9,7 @@ pub enum EscapeError {
     /// The size that is needed exceeds `usize::MAX`. The size is `6 * n + 35` for a text of `n` bytes, and in the
     /// compact calls of `escape_text` the length of the literal.
     TooLarge,
-    /// The allocator refused the memory.
+    /// The allocator refused the memory, or the size exceeds `isize::MAX`.
     OutOfMemory,
 }
 

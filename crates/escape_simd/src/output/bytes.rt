@@ -1,6 +1,6 @@
 //! Appending what stands for a text's bytes, and the last quotation mark, to a vector that has room for them.
 //!
-//! Each form appends that quotation mark itself, so that a call of one ends its caller.
+//! Each form appends that quotation mark itself, so that it is its caller's tail call.
 ghost use Rattle.std.specs.Prelude.{◌≡◌, ◌+◌, ◌*◌, ◌<◌, ◌≤◌, ◌++◌, length, vec_len, vec_capacity};
 ghost use Rattle.escape_simd.specs.Modes.{mode_numbered};
 ghost use Rattle.escape_simd.specs.Output.{inner, quote_of};
@@ -13,7 +13,7 @@ use crate::simd::{Simd, classify_pair, classify_short};
 use escape_lanes::simd::target::Ticks;
 use std::alloc::Allocator;
 
-/// Appends what stands for a text of fewer bytes than two vectors have: from registers if no byte is flagged.
+/// Appends what stands for a text shorter than two vectors: from registers if no byte is flagged.
 #[inline(always)]
 pub(super) fn append_last<const MODE: u8, A: Allocator>(text: &[u8], dst: &mut Vec<u8, A>)
     requires few { length text.now < 2 * N }

@@ -17,7 +17,7 @@ use std::fmt;
 pub enum Refusal {
     /// The size that is needed exceeds `usize::MAX`.
     TooLarge,
-    /// The allocator refused the memory.
+    /// The allocator refused the memory, or the size exceeds `isize::MAX`.
     OutOfMemory,
 }
 

@@ -15,7 +15,7 @@ use std::alloc::Allocator;
 /// How many bytes the output for a chunk of four vectors may have, and a vector more.
 const CHUNK_ROOM: usize = 25 * N;
 
-/// Appends what stands for a text of fewer bytes than two vectors have, and the last quotation mark. Some are flagged.
+/// Appends what stands for a text shorter than two vectors, and the last quotation mark. Some are flagged.
 #[inline(never)]
 pub(super) fn append_flagged<const MODE: u8, A: Allocator>(
     text: &[u8],

@@ -8,8 +8,8 @@ use std::alloc::Allocator;
 
 /// How many bytes of a vector are filled with zeros at a time, if it has room for them.
 ///
-/// The output for a text shorter than two vectors has at most as many bytes. The compiler makes stores of so many, and
-/// no call: by `resize` alone, JSON source lines take an eighth longer.
+/// The output for a text shorter than two vectors has at most so many bytes. The compiler fills these by stores, without
+/// a call: by `resize` alone, JSON source lines take an eighth longer.
 const ZEROS: usize = 448;
 
 /// Appends the bytes to a vector that has room for them.
@@ -42,7 +42,7 @@ pub(super) fn push_quote<const MODE: u8, A: Allocator>(dst: &mut Vec<u8, A>)
     }
 }
 
-/// Makes the vector `len` bytes long or longer by zeros, where it is shorter. It has room for `len`.
+/// Appends zeros until the vector has `len` bytes or more. It has room for `len`.
 #[inline(always)]
 pub(super) fn fill<A: Allocator>(dst: &mut Vec<u8, A>, len: usize)
     requires room { len ≤ vec_capacity dst.old }

@@ -102,7 +102,7 @@ pub(crate) fn escape_by_turns<V: Vector<N>, const MODE: u8, const N: usize, cons
     }
 }
 
-/// Escapes the first `valid` bytes of the text's vector at `at`, whose flags a classifier answered. Returns the places after
+/// Escapes the first `valid` bytes of the text's vector at `at`, whose flags a classifier returned. Returns the places after
 /// them, and in script mode after what of a separator goes past them.
 ///
 /// Where `LAST`, these may be the text's last bytes.

@@ -14,7 +14,7 @@ use escape_lanes::simd::classify::{Classified, classify};
 use escape_lanes::simd::lane_bits::shift_lanes;
 use escape_lanes::simd::target::{Target, Ticks};
 
-/// Escapes the text's vector at `at` from `from` on, of which a classifier answered: what came before it may have passed
+/// Escapes the text's vector at `at` from `from` on, for which a classifier answered: the vector before may have passed
 /// the rest of a separator. Returns the places after it.
 #[inline(always)]
 pub(crate) fn vector_from<V: Vector<N>, const MODE: u8, const N: usize>(

@@ -1,4 +1,4 @@
-//! The last bytes of a text, fewer than two vectors have, and with them every short text.
+//! The last bytes of a text, fewer than those of two vectors, and with them every short text.
 ghost use Rattle.std.specs.Prelude.{min, ◌≡◌, ◌+◌, ◌-◌, ◌*◌, ◌/◌, ◌<◌, ◌≤◌, ◌++◌, true, length, take, drop, replicate, IfOk, IfErr, OnErr};
 ghost use Rattle.std.specs.List.{flat_map};
 ghost use Rattle.escape_lanes.specs.Bits.{bits_of, none_set};
@@ -17,7 +17,7 @@ use escape_lanes::simd::lane_bits::shift_lanes;
 use escape_lanes::simd::target::{Target, Ticks};
 use escape_lanes::simd::{BitMask, Flags};
 
-/// What a classifier answered for a text's last bytes, fewer than two vectors have: for their last vector, and where they
+/// What a classifier answered for a text's last bytes, fewer than those of two vectors: for their last vector, and where they
 /// fill one, for their first one.
 #[derive(Drop)]
 pub(crate) struct TailFlags<'a> {
@@ -98,7 +98,7 @@ fn spill_last<V: Vector<N>, const N: usize>(text: &[u8]) -> [[u8; N]; 2]
     rows
 }
 
-/// Escapes the bytes before the last vector of a text of fewer bytes than two vectors have, by the mask of its first one.
+/// Escapes the bytes before the last vector of a text shorter than two vectors, by the mask of its first one.
 /// Returns the places after them.
 #[inline(always)]
 fn escape_before_last<V: Vector<N>, const MODE: u8, const N: usize>(
@@ -123,7 +123,7 @@ fn escape_before_last<V: Vector<N>, const MODE: u8, const N: usize>(
     escape_by_mask::<V, MODE, N, true>(text, 0, border, front, classified, target, to, ticks)
 }
 
-/// Escapes a text of fewer bytes than two vectors have, for which a classifier answered. Returns the place after it.
+/// Escapes a text shorter than two vectors, for which a classifier answered. Returns the place after it.
 #[inline(always)]
 pub(crate) fn escape_flagged_tail<V: Vector<N>, const MODE: u8, const N: usize>(
     text: &[u8],
@@ -160,7 +160,7 @@ pub(crate) fn escape_flagged_tail<V: Vector<N>, const MODE: u8, const N: usize>(
     .1
 }
 
-/// Stores a text of fewer bytes than two vectors have, if none of them is flagged. Returns the place after it, and else its
+/// Stores a text shorter than two vectors, if none of its bytes is flagged. Returns the place after it, or else its
 /// flags.
 #[inline(always)]
 pub(crate) fn store_clean_tail<'a, V: Vector<N>, const MODE: u8, const N: usize>(
@@ -196,7 +196,7 @@ pub(crate) fn store_clean_tail<'a, V: Vector<N>, const MODE: u8, const N: usize>
     Ok(to + count)
 }
 
-/// Escapes a text of fewer bytes than two vectors have. Returns the place after it.
+/// Escapes a text shorter than two vectors. Returns the place after it.
 #[inline(always)]
 pub(crate) fn escape_tail<V: Vector<N>, const MODE: u8, const N: usize>(
     text: &[u8],

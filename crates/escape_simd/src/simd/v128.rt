@@ -17,7 +17,7 @@ pub use escape_lanes::simd::v128::{
 /// and returns how many bytes it became.
 ///
 /// A text of n bytes needs a target of at least 6n + 35 bytes in JSON, and 6n + 32 in HTML. No byte
-/// from that place on changes, and none that is 16 or more past the last one written.
+/// from that place on changes, and none that is 16 or more past the output's end.
 #[inline(never)]
 pub fn format_target<const HTML: bool>(
     value: &str,
@@ -53,7 +53,7 @@ pub fn format_string<const HTML: bool>(value: &str, dst: &mut [u8]) -> usize
 /// element, and returns how many bytes it became.
 ///
 /// A text of n bytes needs a target of at least 6n + 35 bytes. No byte from that place on changes, and
-/// none that is 16 or more past the last one written.
+/// none that is 16 or more past the output's end.
 #[inline(never)]
 pub fn format_script_target(value: &str, target: &mut Target<'_, 16>, ticks: &mut Ticks) -> usize
     requires has_room { bound script (length value.now) ≤ length (bytes_of target.old) }

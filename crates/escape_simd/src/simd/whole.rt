@@ -47,7 +47,7 @@ pub(crate) fn format<V: Vector<N>, const MODE: u8, const N: usize>(
     quote::<MODE, N>(target, close)
 }
 
-/// As [`format`], in one of the two modes of the public calls.
+/// As [`format`], as HTML if `HTML`, else as JSON.
 #[inline(always)]
 pub(crate) fn format_target<V: Vector<N>, const HTML: bool, const N: usize>(
     value: &str,

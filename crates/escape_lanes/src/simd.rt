@@ -11,6 +11,7 @@ mod halves;
 pub mod lane_bits;
 mod lanes;
 pub mod last;
+pub mod mask;
 pub mod mode;
 pub mod neon;
 pub mod short;
@@ -23,5 +24,6 @@ pub mod vector;
 
 pub use flags::Flags;
 pub use last::LoadLast;
-pub use traits::{BitMask, LoadStore, Mask, Simd};
+pub use mask::Mask;
+pub use traits::{BitMask, LoadStore, Simd};
 pub use vector::Vector;

@@ -1,26 +1,26 @@
 //! 32 bytes in a vector of `std::simd`, with one bit a lane in the mask. HTML is classified by one
 //! table of candidates.
-ghost use Rattle.std.specs.Prelude.{◌≡◌, ◌+◌, ◌||◌, ◌&&◌, ℕ, map, nat_le, refl};
-ghost use Rattle.std.specs.Simd.Lanes.{zip2};
+ghost use Rattle.std.specs.Prelude.{◌≡◌, ◌+◌, map, nat_le, refl};
 ghost use Rattle.std.proofs.Common.{◌∙◌, lit≤};
 ghost use Rattle.std.proofs.lemmas.List.{length-map};
-ghost use Rattle.escape_lanes.specs.Bits.{bits_of, length-bits_of};
-ghost use Rattle.escape_lanes.specs.Lanes.{AreBytes, AreWhole, set_lanes, flagged_lanes};
+ghost use Rattle.escape_lanes.specs.Lanes.{AreBytes, flagged_lanes};
 ghost use Rattle.escape_lanes.specs.Mode.{mode_of};
 ghost use Rattle.escape_lanes.specs.Nibble.{at_low_half, at_high_half};
 ghost use Rattle.escape_lanes.specs.Replacement.{needs_escape};
 
+mod mask;
 mod script;
 
 use crate::simd::flags::Flags;
 use crate::simd::lanes;
 use crate::simd::last::{self, LoadLast};
 use crate::simd::target::Ticks;
-use crate::simd::traits::{BitMask, Mask, Simd};
+use crate::simd::traits::{BitMask, Simd};
 use crate::simd::vector::Vector;
 use crate::tables::HTML_CANDIDATE_TAB;
+pub use mask::Mask256;
+use mask::bits;
 pub use script::{script_flags, script_mask};
-use std::ops::{BitAnd, BitOr, BitOrAssign};
 use std::simd::prelude::*;
 
 /// A vector of 32 bytes.
@@ -28,84 +28,6 @@ use std::simd::prelude::*;
 pub struct Simd256u {
     lanes: u8x32,
     ghost are_bytes: { AreBytes 32 lanes },
-}
-
-/// A truth value for each lane of a [`Simd256u`].
-#[derive(Debug, Clone, Copy)]
-pub struct Mask256 {
-    // Bit `i` is set where lane `i` is.
-    bits: u32,
-}
-
-/// Returns one bit for each lane of a mask, the first lane's lowest.
-#[inline(always)]
-fn bits(mask: &u8x32) -> u32
-    requires { AreWhole 255 32 mask.now }
-    ensures { bits_of 32 result ≡ set_lanes 255 mask.now }
-{
-    lanes::bits(mask) as u32
-}
-
-impl BitOr for Mask256 {
-    type Output = Mask256;
-
-    ghost bitor_gives = { λ a b c. bits_of 32 c.bits ≡ zip2 ◌||◌ (bits_of 32 a.bits) (bits_of 32 b.bits) };
-
-    #[inline(always)]
-    fn bitor(self, rhs: Mask256) -> Mask256 {
-        Mask256 {
-            bits: self.bits | rhs.bits,
-        }
-    }
-}
-
-impl BitAnd for Mask256 {
-    type Output = Mask256;
-
-    ghost bitand_gives = { λ a b c. bits_of 32 c.bits ≡ zip2 ◌&&◌ (bits_of 32 a.bits) (bits_of 32 b.bits) };
-
-    #[inline(always)]
-    fn bitand(self, rhs: Mask256) -> Mask256 {
-        Mask256 {
-            bits: self.bits & rhs.bits,
-        }
-    }
-}
-
-impl BitOrAssign for Mask256 {
-    ghost bitor_assign_gives = { λ a b c. bits_of 32 c.bits ≡ zip2 ◌||◌ (bits_of 32 a.bits) (bits_of 32 b.bits) };
-
-    #[inline(always)]
-    fn bitor_assign(&mut self, rhs: Mask256) {
-        *self = *self | rhs;
-    }
-}
-
-impl Mask for Mask256 {
-    type Element = u8;
-
-    type BitMask = u32;
-
-    ghost truths = { λ m. bits_of 32 m.bits };
-
-    ghost width = { λ m. length-bits_of 32 m.bits };
-
-    ghost can_or = { λ a b. tt };
-
-    ghost or_is = { λ a b c h. h };
-
-    ghost can_or_assign = { λ a b. tt };
-
-    ghost or_assign_is = { λ a b c h. h };
-
-    ghost can_and = { λ a b. tt };
-
-    ghost and_is = { λ a b c h. h };
-
-    #[inline(always)]
-    fn bitmask(self) -> u32 {
-        self.bits
-    }
 }
 
 /// Which lanes of a [`Simd256u`] are flagged.

@@ -1,7 +1,6 @@
 //! 64 bytes in a vector of `std::simd`, with one bit a lane in the mask. HTML is classified by one
 //! table of candidates.
-ghost use Rattle.std.specs.Prelude.{◌≡◌, ◌+◌, ◌||◌, ◌&&◌, ℕ, map, refl};
-ghost use Rattle.std.specs.Simd.Lanes.{zip2};
+ghost use Rattle.std.specs.Prelude.{◌≡◌, ◌+◌, map, refl};
 ghost use Rattle.std.proofs.Common.{lit≤};
 ghost use Rattle.escape_lanes.specs.Bits.{bits_of, length-bits_of};
 ghost use Rattle.escape_lanes.specs.Lanes.{AreBytes};
@@ -9,17 +8,18 @@ ghost use Rattle.escape_lanes.specs.Mode.{mode_of};
 ghost use Rattle.escape_lanes.specs.Nibble.{at_low_half, at_high_half};
 ghost use Rattle.escape_lanes.specs.Replacement.{needs_escape};
 
+mod mask;
 mod script;
 
 use crate::simd::flags::Flags;
 use crate::simd::lanes;
 use crate::simd::last::{self, LoadLast};
 use crate::simd::target::Ticks;
-use crate::simd::traits::{BitMask, Mask, Simd};
+use crate::simd::traits::{BitMask, Simd};
 use crate::simd::vector::Vector;
 use crate::tables::HTML_CANDIDATE_TAB;
+pub use mask::Mask512;
 pub use script::{script_flags, script_mask};
-use std::ops::{BitAnd, BitOr, BitOrAssign};
 use std::simd::prelude::*;
 
 /// A vector of 64 bytes.
@@ -27,75 +27,6 @@ use std::simd::prelude::*;
 pub struct Simd512u {
     lanes: u8x64,
     ghost are_bytes: { AreBytes 64 lanes },
-}
-
-/// A truth value for each lane of a [`Simd512u`].
-#[derive(Debug, Clone, Copy)]
-pub struct Mask512 {
-    // Bit `i` is set where lane `i` is.
-    bits: u64,
-}
-
-impl BitOr for Mask512 {
-    type Output = Mask512;
-
-    ghost bitor_gives = { λ a b c. bits_of 64 c.bits ≡ zip2 ◌||◌ (bits_of 64 a.bits) (bits_of 64 b.bits) };
-
-    #[inline(always)]
-    fn bitor(self, rhs: Mask512) -> Mask512 {
-        Mask512 {
-            bits: self.bits | rhs.bits,
-        }
-    }
-}
-
-impl BitAnd for Mask512 {
-    type Output = Mask512;
-
-    ghost bitand_gives = { λ a b c. bits_of 64 c.bits ≡ zip2 ◌&&◌ (bits_of 64 a.bits) (bits_of 64 b.bits) };
-
-    #[inline(always)]
-    fn bitand(self, rhs: Mask512) -> Mask512 {
-        Mask512 {
-            bits: self.bits & rhs.bits,
-        }
-    }
-}
-
-impl BitOrAssign for Mask512 {
-    ghost bitor_assign_gives = { λ a b c. bits_of 64 c.bits ≡ zip2 ◌||◌ (bits_of 64 a.bits) (bits_of 64 b.bits) };
-
-    #[inline(always)]
-    fn bitor_assign(&mut self, rhs: Mask512) {
-        *self = *self | rhs;
-    }
-}
-
-impl Mask for Mask512 {
-    type Element = u8;
-
-    type BitMask = u64;
-
-    ghost truths = { λ m. bits_of 64 m.bits };
-
-    ghost width = { λ m. length-bits_of 64 m.bits };
-
-    ghost can_or = { λ a b. tt };
-
-    ghost or_is = { λ a b c h. h };
-
-    ghost can_or_assign = { λ a b. tt };
-
-    ghost or_assign_is = { λ a b c h. h };
-
-    ghost can_and = { λ a b. tt };
-
-    ghost and_is = { λ a b c h. h };
-
-    #[inline(always)]
-    fn bitmask(self) -> u64 {
-        self.bits
-    }
 }
 
 /// Which lanes of a [`Simd512u`] are flagged.

@@ -1,22 +1,22 @@
 //! 16 bytes in a vector of `std::simd`. HTML is classified by three compares.
-ghost use Rattle.std.specs.Prelude.{◌≡◌, ◌+◌, ◌||◌, ◌&&◌, ℕ, map, nat_eq, nat_le, refl};
-ghost use Rattle.std.specs.Simd.Lanes.{zip2};
+ghost use Rattle.std.specs.Prelude.{◌≡◌, ◌+◌, map, nat_le, refl};
 ghost use Rattle.std.proofs.Common.{◌∙◌, lit≤};
 ghost use Rattle.std.proofs.lemmas.List.{length-map};
-ghost use Rattle.escape_lanes.specs.Lanes.{AreBytes, AreWhole, set_lanes, flagged_lanes};
+ghost use Rattle.escape_lanes.specs.Lanes.{AreBytes, flagged_lanes};
 ghost use Rattle.escape_lanes.specs.Mode.{html, mode_of};
 ghost use Rattle.escape_lanes.specs.Replacement.{needs_escape};
 
+mod mask;
 mod script;
 
 use crate::simd::flags::Flags;
 use crate::simd::lanes;
 use crate::simd::last::{self, LoadLast};
 use crate::simd::target::Ticks;
-use crate::simd::traits::{BitMask, Mask, Simd};
+use crate::simd::traits::{BitMask, Simd};
 use crate::simd::vector::Vector;
+pub use mask::Mask128;
 pub use script::{script_flags, script_mask};
-use std::ops::{BitAnd, BitOr, BitOrAssign};
 use std::simd::prelude::*;
 
 /// A vector of 16 bytes.
@@ -24,76 +24,6 @@ use std::simd::prelude::*;
 pub struct Simd128u {
     lanes: u8x16,
     ghost are_bytes: { AreBytes 16 lanes },
-}
-
-/// A truth value for each lane of a [`Simd128u`].
-#[derive(Debug, Clone, Copy)]
-pub struct Mask128 {
-    // 0 in a lane that is clear, and 0xff in one that is set.
-    lanes: u8x16,
-    ghost are_whole: { AreWhole 255 16 lanes },
-}
-
-impl BitOr for Mask128 {
-    type Output = Mask128;
-
-    ghost bitor_gives = { λ a b c. set_lanes 255 c.lanes ≡ zip2 ◌||◌ (set_lanes 255 a.lanes) (set_lanes 255 b.lanes) };
-
-    #[inline(always)]
-    fn bitor(self, rhs: Mask128) -> Mask128 {
-        Mask128 {
-            lanes: lanes::or(&self.lanes, &rhs.lanes),
-        }
-    }
-}
-
-impl BitAnd for Mask128 {
-    type Output = Mask128;
-
-    ghost bitand_gives = { λ a b c. set_lanes 255 c.lanes ≡ zip2 ◌&&◌ (set_lanes 255 a.lanes) (set_lanes 255 b.lanes) };
-
-    #[inline(always)]
-    fn bitand(self, rhs: Mask128) -> Mask128 {
-        Mask128 {
-            lanes: lanes::and(&self.lanes, &rhs.lanes),
-        }
-    }
-}
-
-impl BitOrAssign for Mask128 {
-    ghost bitor_assign_gives = { λ a b c. set_lanes 255 c.lanes ≡ zip2 ◌||◌ (set_lanes 255 a.lanes) (set_lanes 255 b.lanes) };
-
-    #[inline(always)]
-    fn bitor_assign(&mut self, rhs: Mask128) {
-        *self = *self | rhs;
-    }
-}
-
-impl Mask for Mask128 {
-    type Element = u8;
-
-    type BitMask = u16;
-
-    ghost truths = { λ m. set_lanes 255 m.lanes };
-
-    ghost width = { λ m. length-map m.lanes (λ b. nat_eq b 255) ∙ m.are_whole.full };
-
-    ghost can_or = { λ a b. tt };
-
-    ghost or_is = { λ a b c h. h };
-
-    ghost can_or_assign = { λ a b. tt };
-
-    ghost or_assign_is = { λ a b c h. h };
-
-    ghost can_and = { λ a b. tt };
-
-    ghost and_is = { λ a b c h. h };
-
-    #[inline(always)]
-    fn bitmask(self) -> u16 {
-        lanes::bits(&self.lanes) as u16
-    }
 }
 
 /// Which lanes of a [`Simd128u`] are flagged.

@@ -1,11 +1,12 @@
 //! The modes: what is written for a text.
-ghost use Rattle.std.specs.Prelude.{◌≡◌, ◌<◌, ◌↔◌, length, Err, IfOk, IsOkUnless};
-ghost use Rattle.escape_simd.specs.Modes.{escaping};
+ghost use Rattle.std.specs.Prelude.{◌≡◌, ◌<◌, ◌≤◌, ◌↔◌, length, Err, IfOk, IsOkUnless};
+ghost use Rattle.escape_simd.specs.Modes.{escaping, mode_numbered};
 ghost use Rattle.escape_simd.specs.Output.{bound, quote_of};
 ghost use Rattle.escape_simd.specs.declared.output.error.Refusal.{Refusal};
 
-use crate::output::{Refusal, quote, scratch_bound};
+use crate::output::{Refusal, scratch_bound};
 use crate::simd::{HTML_MODE, JSON_MODE};
+use escape_lanes::simd::mode::is_quoted;
 
 /// A mode: what is written for a text.
 ///
@@ -60,4 +61,17 @@ impl Mode {
             Mode::Html => quote::<{ HTML_MODE }>(),
         }
     }
+}
+
+/// Returns what stands before and after an output: a quotation mark in JSON, also in script mode, and nothing in HTML.
+///
+/// ```rust
+/// let mark = quote::<{ JSON_MODE }>(); // "
+/// ```
+#[inline(always)]
+pub fn quote<const MODE: u8>() -> &'static str
+    requires mode { MODE ≤ 2 }
+    ensures { result.now ≡ quote_of (mode_numbered MODE) }
+{
+    if is_quoted::<MODE>() { "\"" } else { "" }
 }

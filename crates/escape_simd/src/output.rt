@@ -3,7 +3,7 @@
 //! [`SCRIPT_MODE`](crate::simd::SCRIPT_MODE). No other number is accepted.
 ghost use Rattle.std.specs.Prelude.{◌≡◌, ◌+◌, ◌*◌, ◌<◌, ◌≤◌, ◌^◌, ◌↔◌, ◌++◌, length, take, chars, string_bytes, vec_len, vec_capacity, Err, IsOk, IfOk, OnOk, OnErr, IfSome, IsNone};
 ghost use Rattle.escape_simd.specs.Modes.{mode_numbered};
-ghost use Rattle.escape_simd.specs.Output.{plain, inner, quote_of, bound};
+ghost use Rattle.escape_simd.specs.Output.{plain, inner, bound};
 ghost use Rattle.escape_simd.specs.Spelling.{IsTextOf};
 ghost use Rattle.escape_simd.specs.Headline.{IsOnlyOutput};
 ghost use Rattle.escape_simd.specs.Laws.{JoinsTexts, IsOfOneText, HasOutputLength};
@@ -15,6 +15,7 @@ mod in_place;
 mod length;
 mod push;
 
+pub use crate::mode::quote;
 use crate::simd::avx2::Simd256u;
 use crate::simd::escape_at;
 use crate::{html, json};
@@ -48,19 +49,6 @@ pub fn scratch_bound<const MODE: u8>(len: usize) -> Option<usize>
         (html::CAPACITY_FACTOR, html::CAPACITY_SLACK)
     };
     len.checked_mul(factor)?.checked_add(slack)
-}
-
-/// Returns what stands before and after an output: a quotation mark in JSON, also in script mode, and nothing in HTML.
-///
-/// ```rust
-/// let mark = quote::<{ JSON_MODE }>(); // "
-/// ```
-#[inline(always)]
-pub fn quote<const MODE: u8>() -> &'static str
-    requires mode { MODE ≤ 2 }
-    ensures { result.now ≡ quote_of (mode_numbered MODE) }
-{
-    if is_quoted::<MODE>() { "\"" } else { "" }
 }
 
 /// Writes the output of a text in the mode `MODE`, without its quotation marks, to `dst` from the index `at` on.

@@ -7,7 +7,7 @@ ghost use Rattle.escape_simd.specs.Output.{inner, quote_of};
 
 use crate::output::clean::clean_end;
 use crate::output::in_place::{append_flagged, append_in_place};
-use crate::output::push::{push_all, push_quote};
+use crate::output::push::{push_all, push_quote, push_vector};
 use crate::output::{N, V};
 use crate::simd::{Simd, classify_pair, classify_short};
 use escape_lanes::simd::target::Ticks;
@@ -25,9 +25,7 @@ pub(super) fn append_last<const MODE: u8, A: Allocator>(text: &[u8], dst: &mut V
     let flags = if count < N {
         let (v, flags) = classify_short::<V, MODE, N>(text, &mut Ticks::new());
         if flags.none() {
-            let mut lanes = [0u8; N];
-            v.storeu(&mut lanes);
-            push_all(dst, &lanes);
+            push_vector(dst, &v);
             dst.truncate(len + count);
             return push_quote::<MODE, A>(dst);
         }
@@ -36,10 +34,11 @@ pub(super) fn append_last<const MODE: u8, A: Allocator>(text: &[u8], dst: &mut V
         let flags = classify_pair::<V, MODE, N>(text, &mut Ticks::new());
         if flags.none() {
             let last = count - N;
-            push_all(dst, &text[..N]);
+            let (v1, v2) = (V::loadu(text), V::loadu(&text[last..]));
+            push_vector(dst, &v1);
             // The last vector overlaps the first one.
             dst.truncate(len + last);
-            push_all(dst, &text[last..last + N]);
+            push_vector(dst, &v2);
             return push_quote::<MODE, A>(dst);
         }
         flags
@@ -69,7 +68,7 @@ pub(super) fn append_long<const MODE: u8, A: Allocator>(text: &[u8], dst: &mut V
     }
     // Fewer bytes are copied by vectors: the compiler would copy them one by one.
     'vectors: while N <= end - at {
-        push_all(dst, &text[at..at + N]);
+        push_vector(dst, &V::loadu(&text[at..]));
         at += N;
     }
     if text.len() - at < 2 * N {

@@ -3,6 +3,8 @@ ghost use Rattle.std.specs.Prelude.{◌≡◌, ◌+◌, ◌<◌, ◌≤◌, ◌+
 ghost use Rattle.escape_simd.specs.Modes.{mode_numbered};
 ghost use Rattle.escape_simd.specs.Output.{quote_of};
 
+use crate::output::{N, V};
+use crate::simd::Simd;
 use escape_lanes::simd::mode::is_quoted;
 use std::alloc::Allocator;
 
@@ -28,6 +30,18 @@ pub(super) fn push_all<A: Allocator>(dst: &mut Vec<u8, A>, bytes: &[u8])
     let Ok(()) = dst.extend_from_slice(bytes) else {
         unreachable!()
     };
+}
+
+/// Appends a vector's lanes, through an array: for a slice, which might overlap, the compiler adds a copy byte by byte.
+#[inline(always)]
+pub(super) fn push_vector<A: Allocator>(dst: &mut Vec<u8, A>, v: &V)
+    requires { vec_len dst.old + N ≤ vec_capacity dst.old }
+    ensures items { dst.new.items ≡ dst.old.items ++ ⟦<V as Simd>⟧.lanes v.now }
+    ensures capacity { vec_capacity dst.old ≤ vec_capacity dst.new }
+{
+    let mut lanes = [0u8; N];
+    v.storeu(&mut lanes);
+    push_all(dst, &lanes);
 }
 
 /// Appends the quotation mark, if the mode has one.

@@ -33,7 +33,8 @@ impl TailFlags<'_> {
     pub(crate) fn none(&self) -> bool
         ensures { result ≡ true → (none_set (bits_of 64 self.now.first) ≡ true) × (none_set (bits_of 64 self.now.last) ≡ true) }
     {
-        self.first.all_zero() && self.last.all_zero()
+        // One test, not two: which of the vectors has flags is hard to predict.
+        self.first.all_zero() & self.last.all_zero()
     }
 }
 
@@ -99,7 +100,7 @@ fn spill_last<V: Vector<N>, const N: usize>(text: &[u8]) -> [[u8; N]; 2]
 }
 
 /// Escapes the bytes before the last vector of a text shorter than two vectors, by the mask of its first one.
-/// Returns the places after them.
+/// Returns how many bytes of the last vector it passed (the rest of a separator, in script mode), and the place after them.
 #[inline(always)]
 fn escape_before_last<V: Vector<N>, const MODE: u8, const N: usize>(
     text: &[u8],
@@ -113,14 +114,17 @@ fn escape_before_last<V: Vector<N>, const MODE: u8, const N: usize>(
     requires flagged { N ≤ length text.now → HoldsFlags (mode_numbered MODE) text.now 0 N 0 (bits_of 64 first) }
     requires classified { N ≤ length text.now → asked_of classified ≡ take N text.now }
     requires room { HasRoom (mode_numbered MODE) (reach true N) text.now 0 (length text.now) to (length (bytes_of target.old)) }
-    ensures { Escapes (mode_numbered MODE) (reach true N) (length text.now - N) (length text.now / N) (length text.now / N) text.now (state target.old 0 to ticks.old) (state target.new result.0 result.1 ticks.new) }
+    ensures { Escapes (mode_numbered MODE) (reach true N) (length text.now - N) (length text.now / N) (length text.now / N) text.now (state target.old 0 to ticks.old) (state target.new (length text.now - N + result.0) result.1 ticks.new) }
 {
     if text.len() < N {
         return (0, to);
     }
     let border = text.len() - N;
     let front = first.clear_high_bits(64 - border);
-    escape_by_mask::<V, MODE, N, true>(text, 0, border, front, classified, target, to, ticks)
+    let (next, end) = escape_by_mask::<V, MODE, N, true>(
+        text, 0, border, front, classified, target, to, ticks,
+    );
+    (next - border, end)
 }
 
 /// Escapes a text shorter than two vectors, for which a classifier answered. Returns the place after it.
@@ -136,7 +140,7 @@ pub(crate) fn escape_flagged_tail<V: Vector<N>, const MODE: u8, const N: usize>(
     requires room { HasRoom (mode_numbered MODE) (reach true N) text.now 0 (length text.now) to (length (bytes_of target.old)) }
     ensures { Escapes (mode_numbered MODE) (reach true N) (length text.now) (length text.now / N + 1) (length text.now / N + 1) text.now (state target.old 0 to ticks.old) (state target.new (length text.now) result ticks.new) }
 {
-    let (next, end) = escape_before_last::<V, MODE, N>(
+    let (passed, end) = escape_before_last::<V, MODE, N>(
         text,
         flags.first,
         flags.first_classified,
@@ -145,12 +149,11 @@ pub(crate) fn escape_flagged_tail<V: Vector<N>, const MODE: u8, const N: usize>(
         ticks,
     );
     let rows = spill_last::<V, N>(text);
-    let passed = next - text.len().saturating_sub(N);
     let left = shift_lanes(flags.last, passed);
     escape_by_mask::<V, MODE, N, true>(
         &rows.as_flattened()[passed..],
         0,
-        text.len() - next,
+        text.len().min(N) - passed,
         left,
         flags.last_classified,
         target,

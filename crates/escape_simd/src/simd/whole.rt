@@ -121,21 +121,21 @@ pub(crate) fn format_in_mode<V: Vector<N>, const MODE: u8, const N: usize>(
     ensures headline { IsOnlyOutput (mode_numbered MODE) (take result dst.new) (chars value.now) }
     ensures equal_texts { IsOfOneText (mode_numbered MODE) value.now (take result dst.new) }
 {
-    if 2 * N <= value.len() {
-        return format_slice::<V, MODE, N>(value, dst);
+    if value.len() < 2 * N {
+        let text = value.as_bytes();
+        let mut target = Target::<N>::new(dst);
+        let open = quote::<MODE, N>(&mut target, 0);
+        return match store_clean_tail::<V, MODE, N>(text, &mut target, open, &mut Ticks::new()) {
+            Ok(close) => quote::<MODE, N>(&mut target, close),
+            Err(flags) => format_flagged::<V, MODE, N>(
+                text,
+                flags.first,
+                flags.first_classified,
+                flags.last,
+                flags.last_classified,
+                dst,
+            ),
+        };
     }
-    let text = value.as_bytes();
-    let mut target = Target::<N>::new(dst);
-    let open = quote::<MODE, N>(&mut target, 0);
-    match store_clean_tail::<V, MODE, N>(text, &mut target, open, &mut Ticks::new()) {
-        Ok(close) => quote::<MODE, N>(&mut target, close),
-        Err(flags) => format_flagged::<V, MODE, N>(
-            text,
-            flags.first,
-            flags.first_classified,
-            flags.last,
-            flags.last_classified,
-            dst,
-        ),
-    }
+    format_slice::<V, MODE, N>(value, dst)
 }

@@ -17,7 +17,7 @@ use std::simd::prelude::*;
 
 /// Returns whether the blocks of eight that a vector's first `valid` bytes take count as no more stored vectors than its
 /// turns would. A block without an escape counts as one. The vector itself pays for one of them, and each
-/// run that ends in it for another one.
+/// run that ends in it for another one. Returns `false` too where turns are faster.
 #[inline(always)]
 pub(crate) fn are_paid(flags: u64, valid: usize) -> bool
     requires some { none_set (bits_of 64 flags) ≡ false }
@@ -25,8 +25,10 @@ pub(crate) fn are_paid(flags: u64, valid: usize) -> bool
     ensures { result ≡ true → (valid + 7) / 8 ≤ flagged_blocks 8 (bits_of 64 flags) + gaps false (take valid (bits_of 64 flags)) + 1 }
 {
     let blocks = (valid + 7) / 8;
-    // One block at least has an escape, so where runs end the blocks need not be counted.
-    blocks <= count_gaps(flags, valid) + 2 || blocks <= count_flagged_blocks(flags) + 1
+    // One of two blocks has an escape. In more blocks, as many escapes or more are faster than by turns.
+    blocks <= 2
+        || (blocks <= flags.count_ones() as usize
+            && blocks <= count_flagged_blocks(flags) + count_gaps(flags, valid) + 1)
 }
 
 /// Returns whether what stands for each flagged byte of the text's vector at `at` is two bytes.

@@ -1,6 +1,6 @@
-use Rattle.std.proofs.Common.{◌+◌, ◌-◌, arith}
-use Rattle.escape_simd.proofs.Words.{ℕ, List, ◌≤◌, Mode, mode_numbered, IsFront}
-use Rattle.escape_simd.proofs.Parts.{copied-on, front-rest}
+use Rattle.std.proofs.Common.{arith}
+use Rattle.escape_simd.proofs.Words.{ℕ, List, ◌≤◌, ◌∙◌, ◌++◌, ap, refl, Mode, mode_numbered, IsFront}
+use Rattle.escape_simd.proofs.Parts.{copied-on, front-rest, vector-at}
 use Rattle.escape_simd.proofs.output.bytes.append_long.Goals as goal
 
 -- a front is clean as far as any place in it
@@ -16,8 +16,8 @@ vectors-preserved g c =
     let i = c.vectors.invariant in
     record {
       before = omega (arith, c.vectors-test.true);
-      copied = copied-on c.args.text.now c.args.dst.now.items c.vectors.dst.items c.push_all-in-vectors.new.dst.items c.vectors.at 32 (c.vectors.at + 32 - c.vectors.at) i.copied (omega arith) c.push_all-in-vectors.ensures.items;
-      capacity = omega (arith, i.capacity, c.push_all-in-vectors.ensures.capacity);
+      copied = copied-on c.args.text.now c.args.dst.now.items c.vectors.dst.items c.push_vector.new.dst.items c.vectors.at 32 32 i.copied refl (c.push_vector.ensures.items ∙ ap (λ xs. c.vectors.dst.items ++ xs) (c.loadu.ensures ∙ vector-at 32 c.vectors.at c.args.text.now));
+      capacity = omega (arith, i.capacity, c.push_vector.ensures.capacity);
     }
 
 pub returns-then-text-at : goal.returns-then-text-at

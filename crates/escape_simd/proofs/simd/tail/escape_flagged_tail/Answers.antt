@@ -1,4 +1,4 @@
-use Rattle.escape_simd.proofs.Words.{Bool, min, ◌≡◌, ◌+◌, ◌-◌, ◌*◌, ◌∙◌, ◌++◌, true, false, ℕ, List, length, drop, take, replicate, ap, sym, subst, arith, bits_of, bytes_of, mode_numbered, HoldsFlags, reach}
+use Rattle.escape_simd.proofs.Words.{min, ◌≡◌, ◌+◌, ◌-◌, ◌*◌, ◌∙◌, true, ℕ, List, length, drop, take, ap, refl, sym, subst, arith, asked_of, bits_of, bytes_of, mode_numbered, HoldsFlags, IsWithin, reach}
 use Rattle.escape_simd.proofs.Lanes.{held-shifted}
 use Rattle.escape_simd.proofs.Last.{last-all, last-vector, tail-rows, within-tail}
 use Rattle.escape_simd.proofs.Stretches.{room-on}
@@ -7,30 +7,29 @@ use Rattle.escape_simd.proofs.simd.tail.escape_flagged_tail.Goals as goal
 
 pub escape_by_mask-requires : goal.escape_by_mask-requires
 escape_by_mask-requires g c =
-    let mode = mode_numbered g.row.MODE in let text : List ℕ = c.args.text.now in let n : ℕ = g.row.N in let next = c.escape_before_last-next.result.0 in let rows : List ℕ = c.as_flattened.result.now in
-    let e = c.escape_before_last-next.ensures in let from = e.passed.whole in let inside = e.stretch.inside in let few = c.requires.flagged.few in
-    let border : ℕ = c.saturating_sub.result in let is : border ≡ length text - n = c.saturating_sub.ensures in let passed : ℕ = next - border in let k : ℕ = 2 * n - min (length text) n in let left : ℕ = length text - next in
-    let there : border + passed ≡ next = omega (arith, from, is) in let count : min (length text) n - passed ≡ left = omega (arith, from, inside, is) in
-    let bits : List Bool = drop passed (bits_of 64 c.args.flags.last) ++ replicate passed false in
-    let held = subst (λ v. HoldsFlags mode text next v next bits) count (subst (λ i. HoldsFlags mode text i (min (length text) n - passed) i bits) there
-    (held-shifted mode text border (min (length text) n) border (bits_of 64 c.args.flags.last) (subst (λ i. HoldsFlags mode text i (min (length text) n) i (bits_of 64 c.args.flags.last)) (sym is) c.requires.flagged.back) passed (omega (arith, inside, from, is)) (omega arith))) in (
+    let mode = mode_numbered g.row.MODE in let text : List ℕ = c.args.text.now in let n : ℕ = g.row.N in let passed : ℕ = c.escape_before_last-passed.result.0 in let rows : List ℕ = c.as_flattened.result.now in
+    let e = c.escape_before_last-passed.ensures in let inside = e.stretch.inside in let few = c.requires.flagged.few in
+    let border : ℕ = length text - n in let next : ℕ = border + passed in let k : ℕ = 2 * n - min (length text) n in let count : ℕ = c.min.result - passed in
+    let is : c.min.result ≡ min (length text) n = c.min.ensures in let left : count ≡ length text - next = omega (arith, is, inside) in
+    let held = held-shifted mode text border (min (length text) n) border (bits_of 64 c.args.flags.last) c.requires.flagged.back passed (omega (arith, inside)) (omega arith) in
+    let shown = tail-rows text rows border passed next k (c.as_flattened.ensures.value ∙ c.spill_last-rows.ensures) refl inside in (
       omega arith,
       (
-        within-tail text (take (length rows - passed) (drop passed rows)) _ border next k
-            (tail-rows text rows border passed next k (c.as_flattened.ensures.value ∙ c.spill_last-rows.ensures ∙ ap (λ i. drop i text ++ replicate k 0) (sym is)) (sym there) inside)
-            (c.requires.flagged.back_asked ∙ ap (λ i. drop i text) (sym is)) (omega (arith, from, is)) inside,
-        last-vector mode (reach true n) n text (take (length rows - passed) (drop passed rows)) next left k c.escape_before_last-next.result.1 inside (omega arith)
-            (tail-rows text rows border passed next k (c.as_flattened.ensures.value ∙ c.spill_last-rows.ensures ∙ ap (λ i. drop i text ++ replicate k 0) (sym is)) (sym there) inside)
-            (length (bytes_of c.escape_before_last-next.new.target)) (bits_of 64 c.shift_lanes-left.result) (omega (arith, from, is)) (omega arith) (subst (λ bs. HoldsFlags mode text next left next bs) (sym c.shift_lanes-left.ensures) held) (room-on e.stretch c.requires.room),
+        subst (λ m. IsWithin (take m (take (length rows - passed) (drop passed rows))) (asked_of c.args.flags.last_classified)) (sym left) (within-tail text (take (length rows - passed) (drop passed rows)) _ border next k shown c.requires.flagged.back_asked (omega arith) inside),
+        last-vector mode (reach true n) n text (take (length rows - passed) (drop passed rows)) next count k c.escape_before_last-passed.result.1 inside left shown
+            (length (bytes_of c.escape_before_last-passed.new.target)) (bits_of 64 c.shift_lanes-left.result) (omega (arith, is)) (omega arith)
+            (subst (λ v. HoldsFlags mode text next v next (bits_of 64 c.shift_lanes-left.result)) (ap (λ m. m - passed) (sym is)) (subst (λ bs. HoldsFlags mode text next (min (length text) n - passed) next bs) (sym c.shift_lanes-left.ensures) held))
+            (room-on e.stretch c.requires.room),
       ),
     )
 
 pub returns : goal.returns
 returns g c =
-    let mode = mode_numbered g.row.MODE in let text : List ℕ = c.args.text.now in let n : ℕ = g.row.N in let next = c.escape_before_last-next.result.0 in let rows : List ℕ = c.as_flattened.result.now in
-    let e = c.escape_before_last-next.ensures in let from = e.passed.whole in let inside = e.stretch.inside in
-    let border : ℕ = c.saturating_sub.result in let is : border ≡ length text - n = c.saturating_sub.ensures in let passed : ℕ = next - border in let k : ℕ = 2 * n - min (length text) n in let there : next ≡ border + passed = omega (arith, from, is) in
+    let mode = mode_numbered g.row.MODE in let text : List ℕ = c.args.text.now in let n : ℕ = g.row.N in let passed : ℕ = c.escape_before_last-passed.result.0 in let rows : List ℕ = c.as_flattened.result.now in
+    let e = c.escape_before_last-passed.ensures in let inside = e.stretch.inside in
+    let border : ℕ = length text - n in let next : ℕ = border + passed in let k : ℕ = 2 * n - min (length text) n in
+    let left : c.min.result - passed ≡ length text - next = omega (arith, c.min.ensures, inside) in
     escapes-onward e
-    (last-all mode (reach true n) n text (take (length rows - passed) (drop passed rows)) next (length text - next) k c.escape_before_last-next.result.1 inside (omega arith)
-    (tail-rows text rows border passed next k (c.as_flattened.ensures.value ∙ c.spill_last-rows.ensures ∙ ap (λ i. drop i text ++ replicate k 0) (sym is)) there inside)
-    c.escape_before_last-next.new.target c.escape_by_mask.new.target c.escape_by_mask.result.0 c.escape_by_mask.result.1 c.escape_before_last-next.new.ticks c.escape_by_mask.new.ticks c.escape_by_mask.ensures)
+    (last-all mode (reach true n) n text (take (length rows - passed) (drop passed rows)) next (c.min.result - passed) k c.escape_before_last-passed.result.1 inside left
+    (tail-rows text rows border passed next k (c.as_flattened.ensures.value ∙ c.spill_last-rows.ensures) refl inside)
+    c.escape_before_last-passed.new.target c.escape_by_mask.new.target c.escape_by_mask.result.0 c.escape_by_mask.result.1 c.escape_before_last-passed.new.ticks c.escape_by_mask.new.ticks c.escape_by_mask.ensures)

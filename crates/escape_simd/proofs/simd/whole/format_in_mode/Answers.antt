@@ -8,7 +8,7 @@ store_clean_tail-requires g c =
     let mode = mode_numbered g.row.MODE in let text : List ℕ = c.as_bytes-text.result.now in let o = c.quote-open.ensures in let same = ap length c.as_bytes-text.ensures.value in (
       omega arith,
       (
-        omega (arith, same, c.if-value.false),
+        omega (arith, same, c.if-value.true),
         room-six mode (reach true g.row.N) text 0 (length text) c.quote-open.result (length (bytes_of c.quote-open.new.target)) (omega arith) (omega arith)
             (omega (arith, bound-quotes mode (length c.args.value.now), quote-short mode, same, o.quoted.ends, o.same_slice.len, ap length c.new-target.ensures.bytes, c.requires)),
       ),
@@ -20,8 +20,8 @@ quote-requires g c =
     let s = c.in-Ok.ensures.clean.stretch in let on = stretch-on s in
     (omega arith, omega (arith, bound-quotes mode (length c.args.value.now), quote-short mode, ap length c.as_bytes-text.ensures.value, on, o.quoted.ends, o.same_slice.len, s.same_slice.len, c.requires, ap length c.new-target.ensures.bytes))
 
-pub returns-then-value : goal.returns-then-value
-returns-then-value g c = written-laws c.format_slice.ensures c.utf8.value
+pub returns : goal.returns
+returns g c = written-laws c.format_slice.ensures c.utf8.value
 
 pub returns-in-Ok : goal.returns-in-Ok
 returns-in-Ok g c =

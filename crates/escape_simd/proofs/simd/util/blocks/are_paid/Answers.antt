@@ -1,4 +1,4 @@
-use Rattle.escape_simd.proofs.Words.{arith, take, length-take-le, ◌≡◌, ◌+◌, ◌<◌, ◌≤◌, ℕ, bits_of, first_set, false, gaps, get_or_past, none_set, length-bits_of}
+use Rattle.escape_simd.proofs.Words.{arith, take, length-take-le, ◌≡◌, ◌+◌, ◌<◌, ◌≤◌, ℕ, bits_of, first_set, false, gaps, get_or_past, nat_tests, none_set, length-bits_of}
 use Rattle.escape_lanes.specs.Spread.{flagged_blocks}
 use Rattle.escape_simd.proofs.Gaps.{gaps-most}
 use Rattle.escape_simd.proofs.Lanes.{first_set-here}
@@ -26,3 +26,6 @@ returns-then-blocks-le2 c =
     let bits = bits_of 64 c.args.flags in
     let some = blocks-some 8 (first_set bits) bits (first-lt c.args.flags c.requires.some) (first_set-here bits c.requires.some) in
     λ paid. omega (arith, c.if-blocks-le2.true, some)
+
+pub returns-then-blocks-flags : goal.returns-then-blocks-flags
+returns-then-blocks-flags c = λ paid. let ends = c.count_gaps.ensures in let flagged = c.count_flagged_blocks.ensures in grind (arith, nat_tests, paid, ends, flagged)

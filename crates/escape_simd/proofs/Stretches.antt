@@ -150,3 +150,27 @@ pub stored_from_paste : {N : ℕ} {slack : ℕ} {text : List ℕ} {old new : Tar
 stored_from_paste {text = text} {old = old} {to = to} {n = n} lanes same bytes stored escaped quotes writes some long few room loaded =
     let is = bytes ∙ append_assoc (take to (bytes_of old)) (take n lanes) (drop (to + n) (bytes_of old)) in
     grind (arith, is, take_at, drop_at, take-append-le, take-take (length text) n lanes some, take_all, length-take-le {A = ℕ}, drop_further, drop-paste)
+
+-- A vector of a text, as a text of its own
+module _ (src : List ℕ) (n i next : ℕ) (is : next ≡ i + n) (inside : next ≤ length src) where
+  -- its bytes
+  abbrev part : List ℕ
+  part = take (next - i) (drop i src)
+
+  pub part-whole : part ≡ take n (drop i src)
+  part-whole = ap (λ k. take k (drop i src)) (omega (arith, is))
+
+  pub part-long : length part ≡ n
+  part-long = ap length part-whole ∙ length-take-le n (drop i src) (omega (arith, length-drop i src, is, inside))
+
+  -- loaded
+  pub part-loaded : (lanes : List ℕ) → lanes ≡ take n (take (length src - i) (drop i src)) → take (length part) lanes ≡ part
+  part-loaded lanes loaded =
+      let all = take_all (length src - i) (drop i src) (omega (arith, length-drop i src)) in
+      ap (take (length part)) (loaded ∙ ap (take n) all ∙ sym part-whole) ∙ take_all (length part) part (omega arith)
+
+  -- stored
+  pub part-stored : {N slack to : ℕ} {old new : Target N} → IsStored slack part old new 0 (length part) to → IsStored slack src old new i n to
+  part-stored {to = to} {new = new} s =
+      let ahead = ap (λ k. take k (drop to (bytes_of new))) (sym part-long) ∙ s.ahead ∙ take_all (length part) part (omega arith) ∙ part-whole in let kept = rw part-long at s.kept in
+      grind (arith, ahead, kept, s.written, s.same_slice, s.stored, s.escaped, s.quotes, s.writes)

@@ -8,7 +8,7 @@ ghost use Rattle.escape_simd.specs.Stretch.{Escapes, HasVectors, Passed, state};
 
 use crate::simd::Vector;
 use crate::simd::by_mask::escape_by_mask;
-use crate::simd::store::store;
+use crate::simd::store::store_lanes;
 use escape_lanes::simd::Flags;
 use escape_lanes::simd::classify::{Classified, classify};
 use escape_lanes::simd::lane_bits::shift_lanes;
@@ -59,10 +59,13 @@ pub(crate) fn chunk<V: Vector<N>, const MODE: u8, const N: usize>(
     let answer4 = classify::<V, MODE, N>(src, fourth, ticks);
     let front = answer1.0.join(&answer2.0);
     if front.join(&answer3.0.join(&answer4.0)).none() {
-        store::<V, N, false>(src, at, N, answer1.1, target, to);
-        store::<V, N, false>(src, second, N, answer2.1, target, to + N);
-        store::<V, N, false>(src, third, N, answer3.1, target, to + 2 * N);
-        store::<V, N, false>(src, fourth, N, answer4.1, target, to + 3 * N);
+        // All are loaded before one is stored: so the compiler takes those that were classified.
+        let (v1, v2) = (V::load(&src[at..]), V::load(&src[second..]));
+        let (v3, v4) = (V::load(&src[third..]), V::load(&src[fourth..]));
+        store_lanes::<V, N, false>(&v1, &src[at..second], answer1.1, target, to);
+        store_lanes::<V, N, false>(&v2, &src[second..third], answer2.1, target, to + N);
+        store_lanes::<V, N, false>(&v3, &src[third..fourth], answer3.1, target, to + 2 * N);
+        store_lanes::<V, N, false>(&v4, &src[fourth..fourth + N], answer4.1, target, to + 3 * N);
         return (at + 4 * N, to + 4 * N);
     }
     let (next, end) = vector_from::<V, MODE, N>(src, at, at, answer1, target, to, ticks);

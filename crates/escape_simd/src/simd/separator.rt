@@ -14,10 +14,7 @@ fn begins_separator(src: &[u8], at: usize) -> bool
     requires { at < length src.now }
     ensures { result ≡ begins_separator (drop at src.now) }
 {
-    if src[at] != 0xe2 {
-        return false;
-    }
-    if src.len() - at < 3 {
+    if src[at] != 0xe2 || src.len() - at < 3 {
         return false;
     }
     let (second, third) = (src[at + 1], src[at + 2]);

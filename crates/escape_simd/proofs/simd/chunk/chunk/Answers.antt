@@ -1,33 +1,38 @@
-use Rattle.escape_simd.proofs.Words.{◌≡◌, ◌≤◌, ℕ, ◌+◌, ◌*◌, ◌∙◌, List, length, refl, sym, arith, bytes_of, mode_numbered, CanStore, Escapes, HasVectors, Mode, Target, state}
+use Rattle.escape_simd.proofs.Words.{◌≡◌, ◌≤◌, ℕ, ◌+◌, ◌-◌, ◌*◌, ◌∙◌, List, length, take, drop, ap, refl, sym, arith, asked_of, bytes_of, mode_numbered, Escapes, IsWithin, HasVectors, Mode, Target, state}
 use Rattle.escape_simd.proofs.Lanes.{none_set-four, within-all}
-use Rattle.escape_simd.proofs.Stretches.{room-least, room-near, room-on}
+use Rattle.escape_simd.proofs.Stretches.{part-loaded, part-long, part-stored, part-whole, room-least, room-near, room-on}
 use Rattle.escape_simd.proofs.Vectors.{escapes-asked, escapes-begun, escapes-bordered, escapes-ended, escapes-onward, flags-clean, passed-to, vector-clean}
 use Rattle.escape_simd.proofs.simd.chunk.chunk.Goals as goal
 
 -- each of the vectors can be stored
 module _ {N vectors : ℕ} {mode : Mode} {src : List ℕ} {at to size : ℕ} (r : HasVectors mode N vectors src at at to size) where
-  store-at : (k i p : ℕ) (target : Target N) → i ≡ at + k → p ≡ to + k → k + N ≤ vectors * N → (vectors + 1) * N ≡ vectors * N + N → length (bytes_of target) ≡ size → CanStore N N src i N p (length (bytes_of target))
-  store-at k i p target is ends few more same =
+  store-at : (k i next p : ℕ) (target : Target N) (lanes asked : List ℕ) (is : next ≡ i + N) → i ≡ at + k → p ≡ to + k → k + N ≤ vectors * N → (vectors + 1) * N ≡ vectors * N + N → length (bytes_of target) ≡ size → lanes ≡ take N (take (length src - i) (drop i src)) → asked ≡ take N (drop i src)
+      → (length (take (next - i) (drop i src)) ≤ N) × ((take (length (take (next - i) (drop i src))) lanes ≡ take (next - i) (drop i src)) × (IsWithin (take (next - i) (drop i src)) asked × (p + length (take (next - i) (drop i src)) + N ≤ length (bytes_of target))))
+  store-at k i next p target lanes asked is starts ends few more same loaded whole =
       let least = room-least (omega arith) (omega (arith, r.inside, more)) r.room in
-      record { few = omega arith; inside = omega (arith, is, few, r.inside, more); room = omega (arith, ends, few, least, same) }
+      let inside : next ≤ length src = omega (arith, is, starts, few, r.inside, more) in
+      let long = part-long src N i next is inside in
+      (omega (arith, long), (part-loaded src N i next is inside lanes loaded, (within-all _ _ (whole ∙ sym (part-whole src N i next is inside)), omega (arith, long, ends, few, least, same))))
 
-pub store-requires : goal.store-requires
-store-requires g c = (omega arith, (within-all _ _ c.classify-answer1.ensures.asked, store-at c.requires 0 c.args.at c.args.to c.args.target.now (omega arith) (omega arith) (omega arith) (omega arith) refl))
+pub store_lanes-requires : goal.store_lanes-requires
+store_lanes-requires g c =
+    let n : ℕ = g.row.N in let at : ℕ = c.args.at in let src : List ℕ = c.args.src.now in
+    (omega arith, store-at c.requires 0 at (at + n) c.args.to c.args.target.now (g.V.LoadStore.lanes c.load-v1.result) (asked_of c.classify-answer1.result.1) refl (omega arith) (omega arith) (omega arith) (omega arith) refl (c.load-v1.ensures ∙ ap (λ k. take k (take (length src - (at)) (drop (at) src))) g.met.V.Vector.lane_count) c.classify-answer1.ensures.asked)
 
-pub store-requires-then-none : goal.store-requires-then-none
-store-requires-then-none g c =
-    let n : ℕ = g.row.N in let s = c.store.ensures.same_slice in
-    (omega arith, (within-all _ _ c.classify-answer2.ensures.asked, store-at c.requires n (c.args.at + n) (c.args.to + n) c.store.new.target refl refl (omega arith) (omega arith) s.len))
+pub store_lanes-requires-then-none : goal.store_lanes-requires-then-none
+store_lanes-requires-then-none g c =
+    let n : ℕ = g.row.N in let at : ℕ = c.args.at in let src : List ℕ = c.args.src.now in let s = c.store_lanes.ensures.same_slice in
+    (omega arith, store-at c.requires n (at + n) (at + n + n) (c.args.to + n) c.store_lanes.new.target (g.V.LoadStore.lanes c.load-v2.result) (asked_of c.classify-answer2.result.1) refl (omega arith) (omega arith) (omega arith) (omega arith) s.len (c.load-v2.ensures ∙ ap (λ k. take k (take (length src - ((at + n))) (drop ((at + n)) src))) g.met.V.Vector.lane_count) c.classify-answer2.ensures.asked)
 
-pub store-requires-then-none-2 : goal.store-requires-then-none-2
-store-requires-then-none-2 g c =
-    let n : ℕ = g.row.N in let s = c.store.ensures.same_slice in let s2 = c.store-then-none.ensures.same_slice in
-    (omega arith, (within-all _ _ c.classify-answer3.ensures.asked, store-at c.requires (2 * n) (c.args.at + n + n) (c.args.to + 2 * n) c.store-then-none.new.target (omega arith) refl (omega arith) (omega arith) (s2.len ∙ s.len)))
+pub store_lanes-requires-then-none-2 : goal.store_lanes-requires-then-none-2
+store_lanes-requires-then-none-2 g c =
+    let n : ℕ = g.row.N in let at : ℕ = c.args.at in let src : List ℕ = c.args.src.now in let s = c.store_lanes.ensures.same_slice in let s2 = c.store_lanes-then-none.ensures.same_slice in
+    (omega arith, store-at c.requires (2 * n) (at + n + n) (at + n + n + n) (c.args.to + 2 * n) c.store_lanes-then-none.new.target (g.V.LoadStore.lanes c.load-v3.result) (asked_of c.classify-answer3.result.1) refl (omega arith) (omega arith) (omega arith) (omega arith) (s2.len ∙ s.len) (c.load-v3.ensures ∙ ap (λ k. take k (take (length src - ((at + n + n))) (drop ((at + n + n)) src))) g.met.V.Vector.lane_count) c.classify-answer3.ensures.asked)
 
-pub store-requires-then-none-3 : goal.store-requires-then-none-3
-store-requires-then-none-3 g c =
-    let n : ℕ = g.row.N in let s = c.store.ensures.same_slice in let s2 = c.store-then-none.ensures.same_slice in let s3 = c.store-then-none-2.ensures.same_slice in
-    (omega arith, (within-all _ _ c.classify-answer4.ensures.asked, store-at c.requires (3 * n) (c.args.at + n + n + n) (c.args.to + 3 * n) c.store-then-none-2.new.target (omega arith) refl (omega arith) (omega arith) (s3.len ∙ s2.len ∙ s.len)))
+pub store_lanes-requires-then-none-3 : goal.store_lanes-requires-then-none-3
+store_lanes-requires-then-none-3 g c =
+    let n : ℕ = g.row.N in let at : ℕ = c.args.at in let src : List ℕ = c.args.src.now in let s = c.store_lanes.ensures.same_slice in let s2 = c.store_lanes-then-none.ensures.same_slice in let s3 = c.store_lanes-then-none-2.ensures.same_slice in
+    (omega arith, store-at c.requires (3 * n) (at + n + n + n) (at + n + n + n + n) (c.args.to + 3 * n) c.store_lanes-then-none-2.new.target (g.V.LoadStore.lanes c.load-v4.result) (asked_of c.classify-answer4.result.1) refl (omega arith) (omega arith) (omega arith) (omega arith) (s3.len ∙ s2.len ∙ s.len) (c.load-v4.ensures ∙ ap (λ k. take k (take (length src - ((at + n + n + n))) (drop ((at + n + n + n)) src))) g.met.V.Vector.lane_count) c.classify-answer4.ensures.asked)
 
 pub returns-then-none : goal.returns-then-none
 returns-then-none g c =
@@ -37,10 +42,10 @@ returns-then-none g c =
     let nones = none_set-four g.V.Flags.Flags.LANES (t a1.result.0) (t a2.result.0) (t a3.result.0) (t a4.result.0) (t c.join-front.result) (t c.join.result) (t c.join-2.result)
     (w a1.result.0) (w a2.result.0) (w a3.result.0) (w a4.result.0) (w c.join-front.result) (w c.join.result)
     c.join-front.ensures c.join.ensures c.join-2.ensures (sym c.none.ensures ∙ c.if-none.true) in
-    let e1 = vector-clean mode n src c.args.target.now c.store.new.target at n c.args.to ticks (omega (arith, inside)) (flags-clean mode n src at (t a1.result.0) (omega (arith, inside)) a1.ensures.flagged nones.0) c.store.ensures in
-    let e2 = vector-clean mode n src c.store.new.target c.store-then-none.new.target (at + n) n (c.args.to + n) ticks (omega (arith, inside)) (flags-clean mode n src (at + n) (t a2.result.0) (omega (arith, inside)) a2.ensures.flagged nones.1) c.store-then-none.ensures in
-    let e3 = vector-clean mode n src c.store-then-none.new.target c.store-then-none-2.new.target (at + n + n) n (c.args.to + 2 * n) ticks (omega (arith, inside)) (flags-clean mode n src (at + n + n) (t a3.result.0) (omega (arith, inside)) a3.ensures.flagged nones.2) c.store-then-none-2.ensures in
-    let e4 = vector-clean mode n src c.store-then-none-2.new.target c.store-then-none-3.new.target (at + n + n + n) n (c.args.to + 3 * n) ticks (omega (arith, inside)) (flags-clean mode n src (at + n + n + n) (t a4.result.0) (omega (arith, inside)) a4.ensures.flagged nones.3) c.store-then-none-3.ensures in
+    let e1 = vector-clean mode n src c.args.target.now c.store_lanes.new.target at n c.args.to ticks (omega (arith, inside)) (flags-clean mode n src at (t a1.result.0) (omega (arith, inside)) a1.ensures.flagged nones.0) (part-stored src n at (at + n) refl (omega (arith, inside)) c.store_lanes.ensures) in
+    let e2 = vector-clean mode n src c.store_lanes.new.target c.store_lanes-then-none.new.target (at + n) n (c.args.to + n) ticks (omega (arith, inside)) (flags-clean mode n src (at + n) (t a2.result.0) (omega (arith, inside)) a2.ensures.flagged nones.1) (part-stored src n (at + n) (at + n + n) refl (omega (arith, inside)) c.store_lanes-then-none.ensures) in
+    let e3 = vector-clean mode n src c.store_lanes-then-none.new.target c.store_lanes-then-none-2.new.target (at + n + n) n (c.args.to + 2 * n) ticks (omega (arith, inside)) (flags-clean mode n src (at + n + n) (t a3.result.0) (omega (arith, inside)) a3.ensures.flagged nones.2) (part-stored src n (at + n + n) (at + n + n + n) refl (omega (arith, inside)) c.store_lanes-then-none-2.ensures) in
+    let e4 = vector-clean mode n src c.store_lanes-then-none-2.new.target c.store_lanes-then-none-3.new.target (at + n + n + n) n (c.args.to + 3 * n) ticks (omega (arith, inside)) (flags-clean mode n src (at + n + n + n) (t a4.result.0) (omega (arith, inside)) a4.ensures.flagged nones.3) (part-stored src n (at + n + n + n) (at + n + n + n + n) refl (omega (arith, inside)) c.store_lanes-then-none-3.ensures) in
     let all = escapes-onward (escapes-onward (escapes-onward e1 e2) (escapes-begun refl (omega arith) e3)) (escapes-begun refl (omega arith) e4) in
     escapes-asked c.args.ticks.now 4 (omega (arith, a1.ensures.tick, a2.ensures.tick, a3.ensures.tick, a4.ensures.tick)) (escapes-ended (omega arith) (omega arith) (omega arith) all)
 

@@ -8,8 +8,7 @@ use Rattle.escape_simd.proofs.simd.util.blocks.are_paid.Goals as goal
 -- both counts are small
 few-counted : (flags valid blocks ends : ℕ) → valid ≤ 64 → blocks ≡ flagged_blocks 8 (bits_of 64 flags) → ends ≡ gaps false (take valid (bits_of 64 flags)) → blocks + ends ≤ 72
 few-counted flags valid blocks ends few is is2 =
-    let bits = bits_of 64 flags in let long = length-take-le valid bits (omega (arith, few, length-bits_of 64 flags)) in
-    omega (arith, is, is2, blocks-most 8 bits, gaps-most false (take valid bits), long, few)
+    let bits = bits_of 64 flags in omega (arith, is, is2, blocks-most 8 bits, gaps-most false (take valid bits), length-take-le valid bits (omega (arith, few, length-bits_of 64 flags)), few)
 
 pub overflow_add-result : goal.overflow_add-result
 overflow_add-result c = record { fits = omega (arith, few-counted c.args.flags c.args.valid c.count_flagged_blocks.result c.count_gaps.result c.requires.few c.count_flagged_blocks.ensures c.count_gaps.ensures) }

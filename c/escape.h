@@ -100,7 +100,7 @@ escape_status escape_json(escape_kernel kernel, const char *text, size_t length,
 
 /* As escape_json, for a text that the caller knows to be UTF-8: ESCAPE_NOT_UTF8 is never answered. With
  * other bytes nothing is promised, not even that all reads and writes stay inside the buffers. What it saves
- * is small in ASCII. In other text the check takes most of a call: some 2.5 microseconds a KiB of Cyrillic,
+ * is small in ASCII. In other text the check takes most of a call: some 2 microseconds a KiB of Cyrillic,
  * where the escaping takes 0.05. */
 escape_status escape_json_unchecked(escape_kernel kernel, const char *text, size_t length,
                                     char *buffer, size_t room, size_t *count);

@@ -81,6 +81,10 @@ two-clean {mode = mode} {slack = slack} {n = n} {text = text} {old = old} {mid =
 
 -- A short text by its masks
 
+-- it is all that is loaded of it
+pub loaded-short : (text lanes : List ℕ) (n m : ℕ) → m ≡ n → lanes ≡ drop (length text - length text) text ++ zeros (m - length text) → lanes ≡ text ++ zeros (n - length text)
+loaded-short text lanes n m same loaded = let none : length text - length text ≡ 0 = omega arith in rw (sym same) (rw none at loaded)
+
 -- fewer bytes of a mask
 pub held-fewer : (mode : Mode) (src : List ℕ) (at n from valid : ℕ) (bits : List Bool) → HoldsFlags mode src at n from bits → length bits ≡ 64 → valid ≤ n → n ≤ 64 → HoldsFlags mode src at valid from (clear_last (64 - valid) bits)
 held-fewer mode src at n from valid bits h long few narrow = record {

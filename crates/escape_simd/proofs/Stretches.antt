@@ -1,5 +1,5 @@
 -- Stretches of a text: one after another, of clean bytes, and of what one escape stands for.
-use Rattle.escape_simd.proofs.Words.{◌≡◌, ℕ, ◌+◌, ◌-◌, ◌*◌, ◌<◌, ◌≤◌, Bool, true, false, List, ◌++◌, length, take, drop, get_or, sym, ap, ◌∙◌, arith, append_assoc, length-append, length-take-le, length-drop, slice_range, paste, take-append-add, drop-drop, take-append-le, take-take, take_all, take_at, drop_at, append_cancel_right, flat_map-append, Mode, json, html, script, mode_of, needs_escape, replacement, bytes_of, stored_of, escaped_of, quotes_of, writes_of, IsSameSlice, Target, inner, passed, first_replacement, escaped_count, HasRoom, Stretch, IsStored, reach, run_reach}
+use Rattle.escape_simd.proofs.Words.{◌≡◌, ℕ, ◌+◌, ◌-◌, ◌*◌, ◌<◌, ◌≤◌, Bool, true, false, List, ◌++◌, length, take, drop, get_or, sym, ap, ◌∙◌, arith, append_assoc, length-append, length-take-le, length-drop, slice_range, paste, take-append-add, drop-drop, take-append-le, take-take, take_at, drop_at, append_cancel_right, flat_map-append, Mode, json, html, script, mode_of, needs_escape, replacement, bytes_of, stored_of, escaped_of, quotes_of, writes_of, IsSameSlice, Target, inner, passed, first_replacement, escaped_count, HasRoom, Stretch, IsStored, reach, run_reach}
 use Rattle.std.proofs.lemmas.List.Folds.{drop_split}
 use Rattle.std.proofs.lemmas.List.Edits.{take-paste, drop-paste}
 use Rattle.escape_simd.proofs.RestSteps.{rest-is, rest-between}
@@ -143,34 +143,10 @@ module _ {N : ℕ} (is_html : Bool) {slack : ℕ} {src : List ℕ} {old new : Ta
   pub stretch-end : end ≡ to + length (inner (mode_of is_html) (slice_range src at next))
   stretch-end = grind (arith, rest-is, parts, length-append {A = ℕ}, slice_range)
 
--- lanes that begin with a text were pasted in: a vector of it is stored
-pub stored_from_paste : {N : ℕ} {slack : ℕ} {text : List ℕ} {old new : Target N} {to n : ℕ} (lanes : List ℕ) → IsSameSlice old new → bytes_of new ≡ paste (bytes_of old) to lanes n
+-- lanes that begin with bytes of a text were pasted in: a vector of it is stored
+pub stored_from_paste : {N slack from left : ℕ} {src : List ℕ} {old new : Target N} {to n : ℕ} (lanes : List ℕ) → IsSameSlice old new → bytes_of new ≡ paste (bytes_of old) to lanes n
     → stored_of new ≡ stored_of old + 1 → escaped_of new ≡ escaped_of old → quotes_of new ≡ quotes_of old → writes_of new ≡ writes_of old + 1
-    → length text ≤ n → n ≤ length lanes → n ≤ length text + slack → to + n ≤ length (bytes_of old) → take (length text) lanes ≡ text → IsStored slack text old new 0 (length text) to
-stored_from_paste {text = text} {old = old} {to = to} {n = n} lanes same bytes stored escaped quotes writes some long few room loaded =
+    → left ≤ n → n ≤ length lanes → n ≤ left + slack → to + n ≤ length (bytes_of old) → take left lanes ≡ take left (drop from src) → IsStored slack src old new from left to
+stored_from_paste {left = left} {old = old} {to = to} {n = n} lanes same bytes stored escaped quotes writes some long few room loaded =
     let is = bytes ∙ append_assoc (take to (bytes_of old)) (take n lanes) (drop (to + n) (bytes_of old)) in
-    grind (arith, is, take_at, drop_at, take-append-le, take-take (length text) n lanes some, take_all, length-take-le {A = ℕ}, drop_further, drop-paste)
-
--- A vector of a text, as a text of its own
-module _ (src : List ℕ) (n i next : ℕ) (is : next ≡ i + n) (inside : next ≤ length src) where
-  -- its bytes
-  abbrev part : List ℕ
-  part = take (next - i) (drop i src)
-
-  pub part-whole : part ≡ take n (drop i src)
-  part-whole = ap (λ k. take k (drop i src)) (omega (arith, is))
-
-  pub part-long : length part ≡ n
-  part-long = ap length part-whole ∙ length-take-le n (drop i src) (omega (arith, length-drop i src, is, inside))
-
-  -- loaded
-  pub part-loaded : (lanes : List ℕ) → lanes ≡ take n (take (length src - i) (drop i src)) → take (length part) lanes ≡ part
-  part-loaded lanes loaded =
-      let all = take_all (length src - i) (drop i src) (omega (arith, length-drop i src)) in
-      ap (take (length part)) (loaded ∙ ap (take n) all ∙ sym part-whole) ∙ take_all (length part) part (omega arith)
-
-  -- stored
-  pub part-stored : {N slack to : ℕ} {old new : Target N} → IsStored slack part old new 0 (length part) to → IsStored slack src old new i n to
-  part-stored {to = to} {new = new} s =
-      let ahead = ap (λ k. take k (drop to (bytes_of new))) (sym part-long) ∙ s.ahead ∙ take_all (length part) part (omega arith) ∙ part-whole in let kept = rw part-long at s.kept in
-      grind (arith, ahead, kept, s.written, s.same_slice, s.stored, s.escaped, s.quotes, s.writes)
+    grind (arith, is, take_at, drop_at, take-append-le, take-take left n lanes some, length-take-le {A = ℕ}, drop_further, drop-paste)

@@ -28,23 +28,23 @@ impl Classified<'static> {
     }
 }
 
-/// Classifies the text's vector at `at`. Ticks once.
+/// Loads the text's vector at `at` and classifies it. Returns it and the answer. Ticks once.
 #[inline(always)]
 pub fn classify<'a, V: Vector<N>, const MODE: u8, const N: usize>(
     text: &'a [u8],
     at: usize,
     ticks: &mut Ticks,
-) -> (V::Flags, Classified<'a>)
+) -> (V, (V::Flags, Classified<'a>))
     requires { at + N ≤ length text.now }
-    ensures flagged { V.Flags.truths result.0 ≡ map (needs_escape (mode_numbered MODE)) (take N (drop at text.now)) }
-    ensures asked { asked_of result.1 ≡ take N (drop at text.now) }
+    ensures loaded { V.lanes result.0 ≡ take N (drop at text.now) }
+    ensures flagged { V.Flags.truths result.1.0 ≡ map (needs_escape (mode_numbered MODE)) (take N (drop at text.now)) }
+    ensures asked { asked_of result.1.1 ≡ take N (drop at text.now) }
     ensures tick { ticks.new ≡ ticks.old + 1 }
 {
     let bytes = &text[at..at + N];
-    (
-        flags::<V, MODE, N>(&V::load(bytes), ticks),
-        Classified { bytes },
-    )
+    let v = V::load(bytes);
+    let answer = classify_loaded::<V, MODE, N>(&v, bytes, ticks);
+    (v, answer)
 }
 
 /// Classifies a loaded vector that begins with the bytes of `text`. Ticks once.

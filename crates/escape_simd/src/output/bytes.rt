@@ -31,10 +31,9 @@ pub(super) fn append_last<const MODE: u8, A: Allocator>(text: &[u8], dst: &mut V
         }
         flags
     } else {
-        let flags = classify_pair::<V, MODE, N>(text, &mut Ticks::new());
+        let (v1, v2, flags) = classify_pair::<V, MODE, N>(text, &mut Ticks::new());
         if flags.none() {
             let last = count - N;
-            let (v1, v2) = (V::loadu(text), V::loadu(&text[last..]));
             push_vector(dst, &v1);
             // The last vector overlaps the first one.
             dst.truncate(len + last);

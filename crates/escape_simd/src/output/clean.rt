@@ -28,7 +28,7 @@ pub(super) fn mask_at<const MODE: u8>(src: &[u8], at: usize, count: usize) -> u6
 {
     let mut ticks = Ticks::new();
     if count == N {
-        return classify::<V, MODE, N>(src, at, &mut ticks).0.bits();
+        return classify::<V, MODE, N>(src, at, &mut ticks).1.0.bits();
     }
     let flags = flags::<V, MODE, N>(&V::load_last(src, count), &mut ticks).bits();
     flags.clear_high_bits(64 - count)
@@ -44,10 +44,10 @@ pub(super) fn clean_end<const MODE: u8>(src: &[u8], at: usize) -> usize
     let mut end = at;
     'chunks: while 5 * N <= src.len() - end {
         let mut ticks = Ticks::new();
-        let (flags1, _) = classify::<V, MODE, N>(src, end, &mut ticks);
-        let (flags2, _) = classify::<V, MODE, N>(src, end + N, &mut ticks);
-        let (flags3, _) = classify::<V, MODE, N>(src, end + 2 * N, &mut ticks);
-        let (flags4, _) = classify::<V, MODE, N>(src, end + 3 * N, &mut ticks);
+        let (_, (flags1, _)) = classify::<V, MODE, N>(src, end, &mut ticks);
+        let (_, (flags2, _)) = classify::<V, MODE, N>(src, end + N, &mut ticks);
+        let (_, (flags3, _)) = classify::<V, MODE, N>(src, end + 2 * N, &mut ticks);
+        let (_, (flags4, _)) = classify::<V, MODE, N>(src, end + 3 * N, &mut ticks);
         if !flags1.join(&flags2).join(&flags3.join(&flags4)).none() {
             break;
         }

@@ -9,16 +9,16 @@ ghost use Rattle.escape_simd.specs.Stretch.{CanStore, Escapes, IsFinished, IsSto
 use crate::simd::Vector;
 use crate::simd::store::store;
 use crate::simd::util::{are_paid, are_short, escape, escape_blocks};
-use escape_lanes::simd::BitMask;
 use escape_lanes::simd::classify::{Classified, classify_by_mask};
 use escape_lanes::simd::lane_bits::clear_first_lane;
 use escape_lanes::simd::mode::is_script;
 use escape_lanes::simd::target::{Target, Ticks};
+use escape_lanes::simd::{BitMask, LoadStore};
 
 /// Stores the text's bytes from `from` on, where a run of escapes has ended, up to the vector's `border`. The mask has
 /// their flags, and classifies them.
 #[inline]
-fn store_tail<V: Vector<N>, const MODE: u8, const N: usize, const LAST: bool>(
+fn store_tail<V: LoadStore, const MODE: u8, const N: usize, const LAST: bool>(
     src: &[u8],
     border: usize,
     from: usize,
@@ -27,6 +27,7 @@ fn store_tail<V: Vector<N>, const MODE: u8, const N: usize, const LAST: bool>(
     to: usize,
     ticks: &mut Ticks,
 )
+    requires lanes { V.LANES ≡ N }
     requires before { from ≤ border }
     requires told { Tells (mode_numbered MODE) src.now (bits_of 64 mask) from border }
     requires room { CanStore N (reach LAST N) src.now from (border - from) to (length (bytes_of target.old)) }
@@ -40,7 +41,7 @@ fn store_tail<V: Vector<N>, const MODE: u8, const N: usize, const LAST: bool>(
 /// Passes the clean bytes from `from` on of a vector that ends at `border`, whose last escape was written.
 /// Returns the places after them.
 #[inline]
-fn finish_vector<V: Vector<N>, const MODE: u8, const N: usize, const LAST: bool>(
+fn finish_vector<V: LoadStore, const MODE: u8, const N: usize, const LAST: bool>(
     src: &[u8],
     border: usize,
     from: usize,
@@ -49,6 +50,7 @@ fn finish_vector<V: Vector<N>, const MODE: u8, const N: usize, const LAST: bool>
     to: usize,
     ticks: &mut Ticks,
 ) -> (usize, usize)
+    requires lanes { V.LANES ≡ N }
     requires told { Tells (mode_numbered MODE) src.now (bits_of 64 mask) from border }
     requires end { IsVectorEnd (mode_numbered MODE) N (reach LAST N) src.now border from to (length (bytes_of target.old)) }
     ensures { IsFinished (mode_numbered MODE) (reach LAST N) src.now border (state target.old from to ticks.old) (state target.new result.0 result.1 ticks.new) }
@@ -67,7 +69,7 @@ fn finish_vector<V: Vector<N>, const MODE: u8, const N: usize, const LAST: bool>
 /// one, and unless a flagged byte follows, stores the vector that begins there. The loop ends in the middle of a turn:
 /// so the compiler peels the first turn, and a vector with one escape takes no branch of the loop.
 #[inline(always)]
-pub(crate) fn escape_by_turns<V: Vector<N>, const MODE: u8, const N: usize, const LAST: bool>(
+pub(crate) fn escape_by_turns<V: LoadStore, const MODE: u8, const N: usize, const LAST: bool>(
     text: &[u8],
     valid: usize,
     mask: u64,
@@ -76,6 +78,8 @@ pub(crate) fn escape_by_turns<V: Vector<N>, const MODE: u8, const N: usize, cons
     to: usize,
     ticks: &mut Ticks,
 ) -> (usize, usize)
+    requires lanes { V.LANES ≡ N }
+    requires several { 16 ≤ N }
     requires classified { IsWithin (take valid text.now) (asked_of classified) }
     requires vector { IsVectorAt (mode_numbered MODE) N (reach LAST N) text.now 0 valid to (length (bytes_of target.old)) (bits_of 64 mask) }
     requires some { none_set (bits_of 64 mask) ≡ false }

@@ -53,19 +53,16 @@ pub(crate) fn chunk<V: Vector<N>, const MODE: u8, const N: usize>(
     let second = at + N;
     let third = second + N;
     let fourth = third + N;
-    let answer1 = classify::<V, MODE, N>(src, at, ticks);
-    let answer2 = classify::<V, MODE, N>(src, second, ticks);
-    let answer3 = classify::<V, MODE, N>(src, third, ticks);
-    let answer4 = classify::<V, MODE, N>(src, fourth, ticks);
+    let (v1, answer1) = classify::<V, MODE, N>(src, at, ticks);
+    let (v2, answer2) = classify::<V, MODE, N>(src, second, ticks);
+    let (v3, answer3) = classify::<V, MODE, N>(src, third, ticks);
+    let (v4, answer4) = classify::<V, MODE, N>(src, fourth, ticks);
     let front = answer1.0.join(&answer2.0);
     if front.join(&answer3.0.join(&answer4.0)).none() {
-        // All are loaded before one is stored: so the compiler takes those that were classified.
-        let (v1, v2) = (V::load(&src[at..]), V::load(&src[second..]));
-        let (v3, v4) = (V::load(&src[third..]), V::load(&src[fourth..]));
-        store_lanes::<V, N, false>(&v1, &src[at..second], answer1.1, target, to);
-        store_lanes::<V, N, false>(&v2, &src[second..third], answer2.1, target, to + N);
-        store_lanes::<V, N, false>(&v3, &src[third..fourth], answer3.1, target, to + 2 * N);
-        store_lanes::<V, N, false>(&v4, &src[fourth..fourth + N], answer4.1, target, to + 3 * N);
+        store_lanes::<V, N, false>(&v1, src, at, N, answer1.1, target, to);
+        store_lanes::<V, N, false>(&v2, src, second, N, answer2.1, target, to + N);
+        store_lanes::<V, N, false>(&v3, src, third, N, answer3.1, target, to + 2 * N);
+        store_lanes::<V, N, false>(&v4, src, fourth, N, answer4.1, target, to + 3 * N);
         return (at + 4 * N, to + 4 * N);
     }
     let (next, end) = vector_from::<V, MODE, N>(src, at, at, answer1, target, to, ticks);

@@ -11,7 +11,7 @@ ghost use Rattle.escape_simd.specs.Stretch.{AreTail, Escapes, HasRoom, HoldsFlag
 
 use crate::simd::Vector;
 use crate::simd::by_mask::escape_by_mask;
-use crate::simd::store::{load_short, store, store_lanes};
+use crate::simd::store::store_lanes;
 use escape_lanes::simd::classify::{Classified, classify, classify_loaded};
 use escape_lanes::simd::lane_bits::shift_lanes;
 use escape_lanes::simd::target::{Target, Ticks};
@@ -49,7 +49,7 @@ pub(crate) fn classify_short<'a, V: Vector<N>, const MODE: u8, const N: usize>(
     ensures flagged { AreTail (mode_numbered MODE) N text.now (bits_of 64 result.1.first) (bits_of 64 result.1.last) (asked_of result.1.first_classified) (asked_of result.1.last_classified) }
     ensures tick { ticks.new ≡ ticks.old + 1 }
 {
-    let v = load_short::<V, N>(text);
+    let v = V::load_last(text, text.len());
     let (flags, last_classified) = classify_loaded::<V, MODE, N>(&v, text, ticks);
     let last = flags.bits().clear_high_bits(64 - text.len());
     let first_classified = Classified::none();
@@ -64,25 +64,29 @@ pub(crate) fn classify_short<'a, V: Vector<N>, const MODE: u8, const N: usize>(
     )
 }
 
-/// Classifies a text of as many bytes as a vector has or more, and of fewer than two have.
+/// Loads and classifies the first and the last vector of a text of as many bytes as a vector has or more, and of fewer than
+/// two have.
 #[inline(always)]
 pub(crate) fn classify_pair<'a, V: Vector<N>, const MODE: u8, const N: usize>(
     text: &'a [u8],
     ticks: &mut Ticks,
-) -> TailFlags<'a>
+) -> (V, V, TailFlags<'a>)
     requires several { N ≤ length text.now }
     requires few { length text.now < 2 * N }
-    ensures flagged { AreTail (mode_numbered MODE) N text.now (bits_of 64 result.first) (bits_of 64 result.last) (asked_of result.first_classified) (asked_of result.last_classified) }
+    ensures first { V.lanes result.0 ≡ take N text.now }
+    ensures last { V.lanes result.1 ≡ take N (drop (length text.now - N) text.now) }
+    ensures flagged { AreTail (mode_numbered MODE) N text.now (bits_of 64 result.2.first) (bits_of 64 result.2.last) (asked_of result.2.first_classified) (asked_of result.2.last_classified) }
     ensures ticks { ticks.new ≡ ticks.old + 2 }
 {
-    let (flags1, first_classified) = classify::<V, MODE, N>(text, 0, ticks);
-    let (flags2, last_classified) = classify::<V, MODE, N>(text, text.len() - N, ticks);
-    TailFlags {
+    let (v1, (flags1, first_classified)) = classify::<V, MODE, N>(text, 0, ticks);
+    let (v2, (flags2, last_classified)) = classify::<V, MODE, N>(text, text.len() - N, ticks);
+    let flags = TailFlags {
         first: flags1.bits(),
         first_classified,
         last: flags2.bits(),
         last_classified,
-    }
+    };
+    (v1, v2, flags)
 }
 
 /// Returns the last vector of a text, with zeros after it, so that a vector can be loaded from each of its bytes on.
@@ -92,7 +96,7 @@ fn spill_last<V: Vector<N>, const N: usize>(text: &[u8]) -> [[u8; N]; 2]
 {
     let mut rows = [[0u8; N]; 2];
     if text.len() < N {
-        load_short::<V, N>(text).put(&mut rows[0]);
+        V::load_last(text, text.len()).put(&mut rows[0]);
     } else {
         V::load(&text[text.len() - N..]).put(&mut rows[0]);
     }
@@ -185,17 +189,17 @@ pub(crate) fn store_clean_tail<'a, V: Vector<N>, const MODE: u8, const N: usize>
         if !flags.none() {
             return Err(flags);
         }
-        store_lanes::<V, N, true>(&v, text, flags.last_classified, target, to);
+        store_lanes::<V, N, true>(&v, text, 0, count, flags.last_classified, target, to);
         return Ok(to + count);
     }
-    let flags = classify_pair::<V, MODE, N>(text, ticks);
+    let (v1, v2, flags) = classify_pair::<V, MODE, N>(text, ticks);
     if !flags.none() {
         return Err(flags);
     }
     let last = count - N;
-    store::<V, N, true>(text, 0, N, flags.first_classified, target, to);
+    store_lanes::<V, N, true>(&v1, text, 0, N, flags.first_classified, target, to);
     // The last vector overlaps the first one.
-    store::<V, N, true>(text, last, N, flags.last_classified, target, to + last);
+    store_lanes::<V, N, true>(&v2, text, last, N, flags.last_classified, target, to + last);
     Ok(to + count)
 }
 

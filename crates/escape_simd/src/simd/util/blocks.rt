@@ -25,7 +25,7 @@ pub(crate) fn are_paid(flags: u64, valid: usize) -> bool
     ensures { result ≡ true → (valid + 7) / 8 ≤ flagged_blocks 8 (bits_of 64 flags) + gaps false (take valid (bits_of 64 flags)) + 1 }
 {
     let blocks = (valid + 7) / 8;
-    // One of two blocks has an escape. In more blocks, as many escapes or more are faster than by turns.
+    // Of two blocks one has an escape. More blocks are faster than turns if there are as many escapes.
     blocks <= 2
         || (blocks <= flags.count_ones() as usize
             && blocks <= count_flagged_blocks(flags) + count_gaps(flags, valid) + 1)

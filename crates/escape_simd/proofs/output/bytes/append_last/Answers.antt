@@ -1,5 +1,5 @@
 use Rattle.escape_simd.proofs.Words.{◌≡◌, ℕ, ◌+◌, ◌-◌, List, ◌++◌, length, take, drop, sym, ap, ◌∙◌, arith, take_all, mode_numbered}
-use Rattle.escape_simd.proofs.Parts.{marked, tail-itself, vector-at, vector-front, vector-over}
+use Rattle.escape_simd.proofs.Parts.{marked, tail-itself, vector-front, vector-over}
 use Rattle.escape_simd.proofs.output.bytes.append_last.Goals as goal
 
 pub returns-then-none : goal.returns-then-none
@@ -15,11 +15,11 @@ returns-then-none-2 g c =
     let mode = mode_numbered g.row.MODE in let text : List ℕ = c.args.text.now in let old : List ℕ = c.args.dst.now.items in
     let len : ℕ = c.len-len.result in let last : ℕ = length text - 32 in
     let all : last + 32 ≡ length text = omega (arith, c.if-count-lt-N.false) in
-    let none = c.none-else-count-lt-N.ensures c.if-none-2.true in let itself = tail-itself mode 32 text c.classify_pair-flags.ensures.flagged none.0 none.1 in
+    let none = c.none-else-count-lt-N.ensures c.if-none-2.true in let itself = tail-itself mode 32 text c.classify_pair.ensures.flagged none.0 none.1 in
     marked mode text old c.push_vector-then-none-2-2.new.dst.items c.push_quote-then-none-2.new.dst.items
     (c.push_vector-then-none-2-2.ensures.items
-    ∙ ap (λ xs. c.truncate-then-none-2.new.self.items ++ xs) (c.loadu-v2.ensures ∙ vector-at 32 last text)
+    ∙ ap (λ xs. c.truncate-then-none-2.new.self.items ++ xs) c.classify_pair.ensures.last
     ∙ ap (λ xs. xs ++ take 32 (drop last text)) c.truncate-then-none-2.ensures.items
-    ∙ vector-over old text c.push_vector-then-none-2.new.dst.items len last 32 32 (omega (arith, c.len-len.ensures)) (omega (arith, c.requires.few)) (c.push_vector-then-none-2.ensures.items ∙ ap (λ xs. old ++ xs) c.loadu-v1.ensures)
+    ∙ vector-over old text c.push_vector-then-none-2.new.dst.items len last 32 32 (omega (arith, c.len-len.ensures)) (omega (arith, c.requires.few)) (c.push_vector-then-none-2.ensures.items ∙ ap (λ xs. old ++ xs) c.classify_pair.ensures.first)
     ∙ ap (λ xs. old ++ xs) (take_all (last + 32) text (omega (arith, all)) ∙ sym itself))
     c.push_quote-then-none-2.ensures.items

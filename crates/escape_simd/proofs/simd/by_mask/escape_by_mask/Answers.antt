@@ -7,7 +7,7 @@ use Rattle.escape_simd.proofs.Vectors.{escapes-ended, escapes-later, vector-bloc
 use Rattle.escape_simd.proofs.simd.by_mask.escape_by_mask.Goals as goal
 
 pub store-requires : goal.store-requires
-store-requires g c = (omega arith, (c.requires.classified, vector-stores c.requires.vector))
+store-requires g c = (omega arith, (g.met.V.Vector.lane_count, (c.requires.classified, vector-stores c.requires.vector)))
 
 pub escape_blocks-end-requires : goal.escape_blocks-end-requires
 escape_blocks-end-requires g c =
@@ -38,7 +38,7 @@ pub escape_by_turns-passed-requires : goal.escape_by_turns-passed-requires
 escape_by_turns-passed-requires g c =
     let src : List ℕ = c.args.src.now in let at : ℕ = c.args.at in
     let is = take_all (length src - at) (drop at src) (omega (arith, length-drop at src)) in
-    (omega arith, (subst (λ xs. IsWithin (take c.args.valid xs) (asked_of c.args.classified)) (sym is) c.requires.classified, (vector-later (mode_numbered g.row.MODE) g.row.N (reach (not (nat_eq (value_of (number g.row.LAST)) 0)) g.row.N) src (take (length src - at) (drop at src)) at c.args.valid c.args.to (length (bytes_of c.args.target.now)) (bits_of 64 c.args.mask) is c.requires.vector, sym c.all_zero.ensures ∙ c.if-all_zero.false)))
+    (omega arith, (g.met.V.Vector.lane_count, (g.met.V.Vector.several, (subst (λ xs. IsWithin (take c.args.valid xs) (asked_of c.args.classified)) (sym is) c.requires.classified, (vector-later (mode_numbered g.row.MODE) g.row.N (reach (not (nat_eq (value_of (number g.row.LAST)) 0)) g.row.N) src (take (length src - at) (drop at src)) at c.args.valid c.args.to (length (bytes_of c.args.target.now)) (bits_of 64 c.args.mask) is c.requires.vector, sym c.all_zero.ensures ∙ c.if-all_zero.false)))))
 
 -- the first bytes of a text, as they were escaped as a text of their own
 by-turns : {N : ℕ} {mode : Mode} {slack valid size : ℕ} {src : List ℕ} {at to end t0 t1 passed : ℕ} {bits : List Bool} {old new : Target N} → IsVectorAt mode N slack src at valid to size bits

@@ -6,7 +6,7 @@ use Rattle.escape_simd.proofs.simd.by_mask.finish_vector.Goals as goal
 pub store_tail-requires : goal.store_tail-requires
 store_tail-requires g c =
     let v = c.requires.end in let least = room-least (omega (arith, c.if-border-from.false)) (omega (arith, v.inside)) v.room in
-    (omega arith, (omega (arith, c.if-border-from.false), (c.requires.told, record { few = omega (arith, v.near); inside = omega (arith, v.inside, c.if-border-from.false); room = omega (arith, least) })))
+    (omega arith, (c.requires.lanes, (omega (arith, c.if-border-from.false), (c.requires.told, record { few = omega (arith, v.near); inside = omega (arith, v.inside, c.if-border-from.false); room = omega (arith, least) }))))
 
 pub returns-then-border-from : goal.returns-then-border-from
 returns-then-border-from g c = finished-over c.if-border-from.true c.requires.end

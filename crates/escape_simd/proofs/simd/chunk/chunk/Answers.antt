@@ -1,51 +1,49 @@
-use Rattle.escape_simd.proofs.Words.{◌≡◌, ◌≤◌, ℕ, ◌+◌, ◌-◌, ◌*◌, ◌∙◌, List, length, take, drop, ap, refl, sym, arith, asked_of, bytes_of, mode_numbered, Escapes, IsWithin, HasVectors, Mode, Target, state}
+use Rattle.escape_simd.proofs.Words.{◌≡◌, ◌≤◌, ℕ, take-take, ◌+◌, ◌*◌, ◌∙◌, List, length, take, drop, ap, refl, sym, arith, asked_of, bytes_of, mode_numbered, Escapes, IsWithin, HasVectors, Mode, Target, state}
 use Rattle.escape_simd.proofs.Lanes.{none_set-four, within-all}
-use Rattle.escape_simd.proofs.Stretches.{part-loaded, part-long, part-stored, part-whole, room-least, room-near, room-on}
+use Rattle.escape_simd.proofs.Stretches.{room-least, room-near, room-on}
 use Rattle.escape_simd.proofs.Vectors.{escapes-asked, escapes-begun, escapes-bordered, escapes-ended, escapes-onward, flags-clean, passed-to, vector-clean}
 use Rattle.escape_simd.proofs.simd.chunk.chunk.Goals as goal
 
 -- each of the vectors can be stored
 module _ {N vectors : ℕ} {mode : Mode} {src : List ℕ} {at to size : ℕ} (r : HasVectors mode N vectors src at at to size) where
-  store-at : (k i next p : ℕ) (target : Target N) (lanes asked : List ℕ) (is : next ≡ i + N) → i ≡ at + k → p ≡ to + k → k + N ≤ vectors * N → (vectors + 1) * N ≡ vectors * N + N → length (bytes_of target) ≡ size → lanes ≡ take N (take (length src - i) (drop i src)) → asked ≡ take N (drop i src)
-      → (length (take (next - i) (drop i src)) ≤ N) × ((take (length (take (next - i) (drop i src))) lanes ≡ take (next - i) (drop i src)) × (IsWithin (take (next - i) (drop i src)) asked × (p + length (take (next - i) (drop i src)) + N ≤ length (bytes_of target))))
-  store-at k i next p target lanes asked is starts ends few more same loaded whole =
+  store-at : (k i p : ℕ) (target : Target N) (lanes asked : List ℕ) → i ≡ at + k → p ≡ to + k → k + N ≤ vectors * N → (vectors + 1) * N ≡ vectors * N + N → length (bytes_of target) ≡ size → lanes ≡ take N (drop i src) → asked ≡ take N (drop i src)
+      → (N ≤ N) × ((take N lanes ≡ take N (drop i src)) × (IsWithin (take N (drop i src)) asked × (p + N + N ≤ length (bytes_of target))))
+  store-at k i p target lanes asked starts ends few more same loaded whole =
       let least = room-least (omega arith) (omega (arith, r.inside, more)) r.room in
-      let inside : next ≤ length src = omega (arith, is, starts, few, r.inside, more) in
-      let long = part-long src N i next is inside in
-      (omega (arith, long), (part-loaded src N i next is inside lanes loaded, (within-all _ _ (whole ∙ sym (part-whole src N i next is inside)), omega (arith, long, ends, few, least, same))))
+      (omega arith, (ap (take N) loaded ∙ take-take N N (drop i src) (omega arith), (within-all _ _ whole, omega (arith, ends, few, least, same))))
 
 pub store_lanes-requires : goal.store_lanes-requires
 store_lanes-requires g c =
     let n : ℕ = g.row.N in let at : ℕ = c.args.at in let src : List ℕ = c.args.src.now in
-    (omega arith, store-at c.requires 0 at (at + n) c.args.to c.args.target.now (g.V.LoadStore.lanes c.load-v1.result) (asked_of c.classify-answer1.result.1) refl (omega arith) (omega arith) (omega arith) (omega arith) refl (c.load-v1.ensures ∙ ap (λ k. take k (take (length src - (at)) (drop (at) src))) g.met.V.Vector.lane_count) c.classify-answer1.ensures.asked)
+    (omega arith, (g.met.V.Vector.lane_count, store-at c.requires 0 at c.args.to c.args.target.now (g.V.LoadStore.lanes c.classify-v1.result.0) (asked_of c.classify-v1.result.1.1) (omega arith) (omega arith) (omega arith) (omega arith) refl c.classify-v1.ensures.loaded c.classify-v1.ensures.asked))
 
 pub store_lanes-requires-then-none : goal.store_lanes-requires-then-none
 store_lanes-requires-then-none g c =
     let n : ℕ = g.row.N in let at : ℕ = c.args.at in let src : List ℕ = c.args.src.now in let s = c.store_lanes.ensures.same_slice in
-    (omega arith, store-at c.requires n (at + n) (at + n + n) (c.args.to + n) c.store_lanes.new.target (g.V.LoadStore.lanes c.load-v2.result) (asked_of c.classify-answer2.result.1) refl (omega arith) (omega arith) (omega arith) (omega arith) s.len (c.load-v2.ensures ∙ ap (λ k. take k (take (length src - ((at + n))) (drop ((at + n)) src))) g.met.V.Vector.lane_count) c.classify-answer2.ensures.asked)
+    (omega arith, (g.met.V.Vector.lane_count, store-at c.requires n (at + n) (c.args.to + n) c.store_lanes.new.target (g.V.LoadStore.lanes c.classify-v2.result.0) (asked_of c.classify-v2.result.1.1) (omega arith) (omega arith) (omega arith) (omega arith) s.len c.classify-v2.ensures.loaded c.classify-v2.ensures.asked))
 
 pub store_lanes-requires-then-none-2 : goal.store_lanes-requires-then-none-2
 store_lanes-requires-then-none-2 g c =
     let n : ℕ = g.row.N in let at : ℕ = c.args.at in let src : List ℕ = c.args.src.now in let s = c.store_lanes.ensures.same_slice in let s2 = c.store_lanes-then-none.ensures.same_slice in
-    (omega arith, store-at c.requires (2 * n) (at + n + n) (at + n + n + n) (c.args.to + 2 * n) c.store_lanes-then-none.new.target (g.V.LoadStore.lanes c.load-v3.result) (asked_of c.classify-answer3.result.1) refl (omega arith) (omega arith) (omega arith) (omega arith) (s2.len ∙ s.len) (c.load-v3.ensures ∙ ap (λ k. take k (take (length src - ((at + n + n))) (drop ((at + n + n)) src))) g.met.V.Vector.lane_count) c.classify-answer3.ensures.asked)
+    (omega arith, (g.met.V.Vector.lane_count, store-at c.requires (2 * n) (at + n + n) (c.args.to + 2 * n) c.store_lanes-then-none.new.target (g.V.LoadStore.lanes c.classify-v3.result.0) (asked_of c.classify-v3.result.1.1) (omega arith) (omega arith) (omega arith) (omega arith) (s2.len ∙ s.len) c.classify-v3.ensures.loaded c.classify-v3.ensures.asked))
 
 pub store_lanes-requires-then-none-3 : goal.store_lanes-requires-then-none-3
 store_lanes-requires-then-none-3 g c =
     let n : ℕ = g.row.N in let at : ℕ = c.args.at in let src : List ℕ = c.args.src.now in let s = c.store_lanes.ensures.same_slice in let s2 = c.store_lanes-then-none.ensures.same_slice in let s3 = c.store_lanes-then-none-2.ensures.same_slice in
-    (omega arith, store-at c.requires (3 * n) (at + n + n + n) (at + n + n + n + n) (c.args.to + 3 * n) c.store_lanes-then-none-2.new.target (g.V.LoadStore.lanes c.load-v4.result) (asked_of c.classify-answer4.result.1) refl (omega arith) (omega arith) (omega arith) (omega arith) (s3.len ∙ s2.len ∙ s.len) (c.load-v4.ensures ∙ ap (λ k. take k (take (length src - ((at + n + n + n))) (drop ((at + n + n + n)) src))) g.met.V.Vector.lane_count) c.classify-answer4.ensures.asked)
+    (omega arith, (g.met.V.Vector.lane_count, store-at c.requires (3 * n) (at + n + n + n) (c.args.to + 3 * n) c.store_lanes-then-none-2.new.target (g.V.LoadStore.lanes c.classify-v4.result.0) (asked_of c.classify-v4.result.1.1) (omega arith) (omega arith) (omega arith) (omega arith) (s3.len ∙ s2.len ∙ s.len) c.classify-v4.ensures.loaded c.classify-v4.ensures.asked))
 
 pub returns-then-none : goal.returns-then-none
 returns-then-none g c =
     let mode = mode_numbered g.row.MODE in let n : ℕ = g.row.N in let src : List ℕ = c.args.src.now in let at : ℕ = c.args.at in let inside = c.requires.inside in
-    let t = g.V.Flags.Flags.truths in let w = g.met.V.Flags.Flags.width in let ticks = c.classify-answer4.new.ticks in
-    let a1 = c.classify-answer1 in let a2 = c.classify-answer2 in let a3 = c.classify-answer3 in let a4 = c.classify-answer4 in
-    let nones = none_set-four g.V.Flags.Flags.LANES (t a1.result.0) (t a2.result.0) (t a3.result.0) (t a4.result.0) (t c.join-front.result) (t c.join.result) (t c.join-2.result)
-    (w a1.result.0) (w a2.result.0) (w a3.result.0) (w a4.result.0) (w c.join-front.result) (w c.join.result)
+    let t = g.V.Flags.Flags.truths in let w = g.met.V.Flags.Flags.width in let ticks = c.classify-v4.new.ticks in
+    let a1 = c.classify-v1 in let a2 = c.classify-v2 in let a3 = c.classify-v3 in let a4 = c.classify-v4 in
+    let nones = none_set-four g.V.Flags.Flags.LANES (t a1.result.1.0) (t a2.result.1.0) (t a3.result.1.0) (t a4.result.1.0) (t c.join-front.result) (t c.join.result) (t c.join-2.result)
+    (w a1.result.1.0) (w a2.result.1.0) (w a3.result.1.0) (w a4.result.1.0) (w c.join-front.result) (w c.join.result)
     c.join-front.ensures c.join.ensures c.join-2.ensures (sym c.none.ensures ∙ c.if-none.true) in
-    let e1 = vector-clean mode n src c.args.target.now c.store_lanes.new.target at n c.args.to ticks (omega (arith, inside)) (flags-clean mode n src at (t a1.result.0) (omega (arith, inside)) a1.ensures.flagged nones.0) (part-stored src n at (at + n) refl (omega (arith, inside)) c.store_lanes.ensures) in
-    let e2 = vector-clean mode n src c.store_lanes.new.target c.store_lanes-then-none.new.target (at + n) n (c.args.to + n) ticks (omega (arith, inside)) (flags-clean mode n src (at + n) (t a2.result.0) (omega (arith, inside)) a2.ensures.flagged nones.1) (part-stored src n (at + n) (at + n + n) refl (omega (arith, inside)) c.store_lanes-then-none.ensures) in
-    let e3 = vector-clean mode n src c.store_lanes-then-none.new.target c.store_lanes-then-none-2.new.target (at + n + n) n (c.args.to + 2 * n) ticks (omega (arith, inside)) (flags-clean mode n src (at + n + n) (t a3.result.0) (omega (arith, inside)) a3.ensures.flagged nones.2) (part-stored src n (at + n + n) (at + n + n + n) refl (omega (arith, inside)) c.store_lanes-then-none-2.ensures) in
-    let e4 = vector-clean mode n src c.store_lanes-then-none-2.new.target c.store_lanes-then-none-3.new.target (at + n + n + n) n (c.args.to + 3 * n) ticks (omega (arith, inside)) (flags-clean mode n src (at + n + n + n) (t a4.result.0) (omega (arith, inside)) a4.ensures.flagged nones.3) (part-stored src n (at + n + n + n) (at + n + n + n + n) refl (omega (arith, inside)) c.store_lanes-then-none-3.ensures) in
+    let e1 = vector-clean mode n src c.args.target.now c.store_lanes.new.target at n c.args.to ticks (omega (arith, inside)) (flags-clean mode n src at (t a1.result.1.0) (omega (arith, inside)) a1.ensures.flagged nones.0) c.store_lanes.ensures in
+    let e2 = vector-clean mode n src c.store_lanes.new.target c.store_lanes-then-none.new.target (at + n) n (c.args.to + n) ticks (omega (arith, inside)) (flags-clean mode n src (at + n) (t a2.result.1.0) (omega (arith, inside)) a2.ensures.flagged nones.1) c.store_lanes-then-none.ensures in
+    let e3 = vector-clean mode n src c.store_lanes-then-none.new.target c.store_lanes-then-none-2.new.target (at + n + n) n (c.args.to + 2 * n) ticks (omega (arith, inside)) (flags-clean mode n src (at + n + n) (t a3.result.1.0) (omega (arith, inside)) a3.ensures.flagged nones.2) c.store_lanes-then-none-2.ensures in
+    let e4 = vector-clean mode n src c.store_lanes-then-none-2.new.target c.store_lanes-then-none-3.new.target (at + n + n + n) n (c.args.to + 3 * n) ticks (omega (arith, inside)) (flags-clean mode n src (at + n + n + n) (t a4.result.1.0) (omega (arith, inside)) a4.ensures.flagged nones.3) c.store_lanes-then-none-3.ensures in
     let all = escapes-onward (escapes-onward (escapes-onward e1 e2) (escapes-begun refl (omega arith) e3)) (escapes-begun refl (omega arith) e4) in
     escapes-asked c.args.ticks.now 4 (omega (arith, a1.ensures.tick, a2.ensures.tick, a3.ensures.tick, a4.ensures.tick)) (escapes-ended (omega arith) (omega arith) (omega arith) all)
 
@@ -56,25 +54,25 @@ module _ {N vectors : ℕ} {mode : Mode} {src : List ℕ} {at to : ℕ} {old mid
 
 pub vector_from-next-requires : goal.vector_from-next-requires
 vector_from-next-requires g c =
-    let n : ℕ = g.row.N in let i = c.requires.inside in let a = c.classify-answer1.ensures in
+    let n : ℕ = g.row.N in let i = c.requires.inside in let a = c.classify-v1.ensures in
     (omega arith, (a.flagged, (a.asked, (passed-to (mode_numbered g.row.MODE) c.args.src.now c.args.at, record { inside = omega (arith, i); room = room-near (c.args.at + 1 * n) n (omega arith) (omega (arith, i)) (omega arith) c.requires.room }))))
 
 pub vector_from-next-requires-2 : goal.vector_from-next-requires-2
 vector_from-next-requires-2 g c =
-    let n : ℕ = g.row.N in let a = c.classify-answer2.ensures in let e = c.vector_from-next.ensures in
+    let n : ℕ = g.row.N in let a = c.classify-v2.ensures in let e = c.vector_from-next.ensures in
     (omega arith, (a.flagged, (a.asked, (e.passed, next-vector c.requires (c.args.at + n) (omega (arith, c.requires.inside)) (omega arith) e))))
 
 pub vector_from-next-requires-3 : goal.vector_from-next-requires-3
 vector_from-next-requires-3 g c =
-    let n : ℕ = g.row.N in let a = c.classify-answer3.ensures in let e = c.vector_from-next-2.ensures in
+    let n : ℕ = g.row.N in let a = c.classify-v3.ensures in let e = c.vector_from-next-2.ensures in
     (omega arith, (a.flagged, (a.asked, (e.passed, next-vector c.requires (c.args.at + n + n) (omega (arith, c.requires.inside)) (omega arith) (escapes-onward c.vector_from-next.ensures e)))))
 
 pub vector_from-requires : goal.vector_from-requires
 vector_from-requires g c =
-    let n : ℕ = g.row.N in let a = c.classify-answer4.ensures in let e = c.vector_from-next-3.ensures in
+    let n : ℕ = g.row.N in let a = c.classify-v4.ensures in let e = c.vector_from-next-3.ensures in
     (omega arith, (a.flagged, (a.asked, (e.passed, next-vector c.requires (c.args.at + n + n + n) (omega (arith, c.requires.inside)) (omega arith) (escapes-onward (escapes-onward c.vector_from-next.ensures c.vector_from-next-2.ensures) e)))))
 
 pub returns : goal.returns
 returns g c =
     let all = escapes-onward (escapes-onward (escapes-onward c.vector_from-next.ensures c.vector_from-next-2.ensures) c.vector_from-next-3.ensures) c.vector_from.ensures in
-    escapes-asked c.args.ticks.now 4 (omega (arith, c.classify-answer1.ensures.tick, c.classify-answer2.ensures.tick, c.classify-answer3.ensures.tick, c.classify-answer4.ensures.tick)) (escapes-bordered (omega arith) all)
+    escapes-asked c.args.ticks.now 4 (omega (arith, c.classify-v1.ensures.tick, c.classify-v2.ensures.tick, c.classify-v3.ensures.tick, c.classify-v4.ensures.tick)) (escapes-bordered (omega arith) all)

@@ -1,4 +1,4 @@
-use Rattle.escape_simd.proofs.Words.{◌≡◌, ℕ, List, true, ◌+◌, ◌-◌, ◌∙◌, length, length-drop, drop, replicate, ap, sym, subst, arith, mode_numbered, take-append_seam, take_all, Escapes, reach, state}
+use Rattle.escape_simd.proofs.Words.{◌≡◌, ℕ, List, true, ◌+◌, ◌-◌, ◌∙◌, length, take, length-drop, drop, replicate, ap, sym, subst, arith, mode_numbered, take-append_seam, take_all, take-take, Escapes, reach, state}
 use Rattle.escape_simd.proofs.Last.{one-begun, tail-clean_back, tail-clean_front, two-begun, two-clean}
 use Rattle.escape_simd.proofs.Lanes.{within-all}
 use Rattle.escape_simd.proofs.Stretches.{room-least}
@@ -7,19 +7,21 @@ use Rattle.escape_simd.proofs.simd.tail.store_clean_tail.Goals as goal
 
 pub store_lanes-requires : goal.store_lanes-requires
 store_lanes-requires g c =
-    let text : List ℕ = c.args.text.now in let least = room-least (omega arith) (omega arith) c.requires.room in
-    let start : length text - g.row.N ≡ 0 = omega (arith, c.if-count.true) in
-    (omega arith, (omega (arith, c.if-count.true), (rw c.classify_short-v.ensures.loaded (take-append_seam text (replicate (g.row.N - length text) 0)), (within-all text _ (c.classify_short-v.ensures.flagged.back_asked ∙ ap (λ k. drop k text) start), omega (arith, least)))))
+    let text : List ℕ = c.args.text.now in let count : ℕ = length text in let v = c.classify_short-v.ensures in let least = room-least (omega arith) (omega arith) c.requires.room in
+    let start : count - g.row.N ≡ 0 = omega (arith, c.if-count.true) in let all : take count text ≡ text = take_all count text (omega arith) in
+    let loaded = ap (take count) v.loaded ∙ take-append_seam text (replicate (g.row.N - count) 0) ∙ sym all in
+    (omega arith, (g.met.V.Vector.lane_count, (omega (arith, c.if-count.true), (loaded, (within-all (take count text) _ (v.flagged.back_asked ∙ ap (λ k. drop k text) start ∙ sym all), omega (arith, least))))))
 
-pub store-requires : goal.store-requires
-store-requires g c =
-    let r = c.requires in let some = c.if-count.false in let least = room-least (omega arith) (omega arith) r.room in
-    (omega arith, (within-all _ _ (c.classify_pair-flags.ensures.flagged.front_asked some), record { few = omega arith; inside = omega (arith, some); room = omega (arith, least, some) }))
+pub store_lanes-requires-2 : goal.store_lanes-requires-2
+store_lanes-requires-2 g c =
+    let n : ℕ = g.row.N in let p = c.classify_pair-v1.ensures in let some = c.if-count.false in let least = room-least (omega arith) (omega arith) c.requires.room in
+    (omega arith, (g.met.V.Vector.lane_count, (omega arith, (ap (take n) p.first ∙ take-take n n c.args.text.now (omega arith), (within-all _ _ (p.flagged.front_asked some), omega (arith, least, some))))))
 
-pub store-requires-2 : goal.store-requires-2
-store-requires-2 g c =
-    let text : List ℕ = c.args.text.now in let r = c.requires in let some = c.if-count.false in let least = room-least (omega arith) (omega arith) r.room in
-    (omega arith, (within-all _ _ (c.classify_pair-flags.ensures.flagged.back_asked ∙ sym (take_all g.row.N (drop (length text - g.row.N) text) (omega (arith, length-drop (length text - g.row.N) text)))), record { few = omega arith; inside = omega (arith, some); room = omega (arith, least, some, c.store.ensures.same_slice.len) }))
+pub store_lanes-requires-3 : goal.store_lanes-requires-3
+store_lanes-requires-3 g c =
+    let n : ℕ = g.row.N in let text : List ℕ = c.args.text.now in let p = c.classify_pair-v1.ensures in let some = c.if-count.false in let least = room-least (omega arith) (omega arith) c.requires.room in
+    let all = take_all n (drop (length text - n) text) (omega (arith, length-drop (length text - n) text)) in
+    (omega arith, (g.met.V.Vector.lane_count, (omega arith, (ap (take n) p.last ∙ take-take n n (drop (length text - n) text) (omega arith), (within-all _ _ (p.flagged.back_asked ∙ sym all), omega (arith, least, some, c.store_lanes-2.ensures.same_slice.len))))))
 
 pub returns-then-count-clause-clean : goal.returns-then-count-clause-clean
 returns-then-count-clause-clean g c =
@@ -31,8 +33,8 @@ returns-then-count-clause-clean g c =
 
 pub returns-clause-clean : goal.returns-clause-clean
 returns-clause-clean g c =
-    let mode = mode_numbered g.row.MODE in let n : ℕ = g.row.N in let text : List ℕ = c.args.text.now in let t = c.classify_pair-flags.new.ticks in
-    let some = c.if-count.false in let flags = c.classify_pair-flags.ensures.flagged in let none = c.none-2.ensures c.if-not-none-2.false in
-    let e = two-clean some c.requires.few (tail-clean_front flags some none.0) (tail-clean_back flags none.1) c.store.ensures c.store-2.ensures in
-    subst (λ v. Escapes mode (reach true n) (length text) v 0 text (state c.args.target.now 0 c.args.to c.args.ticks.now) (state c.store-2.new.target (length text) (c.args.to + length text) t)) (two-begun n (length text) some c.requires.few)
-    (escapes-asked c.args.ticks.now 2 c.classify_pair-flags.ensures.ticks e)
+    let mode = mode_numbered g.row.MODE in let n : ℕ = g.row.N in let text : List ℕ = c.args.text.now in let t = c.classify_pair-v1.new.ticks in
+    let some = c.if-count.false in let flags = c.classify_pair-v1.ensures.flagged in let none = c.none-2.ensures c.if-not-none-2.false in
+    let e = two-clean some c.requires.few (tail-clean_front flags some none.0) (tail-clean_back flags none.1) c.store_lanes-2.ensures c.store_lanes-3.ensures in
+    subst (λ v. Escapes mode (reach true n) (length text) v 0 text (state c.args.target.now 0 c.args.to c.args.ticks.now) (state c.store_lanes-3.new.target (length text) (c.args.to + length text) t)) (two-begun n (length text) some c.requires.few)
+    (escapes-asked c.args.ticks.now 2 c.classify_pair-v1.ensures.ticks e)

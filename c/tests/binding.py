@@ -457,11 +457,13 @@ def test_other_threads_run():
             # It lets the other thread run, which asks for that only after the interval.
             time.sleep(0)
 
-    def counts_during(call, text):
-        before = count
-        for _ in range(20):
-            call(text)
-        return count - before
+    def runs_during(call, text, seconds=0):
+        before, end = count, time.monotonic() + seconds
+        while True:
+            for _ in range(20):
+                call(text)
+            if count != before or end <= time.monotonic():
+                return count != before
 
     texts = "a" * 10_000_000, b"a" * 10_000_000, "\u044f" * 5_000_000
     for text in texts:
@@ -470,8 +472,9 @@ def test_other_threads_run():
     thread.start()
     sys.setswitchinterval(20)
     try:
-        long = [counts_during(ours, text) for ours, _ in PAIRS for text in texts]
-        short = [counts_during(ours, text[:1000]) for ours, _ in PAIRS for text in texts]
+        # On a busy machine it may take a while until the other thread has a processor.
+        long = [runs_during(ours, text, 20) for ours, _ in PAIRS for text in texts]
+        short = [runs_during(ours, text[:1000]) for ours, _ in PAIRS for text in texts]
     finally:
         running = False
         sys.setswitchinterval(interval)

@@ -1,5 +1,5 @@
 -- How long what stands for parts of a text is, and for the whole.
-use Rattle.escape_simd.proofs.Words.{◌≡◌, ℕ, zero, suc, ◌+◌, ◌-◌, ◌*◌, ◌<◌, ◌≤◌, Bool, true, false, List, [], ◌∷◌, ◌++◌, length, drop, get_or, replicate, ap, ◌∙◌, arith, rules, length-append, length-drop, length-replicate, inl, inr, cases_lt, count_by, nat_tests, first_set, none_set, clear_first, clear_last, entry_count, map, take-append-le, Mode, script, needs_escape, replacement, inner, begins_separator, passed, first_replacement, plain, quote_count, rest_length, HoldsFlags, IsFlaggedAt, IsFront, IsPartLength}
+use Rattle.escape_simd.proofs.Words.{◌≡◌, ◌≢◌, ℕ, zero, suc, ◌+◌, ◌-◌, ◌*◌, ◌<◌, ◌≤◌, Bool, true, false, List, [], ◌∷◌, ◌++◌, length, drop, get_or, replicate, ap, ◌∙◌, arith, rules, length-append, length-drop, length-replicate, inl, inr, cases_lt, count_by, nat_tests, first_set, none_set, clear_first, clear_last, entry_count, map, take-append-le, Mode, script, needs_escape, replacement, inner, begins_separator, passed, first_replacement, plain, quote_count, rest_length, HoldsFlags, IsFlaggedAt, IsFront, IsPartLength}
 use Rattle.escape_simd.proofs.Escapes.{entry-counts, first-alone, passed-alone}
 use Rattle.escape_simd.proofs.Lanes.{CleanFrom, held-cut, cleared-later, first-set, first_set-here, held-cleared, held-first, held-further, held-none}
 use Rattle.escape_simd.proofs.OutputLemmas.{length-plain}
@@ -28,6 +28,10 @@ module _ (mode : Mode) (src : List ℕ) (at : ℕ) (inside : at < length src) wh
 -- six bytes at most stand for each byte of a part
 pub part-few : (mode : Mode) (src : List ℕ) (at next len : ℕ) → at ≤ next → next ≤ length src → IsPartLength mode src at next len → len ≤ 6 * (next - at)
 part-few mode src at next len forward inside part = omega (arith, rest-between mode src at next forward inside, part)
+
+-- and more than itself, unless as many bytes as it has stand for it
+pub part-longer : (mode : Mode) (src : List ℕ) (at count len : ℕ) → at + count ≤ length src → IsPartLength mode src at (at + count) len → len ≢ count → length src - at < rest_length mode src at
+part-longer mode src at count len inside part other = omega (arith, rest-between mode src at (at + count) (omega arith) inside, rest-bounds mode src (at + count), part, other)
 
 -- The last bytes
 
@@ -94,12 +98,6 @@ module _ (mode : Mode) (src : List ℕ) (at valid : ℕ) (inside : at + valid �
             cleared = λ k set. omega (arith, cleared-later (first_set bits + 1) bits k set, is);
             counted = omega (arith, passed, one, so_far.counted, late, few, so_far.before);
           }
-
-      -- one more that takes more than itself: so the text becomes longer
-      pub counted-grown : (more : ℕ) → 0 < more → IsPartLength mode src (at + f) (at + f + 1) (more + 1) → valid ≤ len → length src - at < rest_length mode src at
-      counted-grown more some_more one enough =
-          let next = counted-next more one in let bounds = rest-bounds mode src next.next in
-          omega (arith, next.counted, bounds, next.before, next.after, inside, some_more, enough)
 
       -- the lanes that are left are fewer
       pub counted-fewer : (rest : List Bool) → rest ≡ clear_first (first_set bits + 1) bits → (first_set bits < first_set rest) × (first_set bits < valid)

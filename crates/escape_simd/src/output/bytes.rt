@@ -5,11 +5,13 @@ ghost use Rattle.std.specs.Prelude.{◌≡◌, ◌+◌, ◌*◌, ◌<◌, ◌≤
 ghost use Rattle.escape_simd.specs.Modes.{mode_numbered};
 ghost use Rattle.escape_simd.specs.Output.{inner, quote_of};
 
-use crate::output::clean::clean_end;
+use crate::output::clean::clean_chunk;
 use crate::output::in_place::{append_flagged, append_in_place};
-use crate::output::push::{push_all, push_quote, push_vector};
+use crate::output::push::{lanes, push_all, push_quote};
 use crate::output::{N, V};
-use crate::simd::{Simd, classify_pair, classify_short};
+use crate::simd::{classify_pair, classify_short};
+use escape_lanes::simd::Flags;
+use escape_lanes::simd::classify::classify;
 use escape_lanes::simd::target::Ticks;
 use std::alloc::Allocator;
 
@@ -25,7 +27,7 @@ pub(super) fn append_last<const MODE: u8, A: Allocator>(text: &[u8], dst: &mut V
     let flags = if count < N {
         let (v, flags) = classify_short::<V, MODE, N>(text, &mut Ticks::new());
         if flags.none() {
-            push_vector(dst, &v);
+            push_all(dst, &lanes(&v));
             dst.truncate(len + count);
             return push_quote::<MODE, A>(dst);
         }
@@ -34,10 +36,10 @@ pub(super) fn append_last<const MODE: u8, A: Allocator>(text: &[u8], dst: &mut V
         let (v1, v2, flags) = classify_pair::<V, MODE, N>(text, &mut Ticks::new());
         if flags.none() {
             let last = count - N;
-            push_vector(dst, &v1);
+            push_all(dst, &lanes(&v1));
             // The last vector overlaps the first one.
             dst.truncate(len + last);
-            push_vector(dst, &v2);
+            push_all(dst, &lanes(&v2));
             return push_quote::<MODE, A>(dst);
         }
         flags
@@ -59,19 +61,22 @@ pub(super) fn append_long<const MODE: u8, A: Allocator>(text: &[u8], dst: &mut V
     ensures { dst.new.items ≡ dst.old.items
         ++ (inner (mode_numbered MODE) text.now ++ quote_of (mode_numbered MODE)) }
 {
-    let end = clean_end::<MODE>(text, 0);
     let mut at = 0;
-    if 4 * N <= end {
-        push_all(dst, &text[..end]);
-        at = end;
+    'chunks: while 5 * N <= text.len() - at {
+        let Some((v1, v2, v3, v4)) = clean_chunk::<MODE>(text, at) else {
+            break;
+        };
+        let rows = [lanes(&v1), lanes(&v2), lanes(&v3), lanes(&v4)];
+        push_all(dst, rows.as_flattened());
+        at += 4 * N;
     }
-    // Fewer bytes are copied by vectors: the compiler would copy them one by one.
-    'vectors: while N <= end - at {
-        push_vector(dst, &V::loadu(&text[at..]));
+    'vectors: while 2 * N <= text.len() - at {
+        let (v, (flags, _)) = classify::<V, MODE, N>(text, at, &mut Ticks::new());
+        if !flags.none() {
+            return append_in_place::<MODE, A>(&text[at..], dst);
+        }
+        push_all(dst, &lanes(&v));
         at += N;
     }
-    if text.len() - at < 2 * N {
-        return append_last::<MODE, A>(&text[at..], dst);
-    }
-    append_in_place::<MODE, A>(&text[at..], dst);
+    append_last::<MODE, A>(&text[at..], dst);
 }

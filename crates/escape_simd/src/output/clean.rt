@@ -1,5 +1,5 @@
 //! Which bytes of a text are flagged, and whether nothing in a text needs an escape.
-ghost use Rattle.std.specs.Prelude.{◌≡◌, ◌+◌, ◌-◌, ◌*◌, ◌<◌, ◌≤◌, ◌↔◌, true, false, length};
+ghost use Rattle.std.specs.Prelude.{◌≡◌, ◌+◌, ◌-◌, ◌*◌, ◌<◌, ◌≤◌, ◌↔◌, ◌++◌, true, false, length, take, drop, IfSome, OnSome};
 ghost use Rattle.std.specs.List.{count_by};
 ghost use Rattle.escape_lanes.specs.Bits.{bits_of};
 ghost use Rattle.escape_lanes.specs.Replacement.{needs_escape};
@@ -9,11 +9,10 @@ ghost use Rattle.escape_simd.specs.Output.{inner};
 ghost use Rattle.escape_simd.specs.Parts.{IsFront};
 ghost use Rattle.escape_simd.specs.Stretch.{HoldsFlags, rest_length};
 
-use crate::output::length::added;
+use crate::output::length::part_len;
 use crate::output::{N, V};
-use crate::simd::LoadLast;
+use crate::simd::{LoadLast, Simd};
 use escape_lanes::simd::classify::classify;
-use escape_lanes::simd::lane_bits::clear_first_lane;
 use escape_lanes::simd::mode::flags;
 use escape_lanes::simd::target::Ticks;
 use escape_lanes::simd::{BitMask, Flags};
@@ -34,6 +33,24 @@ pub(super) fn mask_at<const MODE: u8>(src: &[u8], at: usize, count: usize) -> u6
     flags.clear_high_bits(64 - count)
 }
 
+/// Returns the text's four vectors from `at` on, if none of their bytes is flagged.
+#[inline(always)]
+pub(super) fn clean_chunk<const MODE: u8>(src: &[u8], at: usize) -> Option<(V, V, V, V)>
+    requires { at + 4 * N ≤ length src.now }
+    ensures clean { OnSome result (IsFront (mode_numbered MODE) src.now at (at + 4 * N)) }
+    ensures loaded { IfSome result (λ vs. ⟦<V as Simd>⟧.lanes vs.0 ++ (⟦<V as Simd>⟧.lanes vs.1 ++ (⟦<V as Simd>⟧.lanes vs.2 ++ ⟦<V as Simd>⟧.lanes vs.3)) ≡ take (4 * N) (drop at src.now)) }
+{
+    let mut ticks = Ticks::new();
+    let (v1, (flags1, _)) = classify::<V, MODE, N>(src, at, &mut ticks);
+    let (v2, (flags2, _)) = classify::<V, MODE, N>(src, at + N, &mut ticks);
+    let (v3, (flags3, _)) = classify::<V, MODE, N>(src, at + 2 * N, &mut ticks);
+    let (v4, (flags4, _)) = classify::<V, MODE, N>(src, at + 3 * N, &mut ticks);
+    if !flags1.join(&flags2).join(&flags3.join(&flags4)).none() {
+        return None;
+    }
+    Some((v1, v2, v3, v4))
+}
+
 /// Returns where the clean bytes of the text from `at` on end, as far as whole vectors tell: at a vector with a flagged
 /// byte, or where fewer than two vectors are left.
 #[inline(always)]
@@ -42,41 +59,13 @@ pub(super) fn clean_end<const MODE: u8>(src: &[u8], at: usize) -> usize
     ensures { IsFront (mode_numbered MODE) src.now at result }
 {
     let mut end = at;
-    'chunks: while 5 * N <= src.len() - end {
-        let mut ticks = Ticks::new();
-        let (_, (flags1, _)) = classify::<V, MODE, N>(src, end, &mut ticks);
-        let (_, (flags2, _)) = classify::<V, MODE, N>(src, end + N, &mut ticks);
-        let (_, (flags3, _)) = classify::<V, MODE, N>(src, end + 2 * N, &mut ticks);
-        let (_, (flags4, _)) = classify::<V, MODE, N>(src, end + 3 * N, &mut ticks);
-        if !flags1.join(&flags2).join(&flags3.join(&flags4)).none() {
-            break;
-        }
+    'chunks: while 5 * N <= src.len() - end && clean_chunk::<MODE>(src, end).is_some() {
         end += 4 * N;
     }
     'vectors: while 2 * N <= src.len() - end && mask_at::<MODE>(src, end, N).all_zero() {
         end += N;
     }
     end
-}
-
-/// Returns whether `count` bytes of the text from `at` on stand for themselves: a vector, or the last bytes. A flagged
-/// byte does so if it is an e2 with which no separator begins.
-#[inline(always)]
-fn is_clean_part<const MODE: u8>(src: &[u8], at: usize, count: usize) -> bool
-    requires few { count ≤ N }
-    requires inside { at + count ≤ length src.now }
-    requires last { count < N → at + count ≡ length src.now }
-    ensures clean { result ≡ true → IsPartLength (mode_numbered MODE) src.now at (at + count) count }
-    ensures grown { result ≡ false → length src.now - at < rest_length (mode_numbered MODE) src.now at }
-{
-    let mut rest = mask_at::<MODE>(src, at, count);
-    'flags: while !rest.all_zero() {
-        if added::<MODE>(src, at + rest.first_offset()) != 0 {
-            return false;
-        }
-        rest = clear_first_lane(rest);
-    }
-    true
 }
 
 /// Returns whether nothing in the text needs an escape in the mode `MODE`. If so, the output is the text, between
@@ -99,7 +88,7 @@ pub fn is_clean<const MODE: u8>(value: &str) -> bool
     'parts: while at < src.len() {
         let end = clean_end::<MODE>(src, at);
         let count = N.min(src.len() - end);
-        if !is_clean_part::<MODE>(src, end, count) {
+        if part_len::<MODE>(src, end, count) != count {
             return false;
         }
         at = end + count;

@@ -15,7 +15,7 @@ use escape_lanes::simd::mode::entry;
 /// Returns how many bytes more than itself stand for the flagged byte at `at`, or for the separator that
 /// begins with it.
 #[inline(always)]
-pub(super) fn added<const MODE: u8>(src: &[u8], at: usize) -> usize
+fn added<const MODE: u8>(src: &[u8], at: usize) -> usize
     requires { IsFlaggedAt (mode_numbered MODE) src.now at }
     ensures { IsPartLength (mode_numbered MODE) src.now at (at + 1) (result + 1) }
 {
@@ -28,7 +28,7 @@ pub(super) fn added<const MODE: u8>(src: &[u8], at: usize) -> usize
 
 /// Returns how many bytes stand for `count` bytes of the text from `at` on: a vector, or the last bytes.
 #[inline(always)]
-fn part_len<const MODE: u8>(src: &[u8], at: usize, count: usize) -> usize
+pub(super) fn part_len<const MODE: u8>(src: &[u8], at: usize, count: usize) -> usize
     requires few { count ≤ N }
     requires inside { at + count ≤ length src.now }
     requires last { count < N → at + count ≡ length src.now }

@@ -32,16 +32,14 @@ pub(super) fn push_all<A: Allocator>(dst: &mut Vec<u8, A>, bytes: &[u8])
     };
 }
 
-/// Appends a vector's lanes, through an array: for a slice, which might overlap, the compiler adds a copy byte by byte.
+/// Returns a vector's lanes as an array: for a slice, which might overlap, `push_all` would be a copy byte by byte.
 #[inline(always)]
-pub(super) fn push_vector<A: Allocator>(dst: &mut Vec<u8, A>, v: &V)
-    requires { vec_len dst.old + N ≤ vec_capacity dst.old }
-    ensures items { dst.new.items ≡ dst.old.items ++ ⟦<V as Simd>⟧.lanes v.now }
-    ensures capacity { vec_capacity dst.old ≤ vec_capacity dst.new }
+pub(super) fn lanes(v: &V) -> [u8; N]
+    ensures { result ≡ ⟦<V as Simd>⟧.lanes v.now }
 {
     let mut lanes = [0u8; N];
     v.storeu(&mut lanes);
-    push_all(dst, &lanes);
+    lanes
 }
 
 /// Appends the quotation mark, if the mode has one.

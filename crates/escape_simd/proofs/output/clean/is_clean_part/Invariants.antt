@@ -1,9 +1,0 @@
-use Rattle.escape_simd.proofs.Words.{◌-◌, bits_of, first_set, mode_numbered}
-use Rattle.escape_simd.proofs.Lengths.{CountedSoFar}
-use Rattle.escape_simd.proofs.output.clean.is_clean_part.Given as goal
-
-abbrev pub invariant-flags : goal.invariant-flags
-invariant-flags g l = CountedSoFar (mode_numbered g.row.MODE) l.src l.at l.count l.count (bits_of 64 l.rest)
-
-abbrev pub decreases-flags : goal.decreases-flags
-decreases-flags g l = 64 - first_set (bits_of 64 l.rest)

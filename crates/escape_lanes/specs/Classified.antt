@@ -1,5 +1,5 @@
 -- What a classifier answered for.
-use Rattle.std.specs.Prelude.{◌≡◌, ℕ, ◌<◌, ◌≤◌, Bool, false, List, length, take, drop, slice_index, slice_index_or}
+use Rattle.std.specs.Prelude.{◌≡◌, ℕ, ◌<◌, ◌≤◌, Bool, false, List, length, map, take, drop, slice_index, slice_index_or}
 use Rattle.escape_lanes.specs.Mode.{Mode}
 use Rattle.escape_lanes.specs.Replacement.{needs_escape}
 use Rattle.escape_lanes.specs.declared.simd.classify.Classified.{Classified}
@@ -7,6 +7,12 @@ use Rattle.escape_lanes.specs.declared.simd.classify.Classified.{Classified}
 -- the bytes for which a classifier answered
 abbrev pub asked_of : Classified → List ℕ
 asked_of c = c.bytes.now
+
+-- A text's vector from `at` on was loaded, flagged and classified.
+pub record IsAnswer (mode : Mode) (n : ℕ) (text : List ℕ) (at : ℕ) (lanes : List ℕ) (truths : List Bool) (bytes : List ℕ) : Type 0 where
+  pub loaded : lanes ≡ take n (drop at text)
+  pub flagged : truths ≡ map (needs_escape mode) (take n (drop at text))
+  pub asked : bytes ≡ take n (drop at text)
 
 -- The bytes are among others, in one piece.
 pub record IsWithin (part whole : List ℕ) : Type 0 where

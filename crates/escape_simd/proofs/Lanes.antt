@@ -1,5 +1,5 @@
 -- What a mask tells of the text that its vector holds.
-use Rattle.escape_simd.proofs.Words.{◌≡◌, ℕ, zero, suc, ◌+◌, ◌-◌, ◌<◌, ◌≤◌, Bool, true, false, ◌||◌, List, [], ◌∷◌, ◌++◌, length, take, drop, get_or, map, replicate, refl, sym, ap, ◌∙◌, arith, length-append, length-take-le, length-drop, cases_Bool, drop-drop, drop-take, take-take, take_all, IsWithin, Tells, length-take, length-map, get_or-take, get_or-drop, get_or-map, get_or_past, get_or_append_left, get_or-append_right, get_or-replicate, length-replicate, zip2, first_set, none_set, clear_first, clear_last, Mode, needs_escape, HoldsFlags}
+use Rattle.escape_simd.proofs.Words.{◌≡◌, ℕ, zero, suc, ◌+◌, ◌-◌, ◌<◌, ◌≤◌, Bool, true, false, List, [], ◌∷◌, ◌++◌, length, take, drop, get_or, map, replicate, refl, sym, ap, ◌∙◌, arith, length-append, length-take-le, length-drop, cases_Bool, drop-drop, drop-take, take-take, take_all, IsWithin, Tells, length-take, length-map, get_or-take, get_or-drop, get_or-map, get_or_past, get_or_append_left, get_or-append_right, get_or-replicate, length-replicate, first_set, none_set, clear_first, clear_last, Mode, needs_escape, HoldsFlags}
 use Rattle.escape_simd.proofs.Texts.{IsClean}
 
 -- no lane before the first set one is set
@@ -26,19 +26,6 @@ none_set-at bs k h = grind (arith, get_or_past)
 -- and the first one is no later
 pub first_set-least : (bs : List Bool) (k : ℕ) → get_or bs k false ≡ true → first_set bs ≤ k
 first_set-least bs k set = grind (arith, first_set-before)
-
--- where no lane of either is set in the joined lanes, none of either is
-pub none_set-joined : (xs ys : List Bool) → length xs ≡ length ys → none_set (zip2 ◌||◌ xs ys) ≡ true → (none_set xs ≡ true) × (none_set ys ≡ true)
-unfolding none_set
-none_set-joined [] [] l h = (refl, refl)
-none_set-joined (false ∷ xs) (false ∷ ys) l h = none_set-joined xs ys (omega arith) h
-none_set-joined xs ys l h = grind arith
-
--- and so for four, joined two by two
-pub none_set-four : (n : ℕ) (a b c d ab cd all : List Bool) → length a ≡ n → length b ≡ n → length c ≡ n → length d ≡ n → length ab ≡ n → length cd ≡ n
-    → ab ≡ zip2 ◌||◌ a b → cd ≡ zip2 ◌||◌ c d → all ≡ zip2 ◌||◌ ab cd → none_set all ≡ true
-    → (none_set a ≡ true) × (none_set b ≡ true) × (none_set c ≡ true) × (none_set d ≡ true)
-none_set-four n a b c d ab cd all la lb lc ld lab lcd eab ecd e h = grind (arith, none_set-joined)
 
 -- cleared lanes are not set
 pub none_set-replicate : (n i : ℕ) → get_or (replicate n false) i false ≡ false

@@ -5,13 +5,12 @@ ghost use Rattle.std.specs.Prelude.{◌≡◌, ◌+◌, ◌*◌, ◌<◌, ◌≤
 ghost use Rattle.escape_simd.specs.Modes.{mode_numbered};
 ghost use Rattle.escape_simd.specs.Output.{inner, quote_of};
 
-use crate::output::clean::clean_chunk;
 use crate::output::in_place::{append_flagged, append_in_place};
 use crate::output::push::{lanes, push_all, push_quote};
 use crate::output::{N, V};
 use crate::simd::{classify_pair, classify_short};
 use escape_lanes::simd::Flags;
-use escape_lanes::simd::classify::classify;
+use escape_lanes::simd::classify::{classify, classify_four};
 use escape_lanes::simd::target::Ticks;
 use std::alloc::Allocator;
 
@@ -63,9 +62,11 @@ pub(super) fn append_long<const MODE: u8, A: Allocator>(text: &[u8], dst: &mut V
 {
     let mut at = 0;
     'chunks: while 5 * N <= text.len() - at {
-        let Some((v1, v2, v3, v4)) = clean_chunk::<MODE>(text, at) else {
+        let answers = classify_four::<V, MODE, N>(text, at, &mut Ticks::new());
+        let ((v1, _), (v2, _), (v3, _), (v4, _), none) = answers;
+        if !none {
             break;
-        };
+        }
         let rows = [lanes(&v1), lanes(&v2), lanes(&v3), lanes(&v4)];
         push_all(dst, rows.as_flattened());
         at += 4 * N;

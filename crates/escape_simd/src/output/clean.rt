@@ -12,7 +12,7 @@ ghost use Rattle.escape_simd.specs.Stretch.{HoldsFlags, rest_length};
 use crate::output::length::part_len;
 use crate::output::{N, V};
 use crate::simd::{LoadLast, Simd};
-use escape_lanes::simd::classify::classify;
+use escape_lanes::simd::classify::{classify, classify_four};
 use escape_lanes::simd::mode::flags;
 use escape_lanes::simd::target::Ticks;
 use escape_lanes::simd::{BitMask, Flags};
@@ -33,24 +33,6 @@ pub(super) fn mask_at<const MODE: u8>(src: &[u8], at: usize, count: usize) -> u6
     flags.clear_high_bits(64 - count)
 }
 
-/// Returns the text's four vectors from `at` on, if none of their bytes is flagged.
-#[inline(always)]
-pub(super) fn clean_chunk<const MODE: u8>(src: &[u8], at: usize) -> Option<(V, V, V, V)>
-    requires { at + 4 * N ≤ length src.now }
-    ensures clean { OnSome result (IsFront (mode_numbered MODE) src.now at (at + 4 * N)) }
-    ensures loaded { IfSome result (λ vs. ⟦<V as Simd>⟧.lanes vs.0 ++ (⟦<V as Simd>⟧.lanes vs.1 ++ (⟦<V as Simd>⟧.lanes vs.2 ++ ⟦<V as Simd>⟧.lanes vs.3)) ≡ take (4 * N) (drop at src.now)) }
-{
-    let mut ticks = Ticks::new();
-    let (v1, (flags1, _)) = classify::<V, MODE, N>(src, at, &mut ticks);
-    let (v2, (flags2, _)) = classify::<V, MODE, N>(src, at + N, &mut ticks);
-    let (v3, (flags3, _)) = classify::<V, MODE, N>(src, at + 2 * N, &mut ticks);
-    let (v4, (flags4, _)) = classify::<V, MODE, N>(src, at + 3 * N, &mut ticks);
-    if !flags1.join(&flags2).join(&flags3.join(&flags4)).none() {
-        return None;
-    }
-    Some((v1, v2, v3, v4))
-}
-
 /// Returns where the clean bytes of the text from `at` on end, as far as whole vectors tell: at a vector with a flagged
 /// byte, or where fewer than two vectors are left.
 #[inline(always)]
@@ -59,7 +41,9 @@ pub(super) fn clean_end<const MODE: u8>(src: &[u8], at: usize) -> usize
     ensures { IsFront (mode_numbered MODE) src.now at result }
 {
     let mut end = at;
-    'chunks: while 5 * N <= src.len() - end && clean_chunk::<MODE>(src, end).is_some() {
+    'chunks: while 5 * N <= src.len() - end
+        && classify_four::<V, MODE, N>(src, end, &mut Ticks::new()).4
+    {
         end += 4 * N;
     }
     'vectors: while 2 * N <= src.len() - end && mask_at::<MODE>(src, end, N).all_zero() {

@@ -10,7 +10,7 @@ use crate::simd::Vector;
 use crate::simd::by_mask::escape_by_mask;
 use crate::simd::store::store_lanes;
 use escape_lanes::simd::Flags;
-use escape_lanes::simd::classify::{Classified, classify};
+use escape_lanes::simd::classify::{Classified, classify_four};
 use escape_lanes::simd::lane_bits::shift_lanes;
 use escape_lanes::simd::target::{Target, Ticks};
 
@@ -50,15 +50,10 @@ pub(crate) fn chunk<V: Vector<N>, const MODE: u8, const N: usize>(
     requires { HasVectors (mode_numbered MODE) N 4 src.now at at to (length (bytes_of target.old)) }
     ensures { Escapes (mode_numbered MODE) N (at + 4 * N) 4 0 src.now (state target.old at to ticks.old) (state target.new result.0 result.1 ticks.new) }
 {
-    let second = at + N;
-    let third = second + N;
-    let fourth = third + N;
-    let (v1, answer1) = classify::<V, MODE, N>(src, at, ticks);
-    let (v2, answer2) = classify::<V, MODE, N>(src, second, ticks);
-    let (v3, answer3) = classify::<V, MODE, N>(src, third, ticks);
-    let (v4, answer4) = classify::<V, MODE, N>(src, fourth, ticks);
-    let front = answer1.0.join(&answer2.0);
-    if front.join(&answer3.0.join(&answer4.0)).none() {
+    let answers = classify_four::<V, MODE, N>(src, at, ticks);
+    let ((v1, answer1), (v2, answer2), (v3, answer3), (v4, answer4), none) = answers;
+    let (second, third, fourth) = (at + N, at + 2 * N, at + 3 * N);
+    if none {
         store_lanes::<V, N, false>(&v1, src, at, N, answer1.1, target, to);
         store_lanes::<V, N, false>(&v2, src, second, N, answer2.1, target, to + N);
         store_lanes::<V, N, false>(&v3, src, third, N, answer3.1, target, to + 2 * N);

@@ -1,18 +1,14 @@
-use Rattle.std.proofs.Common.{Option, Some, None, OnSome, is_some}
-use Rattle.escape_simd.proofs.Words.{◌≡◌, ◌+◌, true, true≢false, sym, ◌∙◌, arith, bits_of, mode_numbered, IsFront}
+use Rattle.escape_simd.proofs.Words.{◌+◌, ◌≤◌, List, ℕ, length, map, take, drop, refl, sym, ◌∙◌, arith, bits_of, needs_escape, mode_numbered}
 use Rattle.escape_simd.proofs.Lanes.{held-none}
 use Rattle.escape_simd.proofs.Parts.{front-more}
+use Rattle.escape_simd.proofs.Vectors.{flags-clean}
 use Rattle.escape_simd.proofs.output.clean.clean_end.Goals as goal
-
--- what holds of a value where there is one, where there is one
-some-of : {T P : Type 0} (r : Option T) → is_some r ≡ true → OnSome r P → P
-some-of (Some x) some held = held
-some-of None some held = absurd (true≢false (sym some))
 
 pub chunks-preserved : goal.chunks-preserved
 chunks-preserved g c =
-    let chunk : IsFront (mode_numbered g.row.MODE) c.args.src.now c.chunks.end (c.chunks.end + 128) = some-of c.clean_chunk.result (sym c.is_some.ensures ∙ c.if-is_some.true) c.clean_chunk.ensures.clean in
-    front-more (mode_numbered g.row.MODE) c.args.src.now c.args.at c.chunks.end 128 c.chunks.invariant (omega (arith, chunk.inside)) chunk.clean
+    let mode = mode_numbered g.row.MODE in let src : List ℕ = c.args.src.now in let end : ℕ = c.chunks.end in
+    let inside : end + 128 ≤ length src = omega (arith, c.chunks.invariant.inside, c.chunks-test.true) in
+    front-more mode src c.args.at end 128 c.chunks.invariant inside (flags-clean mode 128 src end (map (needs_escape mode) (take 128 (drop end src))) inside refl (sym c.classify_four.ensures.none ∙ c.if-classify_four.true))
 
 pub vectors-preserved : goal.vectors-preserved
 vectors-preserved g c =

@@ -1,17 +1,16 @@
 //! Which bytes of a text are flagged, and whether nothing in a text needs an escape.
-ghost use Rattle.std.specs.Prelude.{◌≡◌, ◌+◌, ◌-◌, ◌*◌, ◌<◌, ◌≤◌, ◌↔◌, ◌++◌, true, false, length, take, drop, IfSome, OnSome};
+ghost use Rattle.std.specs.Prelude.{◌≡◌, ◌+◌, ◌-◌, ◌*◌, ◌<◌, ◌≤◌, ◌↔◌, true, false, length};
 ghost use Rattle.std.specs.List.{count_by};
 ghost use Rattle.escape_lanes.specs.Bits.{bits_of};
 ghost use Rattle.escape_lanes.specs.Replacement.{needs_escape};
-ghost use Rattle.escape_simd.specs.Lengths.{IsPartLength};
 ghost use Rattle.escape_simd.specs.Modes.{mode_numbered};
 ghost use Rattle.escape_simd.specs.Output.{inner};
 ghost use Rattle.escape_simd.specs.Parts.{IsFront};
-ghost use Rattle.escape_simd.specs.Stretch.{HoldsFlags, rest_length};
+ghost use Rattle.escape_simd.specs.Stretch.{HoldsFlags};
 
 use crate::output::length::part_len;
 use crate::output::{N, V};
-use crate::simd::{LoadLast, Simd};
+use crate::simd::LoadLast;
 use escape_lanes::simd::classify::{classify, classify_four};
 use escape_lanes::simd::mode::flags;
 use escape_lanes::simd::target::Ticks;

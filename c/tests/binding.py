@@ -470,16 +470,17 @@ def test_other_threads_run():
         library.html(text)
     thread = threading.Thread(target=run)
     thread.start()
-    sys.setswitchinterval(20)
+    # It is longer than all that follows: so the other thread runs only while a call lets it.
+    sys.setswitchinterval(3600)
     try:
         # On a busy machine it may take a while until the other thread has a processor.
-        long = [runs_during(ours, text, 20) for ours, _ in PAIRS for text in texts]
-        short = [runs_during(ours, text[:1000]) for ours, _ in PAIRS for text in texts]
+        long = all(runs_during(ours, text, 20) for ours, _ in PAIRS for text in texts)
+        short = any(runs_during(ours, text[:1000]) for ours, _ in PAIRS for text in texts)
     finally:
         running = False
         sys.setswitchinterval(interval)
         thread.join()
-    assert all(long) and not any(short), (long, short)
+    assert long and not short, (long, short)
 
 
 # --- the package ---

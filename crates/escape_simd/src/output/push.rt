@@ -32,7 +32,8 @@ pub(super) fn push_all<A: Allocator>(dst: &mut Vec<u8, A>, bytes: &[u8])
     };
 }
 
-/// Returns a vector's lanes as an array: for a slice, which might overlap, `push_all` would be a copy byte by byte.
+/// Returns a vector's lanes as an array, to be appended. For a slice of the text, which might overlap the target, the compiler
+/// would add a copy byte by byte.
 #[inline(always)]
 pub(super) fn lanes(v: &V) -> [u8; N]
     ensures { result ≡ ⟦<V as Simd>⟧.lanes v.now }

@@ -18,7 +18,7 @@ pub use Rattle.std.specs.Simd.Lanes.{mask_l, pick_l, sel_l, top, zip2}
 pub use Rattle.std.specs.Str.{IsCharBoundary, all_scalars}
 unfoldable pub use Rattle.escape_lanes.specs.Bits.{bits_of, first_set, gaps, none_set}
 pub use Rattle.escape_lanes.specs.Bits.{clear_first, clear_last, length-bits_of}
-pub use Rattle.escape_lanes.specs.Classified.{IsWithin, Tells, asked_of}
+pub use Rattle.escape_lanes.specs.Classified.{IsAnswer, IsWithin, Tells, asked_of}
 pub use Rattle.escape_lanes.specs.Entry.{entry_bytes, entry_count, padded}
 pub use Rattle.escape_lanes.specs.Mode.{Mode, html, json, mode_of, script}
 unfoldable pub use Rattle.escape_lanes.specs.Replacement.{replacement}

@@ -9,7 +9,7 @@ ghost use Rattle.escape_lanes.specs.Bits.{bits_of, none_set};
 /// number made of each.
 ///
 /// A contract sees a truth value for each lane.
-pub trait Flags: Drop {
+pub trait Flags: Copy {
     ghost LANES: { ℕ };
 
     // The truth values, lane by lane.

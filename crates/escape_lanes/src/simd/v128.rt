@@ -30,7 +30,7 @@ pub struct Simd128u {
 }
 
 /// Which lanes of a [`Simd128u`] are flagged.
-#[derive(Debug, Drop)]
+#[derive(Debug, Clone, Copy)]
 pub struct Flags128 {
     // 0x80 or more in a lane that is flagged, and less in the others. The first lane is lowest.
     low: u64,

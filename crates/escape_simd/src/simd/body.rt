@@ -30,7 +30,7 @@ pub(crate) fn escape_bytes<V: Vector<N>, const MODE: u8, const N: usize>(
         (at, end) = chunk::<V, MODE, N>(src, at, target, end, ticks);
     }
     'vectors: while 2 * N <= src.len() - at {
-        let (_, answer) = classify::<V, MODE, N>(src, at, ticks);
+        let answer = classify::<V, MODE, N>(src, at, ticks);
         (at, end) = vector_from::<V, MODE, N>(src, at, at, answer, target, end, ticks);
     }
     escape_tail::<V, MODE, N>(&src[at..], target, end, ticks)

@@ -16,7 +16,7 @@ use escape_lanes::simd::target::{Target, Ticks};
 use escape_lanes::simd::{BitMask, LoadStore};
 
 /// Stores the text's bytes from `from` on, where a run of escapes has ended, up to the vector's `border`. The mask has
-/// their flags, and classifies them.
+/// their flags, and classifies them. Returns the places after them.
 #[inline]
 fn store_tail<V: LoadStore, const MODE: u8, const N: usize, const LAST: bool>(
     src: &[u8],
@@ -26,16 +26,17 @@ fn store_tail<V: LoadStore, const MODE: u8, const N: usize, const LAST: bool>(
     target: &mut Target<'_, N>,
     to: usize,
     ticks: &mut Ticks,
-)
-    requires lanes { V.LANES ≡ N }
-    requires before { from ≤ border }
-    requires told { Tells (mode_numbered MODE) src.now (bits_of 64 mask) from border }
-    requires room { CanStore N (reach LAST N) src.now from (border - from) to (length (bytes_of target.old)) }
+) -> (usize, usize)
+    requires { (V.LANES ≡ N)
+        × (from ≤ border)
+        × Tells (mode_numbered MODE) src.now (bits_of 64 mask) from border
+        × CanStore N (reach LAST N) src.now from (border - from) to (length (bytes_of target.old)) }
     ensures stored { IsStored (reach LAST N) src.now target.old target.new from (border - from) to }
+    ensures places { (result.0 ≡ border) × (result.1 ≡ to + (border - from)) }
     ensures tick { ticks.new ≡ ticks.old + 1 }
 {
     let classified = classify_by_mask::<MODE>(src, from, border, mask, ticks);
-    store::<V, N, LAST>(src, from, border - from, classified, target, to);
+    store::<V, N, LAST>(src, from, border - from, classified, target, to)
 }
 
 /// Passes the clean bytes from `from` on of a vector that ends at `border`, whose last escape was written.
@@ -50,16 +51,15 @@ fn finish_vector<V: LoadStore, const MODE: u8, const N: usize, const LAST: bool>
     to: usize,
     ticks: &mut Ticks,
 ) -> (usize, usize)
-    requires lanes { V.LANES ≡ N }
-    requires told { Tells (mode_numbered MODE) src.now (bits_of 64 mask) from border }
-    requires end { IsVectorEnd (mode_numbered MODE) N (reach LAST N) src.now border from to (length (bytes_of target.old)) }
+    requires { (V.LANES ≡ N)
+        × Tells (mode_numbered MODE) src.now (bits_of 64 mask) from border
+        × IsVectorEnd (mode_numbered MODE) N (reach LAST N) src.now border from to (length (bytes_of target.old)) }
     ensures { IsFinished (mode_numbered MODE) (reach LAST N) src.now border (state target.old from to ticks.old) (state target.new result.0 result.1 ticks.new) }
 {
     if border <= from {
         return (from, to);
     }
-    store_tail::<V, MODE, N, LAST>(src, border, from, mask, target, to, ticks);
-    (border, to + (border - from))
+    store_tail::<V, MODE, N, LAST>(src, border, from, mask, target, to, ticks)
 }
 
 /// Escapes the first `valid` bytes of the text's first vector, some of which are flagged. Returns the places
@@ -78,11 +78,11 @@ pub(crate) fn escape_by_turns<V: LoadStore, const MODE: u8, const N: usize, cons
     to: usize,
     ticks: &mut Ticks,
 ) -> (usize, usize)
-    requires lanes { V.LANES ≡ N }
-    requires several { 16 ≤ N }
-    requires classified { IsWithin (take valid text.now) (asked_of classified) }
-    requires vector { IsVectorAt (mode_numbered MODE) N (reach LAST N) text.now 0 valid to (length (bytes_of target.old)) (bits_of 64 mask) }
-    requires some { none_set (bits_of 64 mask) ≡ false }
+    requires { (V.LANES ≡ N)
+        × (16 ≤ N)
+        × IsWithin (take valid text.now) (asked_of classified)
+        × IsVectorAt (mode_numbered MODE) N (reach LAST N) text.now 0 valid to (length (bytes_of target.old)) (bits_of 64 mask)
+        × (none_set (bits_of 64 mask) ≡ false) }
     ensures { Escapes (mode_numbered MODE) (reach LAST N) valid 1 1 text.now (state target.old 0 to ticks.old) (state target.new result.0 result.1 ticks.new) }
 {
     store::<V, N, LAST>(text, 0, valid, classified, target, to);
@@ -121,13 +121,12 @@ pub(crate) fn escape_by_mask<V: Vector<N>, const MODE: u8, const N: usize, const
     to: usize,
     ticks: &mut Ticks,
 ) -> (usize, usize)
-    requires classified { IsWithin (take valid (drop at src.now)) (asked_of classified) }
-    requires vector { IsVectorAt (mode_numbered MODE) N (reach LAST N) src.now at valid to (length (bytes_of target.old)) (bits_of 64 mask) }
+    requires { IsWithin (take valid (drop at src.now)) (asked_of classified)
+        × IsVectorAt (mode_numbered MODE) N (reach LAST N) src.now at valid to (length (bytes_of target.old)) (bits_of 64 mask) }
     ensures { Escapes (mode_numbered MODE) (reach LAST N) (at + valid) 1 1 src.now (state target.old at to ticks.old) (state target.new result.0 result.1 ticks.new) }
 {
     if mask.all_zero() {
-        store::<V, N, LAST>(src, at, valid, classified, target, to);
-        return (at + valid, to + valid);
+        return store::<V, N, LAST>(src, at, valid, classified, target, to);
     }
     if V::LOOKS_UP && are_paid(mask, valid) && are_short::<MODE, N>(src, at, mask) {
         let end = escape_blocks::<MODE, N>(src, at, valid, mask, classified, target, to, ticks);

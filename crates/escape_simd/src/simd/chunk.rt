@@ -1,7 +1,6 @@
 //! Whole vectors of a text that have a further one behind them: one alone, and a chunk of four.
-ghost use Rattle.std.specs.Prelude.{◌≡◌, ◌+◌, ◌*◌, ◌≤◌, length, take, drop, map};
-ghost use Rattle.escape_lanes.specs.Classified.{asked_of};
-ghost use Rattle.escape_lanes.specs.Replacement.{needs_escape};
+ghost use Rattle.std.specs.Prelude.{◌+◌, ◌*◌, length};
+ghost use Rattle.escape_lanes.specs.Classified.{asked_of, IsAnswer};
 ghost use Rattle.escape_lanes.specs.Written.{bytes_of};
 ghost use Rattle.escape_simd.specs.Modes.{mode_numbered};
 ghost use Rattle.escape_simd.specs.Stretch.{Escapes, HasVectors, Passed, state};
@@ -10,7 +9,7 @@ use crate::simd::Vector;
 use crate::simd::by_mask::escape_by_mask;
 use crate::simd::store::store_lanes;
 use escape_lanes::simd::Flags;
-use escape_lanes::simd::classify::{Classified, classify_four};
+use escape_lanes::simd::classify::{Answer, classify_four};
 use escape_lanes::simd::lane_bits::shift_lanes;
 use escape_lanes::simd::target::{Target, Ticks};
 
@@ -21,20 +20,20 @@ pub(crate) fn vector_from<V: Vector<N>, const MODE: u8, const N: usize>(
     src: &[u8],
     at: usize,
     from: usize,
-    answer: (V::Flags, Classified<'_>),
+    answer: Answer<'_, V, V::Flags>,
     target: &mut Target<'_, N>,
     to: usize,
     ticks: &mut Ticks,
 ) -> (usize, usize)
-    requires flagged { V.Flags.truths answer.0 ≡ map (needs_escape (mode_numbered MODE)) (take N (drop at src.now)) }
-    requires asked { asked_of answer.1 ≡ take N (drop at src.now) }
-    requires passed { Passed (mode_numbered MODE) src.now at from }
-    requires room { HasVectors (mode_numbered MODE) N 1 src.now at from to (length (bytes_of target.old)) }
+    requires { IsAnswer (mode_numbered MODE) N src.now at (V.lanes answer.0) (V.Flags.truths answer.1.0) (asked_of answer.1.1)
+        × Passed (mode_numbered MODE) src.now at from
+        × HasVectors (mode_numbered MODE) N 1 src.now at from to (length (bytes_of target.old)) }
     ensures { Escapes (mode_numbered MODE) N (at + N) 1 1 src.now (state target.old from to ticks.old) (state target.new result.0 result.1 ticks.new) }
 {
     let passed = from - at;
-    let mask = shift_lanes(answer.0.bits(), passed);
-    escape_by_mask::<V, MODE, N, false>(src, from, N - passed, mask, answer.1, target, to, ticks)
+    let (_, (flags, classified)) = answer;
+    let mask = shift_lanes(flags.bits(), passed);
+    escape_by_mask::<V, MODE, N, false>(src, from, N - passed, mask, classified, target, to, ticks)
 }
 
 /// Escapes four vectors of the text. They are classified at once, since most are clean. Returns the places after
@@ -50,18 +49,17 @@ pub(crate) fn chunk<V: Vector<N>, const MODE: u8, const N: usize>(
     requires { HasVectors (mode_numbered MODE) N 4 src.now at at to (length (bytes_of target.old)) }
     ensures { Escapes (mode_numbered MODE) N (at + 4 * N) 4 0 src.now (state target.old at to ticks.old) (state target.new result.0 result.1 ticks.new) }
 {
-    let answers = classify_four::<V, MODE, N>(src, at, ticks);
-    let ((v1, answer1), (v2, answer2), (v3, answer3), (v4, answer4), none) = answers;
-    let (second, third, fourth) = (at + N, at + 2 * N, at + 3 * N);
+    let (first, second, third, fourth, none) = classify_four::<V, MODE, N>(src, at, ticks);
     if none {
-        store_lanes::<V, N, false>(&v1, src, at, N, answer1.1, target, to);
-        store_lanes::<V, N, false>(&v2, src, second, N, answer2.1, target, to + N);
-        store_lanes::<V, N, false>(&v3, src, third, N, answer3.1, target, to + 2 * N);
-        store_lanes::<V, N, false>(&v4, src, fourth, N, answer4.1, target, to + 3 * N);
-        return (at + 4 * N, to + 4 * N);
+        let (next, end) = store_lanes::<V, N, false>(first.0, src, at, N, first.1.1, target, to);
+        let (next, end) = store_lanes::<V, N, false>(
+            second.0, src, next, N, second.1.1, target, end,
+        );
+        let (next, end) = store_lanes::<V, N, false>(third.0, src, next, N, third.1.1, target, end);
+        return store_lanes::<V, N, false>(fourth.0, src, next, N, fourth.1.1, target, end);
     }
-    let (next, end) = vector_from::<V, MODE, N>(src, at, at, answer1, target, to, ticks);
-    let (next, end) = vector_from::<V, MODE, N>(src, second, next, answer2, target, end, ticks);
-    let (next, end) = vector_from::<V, MODE, N>(src, third, next, answer3, target, end, ticks);
-    vector_from::<V, MODE, N>(src, fourth, next, answer4, target, end, ticks)
+    let (next, end) = vector_from::<V, MODE, N>(src, at, at, first, target, to, ticks);
+    let (next, end) = vector_from::<V, MODE, N>(src, at + N, next, second, target, end, ticks);
+    let (next, end) = vector_from::<V, MODE, N>(src, at + 2 * N, next, third, target, end, ticks);
+    vector_from::<V, MODE, N>(src, at + 3 * N, next, fourth, target, end, ticks)
 }

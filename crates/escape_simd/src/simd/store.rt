@@ -11,31 +11,35 @@ use escape_lanes::simd::target::Target;
 /// How far a vector's store may reach past a text: kernels of more lanes store a text's last bytes exactly.
 const WIDEST_REACH: usize = 32;
 
-/// Stores a loaded vector at `to`, whose first `left` lanes are the text's bytes from `_from` on. A classifier answered for
-/// these.
+/// Stores a loaded vector at `to`, whose first `left` lanes are the text's bytes from `from` on. A classifier answered for
+/// these. Returns the places after them.
 ///
 /// Where `LAST`, these may be the text's last bytes, and the store reaches at most 32 bytes past them.
 #[inline]
 pub(crate) fn store_lanes<V: LoadStore, const N: usize, const LAST: bool>(
-    v: &V,
+    v: V,
     _src: &[u8],
-    _from: usize,
+    from: usize,
     left: usize,
     _classified: Classified<'_>,
     target: &mut Target<'_, N>,
     to: usize,
-)
-    requires lanes { V.LANES ≡ N }
-    requires few { left ≤ N }
-    requires loaded { take left (V.lanes v.now) ≡ take left (drop _from _src.now) }
-    requires classified { IsWithin (take left (drop _from _src.now)) (asked_of _classified) }
-    requires room { to + left + reach LAST N ≤ length (bytes_of target.old) }
-    ensures { IsStored (reach LAST N) _src.now target.old target.new _from left to }
+) -> (usize, usize)
+    requires { (V.LANES ≡ N)
+        × (left ≤ N)
+        × (from + left ≤ length _src.now)
+        × (take left (V.lanes v) ≡ take left (drop from _src.now))
+        × IsWithin (take left (drop from _src.now)) (asked_of _classified)
+        × (to + left + reach LAST N ≤ length (bytes_of target.old)) }
+    ensures stored { IsStored (reach LAST N) _src.now target.old target.new from left to }
+    ensures places { (result.0 ≡ from + left) × (result.1 ≡ to + left) }
 {
     if LAST && WIDEST_REACH < N {
-        return target.store_front(to, v, left);
+        target.store_front(to, &v, left);
+    } else {
+        target.store(to, &v);
     }
-    target.store(to, v);
+    (from + left, to + left)
 }
 
 /// As [`store_lanes`], of the text's vector at `from`.
@@ -47,12 +51,13 @@ pub(crate) fn store<V: LoadStore, const N: usize, const LAST: bool>(
     classified: Classified<'_>,
     target: &mut Target<'_, N>,
     to: usize,
-)
-    requires lanes { V.LANES ≡ N }
-    requires classified { IsWithin (take left (drop from src.now)) (asked_of classified) }
-    requires room { CanStore N (reach LAST N) src.now from left to (length (bytes_of target.old)) }
-    ensures { IsStored (reach LAST N) src.now target.old target.new from left to }
+) -> (usize, usize)
+    requires { (V.LANES ≡ N)
+        × IsWithin (take left (drop from src.now)) (asked_of classified)
+        × CanStore N (reach LAST N) src.now from left to (length (bytes_of target.old)) }
+    ensures stored { IsStored (reach LAST N) src.now target.old target.new from left to }
+    ensures places { (result.0 ≡ from + left) × (result.1 ≡ to + left) }
 {
     let v = V::load(&src[from..]);
-    store_lanes::<V, N, LAST>(&v, src, from, left, classified, target, to);
+    store_lanes::<V, N, LAST>(v, src, from, left, classified, target, to)
 }

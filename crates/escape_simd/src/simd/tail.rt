@@ -140,8 +140,8 @@ pub(crate) fn escape_flagged_tail<V: Vector<N>, const MODE: u8, const N: usize>(
     to: usize,
     ticks: &mut Ticks,
 ) -> usize
-    requires flagged { AreTail (mode_numbered MODE) N text.now (bits_of 64 flags.first) (bits_of 64 flags.last) (asked_of flags.first_classified) (asked_of flags.last_classified) }
-    requires room { HasRoom (mode_numbered MODE) (reach true N) text.now 0 (length text.now) to (length (bytes_of target.old)) }
+    requires { AreTail (mode_numbered MODE) N text.now (bits_of 64 flags.first) (bits_of 64 flags.last) (asked_of flags.first_classified) (asked_of flags.last_classified)
+        × HasRoom (mode_numbered MODE) (reach true N) text.now 0 (length text.now) to (length (bytes_of target.old)) }
     ensures { Escapes (mode_numbered MODE) (reach true N) (length text.now) (length text.now / N + 1) (length text.now / N + 1) text.now (state target.old 0 to ticks.old) (state target.new (length text.now) result ticks.new) }
 {
     let (passed, end) = escape_before_last::<V, MODE, N>(
@@ -176,8 +176,8 @@ pub(crate) fn store_clean_tail<'a, V: Vector<N>, const MODE: u8, const N: usize>
     to: usize,
     ticks: &mut Ticks,
 ) -> Result<usize, TailFlags<'a>>
-    requires few { length text.now < 2 * N }
-    requires room { HasRoom (mode_numbered MODE) (reach true N) text.now 0 (length text.now) to (length (bytes_of target.old)) }
+    requires { (length text.now < 2 * N)
+        × HasRoom (mode_numbered MODE) (reach true N) text.now 0 (length text.now) to (length (bytes_of target.old)) }
     ensures clean { IfOk result (λ end. Escapes (mode_numbered MODE) (reach true N) (length text.now) (length text.now / N + 1) 0 text.now (state target.old 0 to ticks.old) (state target.new (length text.now) end ticks.new)) }
     ensures flagged { IfErr result (λ flags. AreTail (mode_numbered MODE) N text.now (bits_of 64 flags.first) (bits_of 64 flags.last) (asked_of flags.first_classified) (asked_of flags.last_classified)) }
     ensures unchanged { OnErr result (target.new ≡ target.old) }
@@ -189,7 +189,7 @@ pub(crate) fn store_clean_tail<'a, V: Vector<N>, const MODE: u8, const N: usize>
         if !flags.none() {
             return Err(flags);
         }
-        store_lanes::<V, N, true>(&v, text, 0, count, flags.last_classified, target, to);
+        store_lanes::<V, N, true>(v, text, 0, count, flags.last_classified, target, to);
         return Ok(to + count);
     }
     let (v1, v2, flags) = classify_pair::<V, MODE, N>(text, ticks);
@@ -197,9 +197,9 @@ pub(crate) fn store_clean_tail<'a, V: Vector<N>, const MODE: u8, const N: usize>
         return Err(flags);
     }
     let last = count - N;
-    store_lanes::<V, N, true>(&v1, text, 0, N, flags.first_classified, target, to);
+    store_lanes::<V, N, true>(v1, text, 0, N, flags.first_classified, target, to);
     // The last vector overlaps the first one.
-    store_lanes::<V, N, true>(&v2, text, last, N, flags.last_classified, target, to + last);
+    store_lanes::<V, N, true>(v2, text, last, N, flags.last_classified, target, to + last);
     Ok(to + count)
 }
 
@@ -211,8 +211,8 @@ pub(crate) fn escape_tail<V: Vector<N>, const MODE: u8, const N: usize>(
     to: usize,
     ticks: &mut Ticks,
 ) -> usize
-    requires few { length text.now < 2 * N }
-    requires room { HasRoom (mode_numbered MODE) (reach true N) text.now 0 (length text.now) to (length (bytes_of target.old)) }
+    requires { (length text.now < 2 * N)
+        × HasRoom (mode_numbered MODE) (reach true N) text.now 0 (length text.now) to (length (bytes_of target.old)) }
     ensures { Escapes (mode_numbered MODE) (reach true N) (length text.now) (length text.now / N + 1) 0 text.now (state target.old 0 to ticks.old) (state target.new (length text.now) result ticks.new) }
 {
     match store_clean_tail::<V, MODE, N>(text, target, to, ticks) {

@@ -115,12 +115,12 @@ pub(crate) fn escape_blocks<const MODE: u8, const N: usize>(
     to: usize,
     ticks: &mut Ticks,
 ) -> usize
-    requires classified { IsWithin (take valid (drop at src.now)) (asked_of classified) }
-    requires fits { valid ≤ N }
-    requires width { N ≡ 16 * (N / 16) }
-    requires most { N ≤ 64 }
-    requires inside { at + N ≤ length src.now }
-    requires blocks { HasBlocks (mode_numbered MODE) src.now at valid to (length (bytes_of target.old)) (bits_of 64 mask) }
+    requires { IsWithin (take valid (drop at src.now)) (asked_of classified)
+        × (valid ≤ N)
+        × (N ≡ 16 * (N / 16))
+        × (N ≤ 64)
+        × (at + N ≤ length src.now)
+        × HasBlocks (mode_numbered MODE) src.now at valid to (length (bytes_of target.old)) (bits_of 64 mask) }
     ensures stretch { Stretch (mode_numbered MODE) 16 src.now target.old target.new at (at + valid) to result }
     ensures stored { stored_of target.new + flagged_blocks 8 (bits_of 64 mask) ≡ stored_of target.old + (valid + 7) / 8 }
     ensures ticks { ticks.new ≡ ticks.old + ((valid + 7) / 8 - (flagged_blocks 8 (bits_of 64 mask) + 1)) }

@@ -17,7 +17,7 @@ pub vector_from-requires : goal.vector_from-requires
 vector_from-requires g c =
     let i = c.vectors.invariant.stretch.inside in let a = c.classify-answer.ensures in
     let room = body-vectors c.vectors.invariant 1 c.requires (omega (arith, c.vectors-test.true, i)) (omega arith) in
-    (omega arith, (a.flagged, (a.asked, (passed-to (mode_numbered g.row.MODE) c.args.src.now c.vectors.at, room))))
+    (omega arith, (record { loaded = a.loaded; flagged = a.flagged; asked = a.asked }, passed-to (mode_numbered g.row.MODE) c.args.src.now c.vectors.at, room))
 
 pub vectors-preserved : goal.vectors-preserved
 vectors-preserved g c =

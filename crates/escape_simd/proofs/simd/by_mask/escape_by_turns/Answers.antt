@@ -7,10 +7,10 @@ use Rattle.escape_simd.proofs.Vectors.{vector-stores}
 use Rattle.escape_simd.proofs.simd.by_mask.escape_by_turns.Goals as goal
 
 pub store-requires : goal.store-requires
-store-requires g c = (omega arith, (c.requires.lanes, (c.requires.classified, vector-stores c.requires.vector)))
+store-requires g c = (omega arith, (c.requires.0, c.requires.2, vector-stores c.requires.3))
 
 pub turns-init : goal.turns-init
-turns-init g c = turns-begin (omega (arith, reach-bounds (not (nat_eq (value_of (number g.row.LAST)) 0)) g.row.N c.requires.several)) c.requires.vector c.requires.some c.store.ensures
+turns-init g c = turns-begin (omega (arith, reach-bounds (not (nat_eq (value_of (number g.row.LAST)) 0)) g.row.N c.requires.1)) c.requires.3 c.requires.4 c.store.ensures.stored
 
 pub overflow_sub-flagged : goal.overflow_sub-flagged
 overflow_sub-flagged g c = omega (arith, turn-place c.turns.invariant c.first_offset-flagged.ensures)
@@ -23,7 +23,7 @@ escape-after-requires g c = (omega arith, ((turn-place c.turns.invariant c.first
 
 pub finish_vector-requires : goal.finish_vector-requires
 finish_vector-requires g c =
-    (omega arith, (c.requires.lanes, (held-tells _ _ _ _ _ (turn-flags c.turns.invariant c.first_offset-flagged.ensures c.escape-after.ensures c.clear_first_lane-left.ensures), turn-end c.turns.invariant c.first_offset-flagged.ensures c.escape-after.ensures c.clear_first_lane-left.ensures (sym c.all_zero.ensures ∙ c.if-all_zero.true))))
+    (omega arith, (c.requires.0, held-tells _ _ _ _ _ (turn-flags c.turns.invariant c.first_offset-flagged.ensures c.escape-after.ensures c.clear_first_lane-left.ensures), turn-end c.turns.invariant c.first_offset-flagged.ensures c.escape-after.ensures c.clear_first_lane-left.ensures (sym c.all_zero.ensures ∙ c.if-all_zero.true)))
 
 pub returns-then-all_zero : goal.returns-then-all_zero
 returns-then-all_zero g c = turn-finished c.turns.invariant c.first_offset-flagged.ensures c.escape-after.ensures c.finish_vector.ensures
@@ -35,7 +35,7 @@ pub store_tail-requires : goal.store_tail-requires
 store_tail-requires g c =
     let f = c.first_offset-flagged.ensures in let e = c.escape-after.ensures in let cut = c.clear_first_lane-left.ensures in
     let s = turn-stores c.turns.invariant f e cut (sym c.all_zero.ensures ∙ c.if-all_zero.false) (λ is. absurd (omega (arith, is, c.first_offset.ensures, c.if-first_offset-after.true))) in
-    (omega arith, (c.requires.lanes, (s.0, (held-tells _ _ _ _ _ (turn-flags c.turns.invariant f e cut), s.1))))
+    (omega arith, (c.requires.0, s.0, held-tells _ _ _ _ _ (turn-flags c.turns.invariant f e cut), s.1))
 
 pub turns-smaller-then-first_offset-after : goal.turns-smaller-then-first_offset-after
 turns-smaller-then-first_offset-after g c = omega (arith, turn-place c.turns.invariant c.first_offset-flagged.ensures, turn-after c.turns.invariant c.first_offset-flagged.ensures c.escape-after.ensures)

@@ -38,12 +38,7 @@ escapes-onward a b = record {
   cost = omega (arith, a.cost, b.cost);
 }
 
--- the same from, to and past places that are equal
-pub escapes-begun : {N : ℕ} {mode : Mode} {slack border vectors asked : ℕ} {src : List ℕ} {old new : Target N} {at i next to p end t0 t1 : ℕ}
-    → at ≡ i → to ≡ p → Escapes mode slack border vectors asked src (state old at to t0) (state new next end t1) → Escapes mode slack border vectors asked src (state old i p t0) (state new next end t1)
-escapes-begun {N} {mode} {slack} {border} {vectors} {asked} {src} {old} {new} {at} {i} {next} {to} {p} {end} {t0} {t1} e f s =
-    subst (λ k. Escapes mode slack border vectors asked src (state old i k t0) (state new next end t1)) f (subst (λ k. Escapes mode slack border vectors asked src (state old k to t0) (state new next end t1)) e s)
-
+-- the same, up to and past places that are equal
 pub escapes-bordered : {N : ℕ} {mode : Mode} {slack border b vectors asked : ℕ} {src : List ℕ} {old new : Target N} {at next to end t0 t1 : ℕ}
     → border ≡ b → Escapes mode slack border vectors asked src (state old at to t0) (state new next end t1) → Escapes mode slack b vectors asked src (state old at to t0) (state new next end t1)
 escapes-bordered {N} {mode} {slack} {border} {b} {vectors} {asked} {src} {old} {new} {at} {next} {to} {end} {t0} {t1} e s = subst (λ k. Escapes mode slack k vectors asked src (state old at to t0) (state new next end t1)) e s

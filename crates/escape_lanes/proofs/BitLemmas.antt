@@ -129,7 +129,7 @@ bit-value : (n : ℕ) → cond (nat_eq (n % 2) 1) 1 0 ≡ n % 2
 bit-value n = grind (arith, nat_tests)
 
 -- how many bits are set
-ones-bits : (k x : ℕ) → x < 2 ^ k → count_ones x ≡ count_by (λ b. b) (bits_of k x)
+pub ones-bits : (k x : ℕ) → x < 2 ^ k → count_ones x ≡ count_by (λ b. b) (bits_of k x)
 unfolding bits_of
 ones-bits zero x h = let none : x ≡ 0 = omega arith in rw none ones-zero
 ones-bits (suc k) x h =

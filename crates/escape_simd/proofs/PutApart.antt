@@ -1,5 +1,5 @@
 -- Eight bytes put apart are what stands for a text's bytes, and how many blocks have a flag.
-use Rattle.escape_simd.proofs.Words.{◌≡◌, ◌≢◌, ℕ, zero, suc, ◌+◌, ◌-◌, ◌*◌, ◌<◌, ◌≤◌, Bool, true, false, cond, List, [], ◌∷◌, ◌++◌, length, take, drop, map, get_or, refl, sym, ap, ◌∙◌, inl, inr, arith, cases_lt, drop-drop, get_or-drop, get_or-take, get_or_default, get_or_past, nat_tests, Mode, needs_escape, replacement, shortened, flag_count, flagged_blocks, put_apart, inner, escaped_count, get_or-le-sum_by, sum_by-le, sum_by-take-drop}
+use Rattle.escape_simd.proofs.Words.{◌≡◌, ◌≢◌, ℕ, zero, suc, ◌+◌, ◌-◌, ◌*◌, ◌<◌, ◌≤◌, Bool, true, false, cond, List, [], ◌∷◌, ◌++◌, length, take, drop, map, get_or, refl, sym, ap, ◌∙◌, inl, inr, arith, cases_lt, drop-drop, get_or-drop, get_or-take, get_or_default, get_or_past, nat_tests, Mode, needs_escape, replacement, shortened, flag_count, flagged_blocks, put_apart, inner, escaped_count, count_by-le-length, length-drop, length-take-le, get_or-le-sum_by, sum_by-le, sum_by-take-drop}
 use Rattle.escape_lanes.proofs.SpreadLemmas.{count-cons}
 use Rattle.escape_simd.proofs.ReplacementLemmas.{inner-one, inner-clean_byte}
 use Rattle.escape_simd.proofs.Shortened.{KeepsClean, passed-short, short-escape}
@@ -30,6 +30,15 @@ pub blocks-most : (n : ℕ) (flags : List Bool) → flagged_blocks n flags ≤ n
 unfolding flagged_blocks
 blocks-most zero flags = omega arith
 blocks-most (suc n) flags = let rest = blocks-most n (drop 8 flags) in grind (arith, nat_tests, rest)
+
+-- each block has eight lanes at most
+pub flags-most : (n : ℕ) (flags : List Bool) → length flags ≤ 8 * n → flag_count flags ≤ 8 * flagged_blocks n flags
+unfolding flagged_blocks
+flags-most zero flags few = omega (arith, count_by-le-length (λ b. b) flags, few)
+flags-most (suc n) flags few =
+    let rest = flags-most n (drop 8 flags) (omega (arith, length-drop 8 flags, few)) in
+    let front = count_by-le-length (λ b. b) (take 8 flags) in
+    grind (arith, nat_tests, sum_by-take-drop (λ b. cond b 1 0) flags 8, rest, front, length-take-le 8 flags)
 
 -- none where there is no flag
 pub blocks-none : (n : ℕ) (flags : List Bool) → flag_count flags ≡ 0 → flagged_blocks n flags ≡ 0

@@ -44,6 +44,16 @@ pub fn is_flagged(flags: u8) -> bool
     flags != 0
 }
 
+/// Returns how many lanes are flagged.
+///
+/// Of `0b0110` that is 2.
+#[inline(always)]
+pub fn count_flagged(flags: u64) -> usize
+    ensures { result ≡ flag_count (bits_of 64 flags) }
+{
+    flags.count_ones() as usize
+}
+
 /// Returns how many of the first `count` lanes are not flagged and follow one that is: where runs end.
 ///
 /// `count` is at most 64. Of `0b0110` and 4 that is 1, and of `0b0110` and 3 it is 0.

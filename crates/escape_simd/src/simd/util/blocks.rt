@@ -9,7 +9,9 @@ ghost use Rattle.escape_simd.specs.Modes.{mode_numbered};
 ghost use Rattle.escape_simd.specs.Stretch.{AreShort, HasBlocks, Stretch};
 
 use escape_lanes::simd::classify::{Classified, classify_by_mask};
-use escape_lanes::simd::lane_bits::{count_flagged_blocks, count_gaps, eight_lanes, is_flagged};
+use escape_lanes::simd::lane_bits::{
+    count_flagged, count_flagged_blocks, count_gaps, eight_lanes, is_flagged,
+};
 use escape_lanes::simd::mode::has_short_escapes;
 use escape_lanes::simd::short::{half, has_long, shorten_vector};
 use escape_lanes::simd::target::{Target, Ticks};
@@ -25,10 +27,13 @@ pub(crate) fn are_paid(flags: u64, valid: usize) -> bool
     ensures { result ≡ true → (valid + 7) / 8 ≤ flagged_blocks 8 (bits_of 64 flags) + gaps false (take valid (bits_of 64 flags)) + 1 }
 {
     let blocks = (valid + 7) / 8;
-    // Of two blocks one has an escape. More blocks are faster than turns if there are as many escapes.
+    let escapes = count_flagged(flags);
+    // Of two blocks one has an escape. More are faster than turns if there are as many escapes. If there are more than
+    // eight for each block but two, at most one block has none.
     blocks <= 2
-        || (blocks <= flags.count_ones() as usize
-            && blocks <= count_flagged_blocks(flags) + count_gaps(flags, valid) + 1)
+        || (blocks <= escapes
+            && (8 * (blocks - 2) < escapes
+                || blocks <= count_flagged_blocks(flags) + count_gaps(flags, valid) + 1))
 }
 
 /// Returns whether what stands for each flagged byte of the text's vector at `at` is two bytes.

@@ -2,7 +2,7 @@ use Rattle.escape_simd.proofs.Words.{arith, take, length-take-le, ◌≡◌, ◌
 use Rattle.escape_lanes.specs.Spread.{flagged_blocks}
 use Rattle.escape_simd.proofs.Gaps.{gaps-most}
 use Rattle.escape_simd.proofs.Lanes.{first_set-here}
-use Rattle.escape_simd.proofs.PutApart.{blocks-most, blocks-some}
+use Rattle.escape_simd.proofs.PutApart.{blocks-most, blocks-some, flags-most}
 use Rattle.escape_simd.proofs.simd.util.blocks.are_paid.Goals as goal
 
 -- both counts are small
@@ -13,8 +13,8 @@ few-counted flags valid blocks ends few is is2 =
 pub overflow_add-result : goal.overflow_add-result
 overflow_add-result c = record { fits = omega (arith, few-counted c.args.flags c.args.valid c.count_flagged_blocks.result c.count_gaps.result c.requires.few c.count_flagged_blocks.ensures c.count_gaps.ensures) }
 
-pub overflow_add-result-then-blocks-flags : goal.overflow_add-result-then-blocks-flags
-overflow_add-result-then-blocks-flags c = record { fits = omega (arith, few-counted c.args.flags c.args.valid c.count_flagged_blocks.result c.count_gaps.result c.requires.few c.count_flagged_blocks.ensures c.count_gaps.ensures) }
+pub overflow_add-result-else-blocks-escapes-2 : goal.overflow_add-result-else-blocks-escapes-2
+overflow_add-result-else-blocks-escapes-2 c = record { fits = omega (arith, few-counted c.args.flags c.args.valid c.count_flagged_blocks.result c.count_gaps.result c.requires.few c.count_flagged_blocks.ensures c.count_gaps.ensures) }
 
 -- the first flag is one of the 64
 first-lt : (f : ℕ) → none_set (bits_of 64 f) ≡ false → first_set (bits_of 64 f) < 64
@@ -26,5 +26,10 @@ returns-then-blocks-le2 c =
     let some = blocks-some 8 (first_set bits) bits (first-lt c.args.flags c.requires.some) (first_set-here bits c.requires.some) in
     λ paid. omega (arith, c.if-blocks-le2.true, some)
 
-pub returns-then-blocks-flags : goal.returns-then-blocks-flags
-returns-then-blocks-flags c = λ paid. let ends = c.count_gaps.ensures in let flagged = c.count_flagged_blocks.ensures in grind (arith, nat_tests, paid, ends, flagged)
+pub returns-then-blocks-escapes-2 : goal.returns-then-blocks-escapes-2
+returns-then-blocks-escapes-2 c =
+    let most = flags-most 8 (bits_of 64 c.args.flags) (omega (arith, length-bits_of 64 c.args.flags)) in
+    λ paid. let escapes = c.count_flagged-escapes.ensures in let full = c.if-blocks-escapes-2.true in omega (arith, most, escapes, full)
+
+pub returns-else-blocks-escapes-2 : goal.returns-else-blocks-escapes-2
+returns-else-blocks-escapes-2 c = λ paid. let ends = c.count_gaps.ensures in let flagged = c.count_flagged_blocks.ensures in grind (arith, nat_tests, paid, ends, flagged)

@@ -1,6 +1,5 @@
--- Eight bytes put apart: how one look-up does it, and how many blocks have a flag.
-use Rattle.std.proofs.Common.{◌≡◌, ℕ, zero, suc, ◌+◌, ◌-◌, ◌*◌, ◌/◌, ◌%◌, ◌^◌, ◌<◌, ◌≤◌, Bool, true, false, not, cond, List, [], ◌∷◌, ◌++◌, length, take, take_all, drop, replicate, map, nat_eq, nat_le, ltb, bit_and, bit_or, get_or, refl, sym, ap, ap₂, subst, ◌∙◌, arith, length-append}
-use native.Mathlib.Nat.{mul_assoc, pow-suc}
+-- Eight bytes put apart: how one look-up does it.
+use Rattle.std.proofs.Common.{◌≡◌, ℕ, zero, suc, ◌+◌, ◌-◌, ◌*◌, ◌/◌, ◌%◌, ◌<◌, ◌≤◌, Bool, true, false, cond, List, [], ◌∷◌, ◌++◌, length, take, take_all, drop, replicate, nat_eq, nat_le, ltb, get_or, refl, sym, ap, ap₂, subst, ◌∙◌, arith, length-append}
 use Rattle.std.proofs.Math.Seq.{drop-cons}
 use Rattle.std.proofs.lemmas.Bool.{agree_below_at, eqb-true}
 use Rattle.std.proofs.lemmas.Bool.Decides.{nat_tests}
@@ -9,15 +8,11 @@ use Rattle.std.proofs.lemmas.List.Sums.{count_by-le-length, sum_by-cons}
 use Rattle.std.proofs.lemmas.Simd.{SwzOk, swz_l, pick_l-range_with_len}
 use Rattle.std.specs.Int.RustNames.{count_ones}
 use Rattle.std.specs.List.{range_with_len}
-use Rattle.std.specs.Simd.Lanes.{digits_l, number_l, pick_l}
-use lib.Count.{ones_step}
+use Rattle.std.specs.Simd.Lanes.{pick_l}
 use mir.Syntax.{w8}
 use Rattle.escape_lanes.specs.Bits.{bits_of}
-use Rattle.escape_lanes.specs.Lanes.{flagged_lanes, mask_lanes}
-use Rattle.escape_lanes.specs.Spread.{spread_from, spread, put_apart, flag_count, flagged_blocks}
-use Rattle.escape_lanes.specs.Words.{lanes_of_word}
-use Rattle.escape_lanes.proofs.BitLemmas.{bits-drop, bits-low, bits-take, ones-zero}
-use Rattle.escape_lanes.proofs.WordLemmas.{word-some, word-tops}
+use Rattle.escape_lanes.specs.Spread.{spread_from, spread, put_apart, flag_count}
+use Rattle.escape_lanes.proofs.BitLemmas.{bits-low}
 
 -- Counts of flags
 
@@ -90,54 +85,9 @@ block-looked_up flags v eight whole =
     rw (take_at (take 8 v) (replicate 8 0x5c) 8 half) at
     (spread-looked_up flags block eight (omega (arith, half, length-append (take 8 v) (replicate {A = ℕ} 8 0x5c))) (drop_at (take 8 v) (replicate 8 0x5c) 8 half))
 
--- Flagged blocks
+-- Blocks
 
 -- a block has a flag where its byte isn't 0, by computation for each of the 256
 pub byte-none : (x : ℕ) → nat_eq (flag_count (bits_of 8 x)) 0 ≡ nat_eq (x % 256) 0
 unfolding bits_of
 byte-none x = ap (λ bs. nat_eq (flag_count bs) 0) (sym (bits-low 8 x)) ∙ agree_below_at (λ b. nat_eq (flag_count (bits_of 8 b)) 0) (λ b. nat_eq b 0) 256 (x % 256) refl (omega arith)
-
--- so many blocks have one as bytes are not 0
-blocks-bytes : (k x : ℕ) → flagged_blocks k (bits_of (8 * k) x) ≡ flag_count (map (λ b. not (nat_eq b 0)) (digits_l 256 k x))
-unfolding flagged_blocks
-blocks-bytes zero x = refl
-blocks-bytes (suc k) x =
-    let wide : 8 * suc k ≡ 8 + 8 * k = omega arith in
-    let rest = blocks-bytes k (x / 256) in
-    let one = count-cons (not (nat_eq (x % 256) 0)) (map (λ b. not (nat_eq b 0)) (digits_l 256 k (x / 256))) in
-    rw (wide, bits-take 8 (8 * k) x, bits-drop 8 (8 * k) x, byte-none x) (grind (arith, nat_tests, rest, one))
-
--- the same of a word
-blocks-word : (x : ℕ) → flagged_blocks 8 (bits_of 64 x) ≡ flag_count (map (λ b. not (nat_eq b 0)) (lanes_of_word x))
-unfolding lanes_of_word
-blocks-word x = blocks-bytes 8 x
-
--- one more bit below the others
-ones-even : (n : ℕ) → count_ones (2 * n) ≡ count_ones n
-ones-even n = let low : 2 * n % 2 ≡ 0 = omega arith in let high : 2 * n / 2 ≡ n = omega arith in ones_step (2 * n) ∙ rw (low, high) (omega arith)
-
-ones-odd : (n : ℕ) → count_ones (1 + 2 * n) ≡ 1 + count_ones n
-ones-odd n = let low : (1 + 2 * n) % 2 ≡ 1 = omega arith in let high : (1 + 2 * n) / 2 ≡ n = omega arith in ones_step (1 + 2 * n) ∙ rw (low, high) (omega arith)
-
--- k bits below the others that are clear
-ones-up : (k n : ℕ) → count_ones (2 ^ k * n) ≡ count_ones n
-ones-up zero n = ap count_ones (omega arith)
-ones-up (suc k) n = let e : 2 ^ suc k * n ≡ 2 * (2 ^ k * n) = ap (λ p. p * n) (pow-suc 2 k ∙ omega arith) ∙ mul_assoc 2 (2 ^ k) n in ap count_ones e ∙ ones-even (2 ^ k * n) ∙ ones-up k n
-
--- how many lanes are flagged, by their top bits
-tops-counted : (bs : List Bool) → count_ones (number_l 256 (mask_lanes 128 bs)) ≡ flag_count bs
-tops-counted [] = ones-zero
-tops-counted (true ∷ bs) =
-    let n : ℕ = number_l 256 (mask_lanes 128 bs) in
-    let e : 128 + 256 * n ≡ 2 ^ 7 * (1 + 2 * n) = omega arith in
-    ap count_ones e ∙ ones-up 7 (1 + 2 * n) ∙ ones-odd n ∙ omega (arith, tops-counted bs, count-cons true bs)
-tops-counted (false ∷ bs) =
-    let n : ℕ = number_l 256 (mask_lanes 128 bs) in
-    let e : 0 + 256 * n ≡ 2 ^ 8 * n = omega arith in
-    ap count_ones e ∙ ones-up 8 n ∙ omega (arith, tops-counted bs, count-cons false bs)
-
--- how many of eight blocks have a flag
-pub blocks-counted : (x : ℕ) → count_ones (bit_and (bit_or (bit_and x 9187201950435737471 + 9187201950435737471) x) 9259542123273814144) ≡ flagged_blocks 8 (bits_of 64 x)
-blocks-counted x =
-    let y : ℕ = bit_or (bit_and x 9187201950435737471 + 9187201950435737471) x in
-    ap count_ones (word-tops y) ∙ tops-counted (flagged_lanes (lanes_of_word y)) ∙ ap flag_count (word-some x) ∙ sym (blocks-word x)

@@ -1,5 +1,5 @@
 -- Words as eight lanes: what arithmetic on a word does to its lanes, and its flags.
-use Rattle.std.proofs.Common.{◌≡◌, ℕ, zero, suc, ◌+◌, ◌*◌, ◌/◌, ◌%◌, ◌^◌, ◌≤◌, ◌<◌, Bool, true, false, not, cond, ◌||◌, List, [], ◌∷◌, ◌++◌, length, take, drop, map, replicate, nat_eq, nat_le, nat_lt, bit_and, bit_or, bit_xor, get_or, refl, sym, ap, ap₂, ◌∙◌, arith, length-append, length-drop}
+use Rattle.std.proofs.Common.{◌≡◌, ℕ, zero, suc, ◌+◌, ◌*◌, ◌/◌, ◌%◌, ◌^◌, ◌≤◌, ◌<◌, Bool, true, false, cond, ◌||◌, List, [], ◌∷◌, ◌++◌, length, take, drop, map, replicate, nat_eq, nat_le, nat_lt, bit_and, bit_or, bit_xor, get_or, refl, sym, ap, ap₂, ◌∙◌, arith, length-append, length-drop}
 use native.Mathlib.Nat.{pow-suc, mul_assoc, mul_left_comm}
 use Rattle.std.proofs.Math.Seq.{take-append_seam, drop-append_seam}
 use Rattle.std.proofs.lemmas.Bool.{agree_below, agree_below_at, eqb-true}
@@ -140,21 +140,6 @@ word-flags f mode x y top is is_top small same =
     let joined : lanes_of_word (bit_or y x) ≡ map (λ b. bit_or (f b) b) v = or-words y x ∙ zip2_of_maps bit_or f (λ b. b) v is (sym (map-id v)) in
     let whole = xor-words (bit_or y x) top ∙ zip2_of_maps bit_xor (λ b. bit_or (f b) b) (λ b. 128) v joined (is_top ∙ splat_is_map v 8 128 bytes.full) in
     (flags-by (λ b. bit_xor (bit_or (f b) b) 128) (needs_escape mode) 8 v (lanes_of_word (bit_xor (bit_or y x) top)) bytes whole small same).lanes
-
--- seven ones in each lane
-sevens : lanes_of_word 9187201950435737471 ≡ replicate 8 127
-unfolding lanes_of_word
-sevens = refl
-
--- the top bit of each lane of a word that is not 0
-pub word-some : (x : ℕ) → flagged_lanes (lanes_of_word (bit_or (bit_and x 9187201950435737471 + 9187201950435737471) x)) ≡ map (λ b. not (nat_eq b 0)) (lanes_of_word x)
-word-some x =
-    let v = lanes_of_word x in let bytes = word-bytes x in let f = λ (b : ℕ). bit_and b 127 in
-    let low : lanes_of_word (bit_and x 9187201950435737471) ≡ map f v = and-words x 9187201950435737471 ∙ ap (λ ys. zip2 bit_and v ys) sevens ∙ zip2_splat bit_and v 8 127 bytes.full in
-    let sum = sum-words (bit_and x 9187201950435737471) 9187201950435737471 (rw low (each-below f (λ b. omega (arith, and_le_r b 127)) v)) (rw sevens (Each1-replicate (λ b. b < 128) 8 127 (omega arith)))
-    ∙ zip2_of_maps (λ a b. a + b) f (λ b. 127) v low (sevens ∙ splat_is_map v 8 127 bytes.full) in
-    let joined = or-words (bit_and x 9187201950435737471 + 9187201950435737471) x ∙ zip2_of_maps bit_or (λ b. f b + 127) (λ b. b) v sum (sym (map-id v)) in
-    (flags-by (λ b. bit_or (f b + 127) b) (λ b. not (nat_eq b 0)) 8 v _ bytes joined refl refl).lanes
 
 -- the and of two words that were computed lane by lane
 pub and-maps : (f g : ℕ → ℕ) (v : List ℕ) (x y : ℕ) → lanes_of_word x ≡ map f v → lanes_of_word y ≡ map g v → lanes_of_word (bit_and x y) ≡ map (λ b. bit_and (f b) (g b)) v

@@ -5,7 +5,7 @@ ghost use Rattle.std.specs.Prelude.{◌≤◌};
 use escape_lanes::simd::BitMask;
 use escape_lanes::simd::bits::NeonBits;
 use escape_lanes::simd::lane_bits::{
-    clear_first_lane, count_flagged, count_flagged_blocks, count_gaps, eight_lanes, shift_lanes,
+    clear_first_lane, count_flagged, count_gaps, eight_lanes, shift_lanes,
 };
 use std::process::Abort;
 
@@ -135,7 +135,6 @@ fn has_ends(count: usize) -> bool
 fn ends_of_runs(rt: HostRuntime) {
     // A run of two, whose end is the fourth lane or past the lanes that are asked for.
     assert!(rt; count_flagged(0x06) == 2);
-    assert!(rt; count_flagged_blocks(0x06) == 1);
     assert!(rt; count_gaps(0x06, 4) == 1);
     assert!(rt; count_gaps(0x06, 3) == 0);
     for count in 0..=64usize {

@@ -1,7 +1,7 @@
 //! The flags of a vector as a number, a bit for each lane: how a body goes through them.
 ghost use Rattle.std.specs.Prelude.{◌≡◌, ◌+◌, ◌*◌, ◌<◌, ◌≤◌, ◌++◌, false, not, nat_eq, take, drop, replicate};
 ghost use Rattle.escape_lanes.specs.Bits.{bits_of, first_set, none_set, clear_first, gaps};
-ghost use Rattle.escape_lanes.specs.Spread.{flag_count, flagged_blocks};
+ghost use Rattle.escape_lanes.specs.Spread.{flag_count};
 
 use crate::simd::traits::BitMask;
 
@@ -65,16 +65,4 @@ pub fn count_gaps(flags: u64, count: usize) -> usize
     (!flags & (flags << 1))
         .clear_high_bits(64 - count)
         .count_ones() as usize
-}
-
-/// Returns how many blocks of eight lanes have one that is flagged.
-///
-/// Of `0x0100_0081` that is 2.
-#[inline(always)]
-pub fn count_flagged_blocks(flags: u64) -> usize
-    ensures { result ≡ flagged_blocks 8 (bits_of 64 flags) }
-{
-    // The top bit of each byte that is not 0: no sum of seven bits runs over.
-    let below = (flags & 0x7f7f_7f7f_7f7f_7f7f) + 0x7f7f_7f7f_7f7f_7f7f;
-    ((below | flags) & 0x8080_8080_8080_8080).count_ones() as usize
 }

@@ -9,9 +9,7 @@ ghost use Rattle.escape_simd.specs.Modes.{mode_numbered};
 ghost use Rattle.escape_simd.specs.Stretch.{AreShort, HasBlocks, Stretch};
 
 use escape_lanes::simd::classify::{Classified, classify_by_mask};
-use escape_lanes::simd::lane_bits::{
-    count_flagged, count_flagged_blocks, count_gaps, eight_lanes, is_flagged,
-};
+use escape_lanes::simd::lane_bits::{count_flagged, count_gaps, eight_lanes, is_flagged};
 use escape_lanes::simd::mode::has_short_escapes;
 use escape_lanes::simd::short::{half, has_long, shorten_vector};
 use escape_lanes::simd::target::{Target, Ticks};
@@ -28,12 +26,9 @@ pub(crate) fn are_paid(flags: u64, valid: usize) -> bool
 {
     let blocks = (valid + 7) / 8;
     let escapes = count_flagged(flags);
-    // Of two blocks one has an escape. More are faster than turns if there are as many escapes. If there are more than
-    // eight for each block but two, at most one block has none.
-    blocks <= 2
-        || (blocks <= escapes
-            && (8 * (blocks - 2) < escapes
-                || blocks <= count_flagged_blocks(flags) + count_gaps(flags, valid) + 1))
+    // Of two blocks one has an escape. More are faster than turns if there are as many escapes, of which a block has
+    // at most eight.
+    blocks <= 2 || (blocks <= escapes && 8 * blocks < escapes + 8 * count_gaps(flags, valid) + 16)
 }
 
 /// Returns whether what stands for each flagged byte of the text's vector at `at` is two bytes.

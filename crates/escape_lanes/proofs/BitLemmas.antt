@@ -120,7 +120,7 @@ counted-cons : (b : Bool) (bs : List Bool) → count_by (λ b. b) (b ∷ bs) ≡
 counted-cons b bs = sum_by-cons (λ c. cond c 1 0) b bs
 
 -- no bit of 0 is set
-pub ones-zero : count_ones 0 ≡ 0
+ones-zero : count_ones 0 ≡ 0
 unfolding ones ones_in
 ones-zero = refl
 

@@ -1,12 +1,11 @@
 -- Eight bytes put apart: how one look-up does it.
 use Rattle.std.proofs.Common.{◌≡◌, ℕ, zero, suc, ◌+◌, ◌-◌, ◌*◌, ◌/◌, ◌%◌, ◌<◌, ◌≤◌, Bool, true, false, cond, List, [], ◌∷◌, ◌++◌, length, take, take_all, drop, replicate, nat_eq, nat_le, ltb, get_or, refl, sym, ap, ap₂, subst, ◌∙◌, arith, length-append}
 use Rattle.std.proofs.Math.Seq.{drop-cons}
-use Rattle.std.proofs.lemmas.Bool.{agree_below_at, eqb-true}
+use Rattle.std.proofs.lemmas.Bool.{agree_below_at}
 use Rattle.std.proofs.lemmas.Bool.Decides.{nat_tests}
 use Rattle.std.proofs.lemmas.List.{drop_at, get_or-drop, length-take-le, take_at}
 use Rattle.std.proofs.lemmas.List.Sums.{count_by-le-length, sum_by-cons}
 use Rattle.std.proofs.lemmas.Simd.{SwzOk, swz_l, pick_l-range_with_len}
-use Rattle.std.specs.Int.RustNames.{count_ones}
 use Rattle.std.specs.List.{range_with_len}
 use Rattle.std.specs.Simd.Lanes.{pick_l}
 use mir.Syntax.{w8}
@@ -19,11 +18,6 @@ use Rattle.escape_lanes.proofs.BitLemmas.{bits-low}
 -- one more
 pub count-cons : (b : Bool) (bs : List Bool) → flag_count (b ∷ bs) ≡ cond b 1 0 + flag_count bs
 count-cons b bs = sum_by-cons (λ c. cond c 1 0) b bs
-
--- as many flags as bits are set, by computation for each of the 256
-pub ones-flags : (x : ℕ) → x < 256 → count_ones x ≡ flag_count (bits_of 8 x)
-unfolding bits_of count_ones
-ones-flags x h = eqb-true _ _ (agree_below_at (λ n. nat_eq (count_ones n) (flag_count (bits_of 8 n))) (λ n. true) 256 x refl h)
 
 -- The look-up
 

@@ -25,12 +25,6 @@ pub blocks-one : (flags : List Bool) → flagged_blocks 1 flags + (1 - flag_coun
 unfolding flagged_blocks
 blocks-one flags = grind (arith, nat_tests)
 
--- no more than there are
-pub blocks-most : (n : ℕ) (flags : List Bool) → flagged_blocks n flags ≤ n
-unfolding flagged_blocks
-blocks-most zero flags = omega arith
-blocks-most (suc n) flags = let rest = blocks-most n (drop 8 flags) in grind (arith, nat_tests, rest)
-
 -- each block has eight lanes at most
 pub flags-most : (n : ℕ) (flags : List Bool) → length flags ≤ 8 * n → flag_count flags ≤ 8 * flagged_blocks n flags
 unfolding flagged_blocks

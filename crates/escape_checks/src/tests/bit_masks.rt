@@ -133,8 +133,9 @@ fn has_ends(count: usize) -> bool
 
 #[test]
 fn ends_of_runs(rt: HostRuntime) {
+    // The first and the last lane count too.
+    assert!(rt; count_flagged(0x8000_0000_0000_0003) == 3);
     // A run of two, whose end is the fourth lane or past the lanes that are asked for.
-    assert!(rt; count_flagged(0x06) == 2);
     assert!(rt; count_gaps(0x06, 4) == 1);
     assert!(rt; count_gaps(0x06, 3) == 0);
     for count in 0..=64usize {

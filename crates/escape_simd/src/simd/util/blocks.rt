@@ -26,8 +26,8 @@ pub(crate) fn are_paid(flags: u64, valid: usize) -> bool
 {
     let blocks = (valid + 7) / 8;
     let escapes = count_flagged(flags);
-    // Of two blocks one has an escape. More are faster than turns if there are as many escapes, of which a block has
-    // at most eight.
+    // Of two blocks one has an escape. More are faster than turns if there are as many escapes. As a block has at most
+    // eight of them, an eighth of the escapes is at most the count of blocks that have one.
     blocks <= 2 || (blocks <= escapes && 8 * blocks < escapes + 8 * count_gaps(flags, valid) + 16)
 }
 

@@ -3,13 +3,11 @@
 
 ghost use Rattle.std.specs.Prelude.{◌≤◌, length};
 
-mod calls;
 mod modes;
 mod per_byte;
 mod texts;
 mod timing;
 
-use calls::each_call;
 use modes::{MODES, Mode};
 use std::env;
 use std::io::read_to_string;
@@ -25,9 +23,6 @@ fn main(rt: HostRuntime) -> Result<(), Fail> {
     let mut words = env::args(&rt)?;
     let _program = words.next();
     let word = words.next();
-    if is_word(&word, "calls") {
-        return each_call(&rt);
-    }
     if is_word(&word, "lines") {
         return measure_lines(&rt);
     }
@@ -40,7 +35,7 @@ fn main(rt: HostRuntime) -> Result<(), Fail> {
     }
     if !measures {
         println!(rt; "every kernel and call writes what the loop writes")?;
-        println!(rt; "usage: escape_bench measure|calls|lines")?;
+        println!(rt; "usage: escape_bench measure|lines")?;
     }
     Ok(())
 }

@@ -1,13 +1,13 @@
-pub mod DownLemmas
-pub mod FlagLemmas
-pub mod BitLemmas
-pub mod GatherLemmas
-pub mod LaneLemmas
-pub mod LastLemmas
-pub mod MaskLemmas
-pub mod NarrowLemmas
-pub mod NibbleLemmas
-pub mod TableLemmas
-pub mod WordLemmas
-pub mod SpreadLemmas
-pub mod ShortLemmas
+mod DownLemmas
+mod FlagLemmas
+mod BitLemmas
+mod GatherLemmas
+mod LaneLemmas
+mod LastLemmas
+mod MaskLemmas
+mod NarrowLemmas
+mod NibbleLemmas
+mod TableLemmas
+mod WordLemmas
+mod SpreadLemmas
+mod ShortLemmas

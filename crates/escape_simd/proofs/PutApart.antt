@@ -1,6 +1,5 @@
 -- Eight bytes put apart are what stands for a text's bytes, and how many blocks have a flag.
-use Rattle.escape_simd.proofs.Words.{◌≡◌, ◌≢◌, ℕ, zero, suc, ◌+◌, ◌-◌, ◌*◌, ◌<◌, ◌≤◌, Bool, true, false, cond, List, [], ◌∷◌, ◌++◌, length, take, drop, map, get_or, refl, sym, ap, ◌∙◌, inl, inr, arith, cases_lt, drop-drop, get_or-drop, get_or-take, get_or_default, get_or_past, nat_tests, Mode, needs_escape, replacement, shortened, flag_count, flagged_blocks, put_apart, inner, escaped_count, count_by-le-length, length-drop, length-take-le, get_or-le-sum_by, sum_by-le, sum_by-take-drop}
-use Rattle.escape_lanes.proofs.SpreadLemmas.{count-cons}
+use Rattle.escape_simd.proofs.Words.{◌≡◌, ◌≢◌, ℕ, zero, suc, ◌+◌, ◌-◌, ◌*◌, ◌<◌, ◌≤◌, Bool, true, false, cond, List, [], ◌∷◌, ◌++◌, length, take, drop, map, get_or, refl, sym, ap, ◌∙◌, inl, inr, arith, cases_lt, drop-drop, get_or-drop, get_or-take, get_or_default, get_or_past, nat_tests, Mode, needs_escape, replacement, shortened, flag_count, flagged_blocks, put_apart, inner, escaped_count, count_by-le-length, length-drop, length-take-le, get_or-le-sum_by, sum_by-cons, sum_by-le, sum_by-take-drop}
 use Rattle.escape_simd.proofs.ReplacementLemmas.{inner-one, inner-clean_byte}
 use Rattle.escape_simd.proofs.Shortened.{KeepsClean, passed-short, short-escape}
 use Rattle.escape_simd.proofs.Texts.{escaped-here, escaped_clean-here}
@@ -56,7 +55,7 @@ pub length-put_apart : (flags : List Bool) (bytes : List ℕ) → length bytes �
 unfolding put_apart
 length-put_apart [] bytes h = omega arith
 length-put_apart (b ∷ flags) [] h = absurd (omega arith)
-length-put_apart (b ∷ flags) (x ∷ bytes) h = grind (arith, nat_tests, count-cons b flags, length-put_apart flags bytes (omega arith))
+length-put_apart (b ∷ flags) (x ∷ bytes) h = grind (arith, nat_tests, sum_by-cons (λ b. cond b 1 0) b flags, length-put_apart flags bytes (omega arith))
 
 -- A text's bytes
 
@@ -93,15 +92,15 @@ marked-apart mode clean (true ∷ flags) (suc k) (x ∷ xs) fill m =
     let needed = (m.set 0 refl).1 in
     let short = m.short 0 refl in
     let rest = marked-apart mode clean flags k xs fill (marked-next m) in
-    let n : suc k + flag_count (true ∷ flags) ≡ suc (suc (k + flag_count flags)) = omega (arith, count-cons true flags) in
+    let n : suc k + flag_count (true ∷ flags) ≡ suc (suc (k + flag_count flags)) = omega (arith, sum_by-cons (λ b. cond b 1 0) true flags) in
     let one = passed-short mode x xs short in
     let here = inner-one mode x xs one ∙ ap (λ ys. ys ++ inner mode xs) (short-escape mode x (m.bytes 0) needed short) in
     let count = rw one at (escaped-here mode (x ∷ xs) 0 (omega arith) needed) in
-    (rw n (ap (λ ys. 0x5c ∷ shortened x ∷ ys) rest.0 ∙ sym here), omega (arith, rest.1, count, count-cons true flags))
+    (rw n (ap (λ ys. 0x5c ∷ shortened x ∷ ys) rest.0 ∙ sym here), omega (arith, rest.1, count, sum_by-cons (λ b. cond b 1 0) true flags))
 marked-apart mode clean (false ∷ flags) (suc k) (x ∷ xs) fill m =
     let none = m.unset 0 (omega arith) refl in
     let rest = marked-apart mode clean flags k xs fill (marked-next m) in
-    let n : suc k + flag_count (false ∷ flags) ≡ suc (k + flag_count flags) = omega (arith, count-cons false flags) in
+    let n : suc k + flag_count (false ∷ flags) ≡ suc (k + flag_count flags) = omega (arith, sum_by-cons (λ b. cond b 1 0) false flags) in
     let here = ap (λ y. y ∷ inner mode xs) (clean x none) ∙ sym (inner-clean_byte mode x xs none) in
-    (rw n (ap (λ ys. shortened x ∷ ys) rest.0 ∙ here), omega (arith, rest.1, escaped_clean-here mode (x ∷ xs) 0 (omega arith) none, count-cons false flags))
+    (rw n (ap (λ ys. shortened x ∷ ys) rest.0 ∙ here), omega (arith, rest.1, escaped_clean-here mode (x ∷ xs) 0 (omega arith) none, sum_by-cons (λ b. cond b 1 0) false flags))
 marked-apart mode clean flags k xs fill m = absurd (omega (arith, m.few, m.inside))

@@ -1,5 +1,5 @@
 //! The modes: what is written for a text.
-ghost use Rattle.std.specs.Prelude.{◌≡◌, ◌<◌, ◌≤◌, ◌↔◌, length, Err, IfOk, IsOkUnless};
+ghost use Rattle.std.specs.Prelude.{◌≡◌, ◌<◌, ◌≤◌, ◌↔◌, Err, IfOk, IsOkUnless};
 ghost use Rattle.escape_simd.specs.Modes.{escaping, mode_numbered};
 ghost use Rattle.escape_simd.specs.Output.{bound, quote_of};
 ghost use Rattle.escape_simd.specs.declared.output.error.Refusal.{Refusal};

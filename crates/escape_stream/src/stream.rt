@@ -1,5 +1,5 @@
 //! From a reader to a writer.
-ghost use Rattle.std.specs.Prelude.{◌≡◌, ◌≢◌, ◌<◌, length, IfErr, IfSome, IsErrOf, IsUtf8, OnOk};
+ghost use Rattle.std.specs.Prelude.{◌≢◌, ◌<◌, length, IfErr, IfSome, IsErrOf, IsUtf8, OnOk};
 ghost use Rattle.std.specs.Io.KnownBytes.{Appends, Keeps};
 ghost use Rattle.escape_simd.specs.Output.{plain, bound};
 ghost use Rattle.escape_simd.specs.Modes.{escaping};

@@ -1,5 +1,5 @@
 //! The output of a text, to a writer.
-ghost use Rattle.std.specs.Prelude.{◌≤◌, length, OnOk, OnErr};
+ghost use Rattle.std.specs.Prelude.{◌≤◌, OnOk, OnErr};
 ghost use Rattle.std.specs.Io.KnownBytes.{Appends};
 ghost use Rattle.escape_simd.specs.Modes.{mode_numbered};
 ghost use Rattle.escape_simd.specs.Output.{plain};

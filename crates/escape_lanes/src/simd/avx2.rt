@@ -45,8 +45,6 @@ impl Flags for Flags256 {
 
     ghost width = { λ f. length-map f.lanes (λ b. nat_le 0x80 b) ∙ f.are_bytes.full };
 
-    ghost few = { lit≤ tt };
-
     #[inline(always)]
     fn join(&self, other: &Flags256) -> Flags256 {
         Flags256 {

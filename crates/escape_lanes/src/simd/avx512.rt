@@ -46,8 +46,6 @@ impl Flags for Flags512 {
 
     ghost width = { λ f. length-bits_of 64 f.flagged };
 
-    ghost few = { lit≤ tt };
-
     #[inline(always)]
     fn join(&self, other: &Flags512) -> Flags512 {
         Flags512 {

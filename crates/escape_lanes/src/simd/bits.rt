@@ -1,6 +1,6 @@
 //! Numbers as bit masks, lowest bits first.
-ghost use Rattle.std.specs.Prelude.{◌≡◌, ℕ, length, refl};
-ghost use Rattle.escape_lanes.specs.Bits.{bits_of, lanes_of, nibbles_of, length-bits_of, length-lanes_of};
+ghost use Rattle.std.specs.Prelude.{◌≡◌};
+ghost use Rattle.escape_lanes.specs.Bits.{bits_of, nibbles_of, length-bits_of, length-lanes_of};
 
 use crate::simd::traits::BitMask;
 

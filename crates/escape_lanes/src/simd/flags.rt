@@ -1,5 +1,5 @@
 //! The flags of a vector: first as the classifier makes them, to be joined with others, then as a number.
-ghost use Rattle.std.specs.Prelude.{◌≡◌, ℕ, ◌-◌, ◌≤◌, ◌||◌, ◌++◌, Bool, List, false, length, replicate};
+ghost use Rattle.std.specs.Prelude.{◌≡◌, ℕ, ◌-◌, ◌||◌, ◌++◌, Bool, List, false, length, replicate};
 ghost use Rattle.std.specs.Simd.Lanes.{zip2};
 ghost use Rattle.escape_lanes.specs.Bits.{bits_of, none_set};
 
@@ -27,8 +27,6 @@ pub trait Flags: Copy {
     fn bits(&self) -> u64
         ensures { bits_of 64 result ≡ truths self.now ++ replicate (64 - LANES) false };
 
-    // There are `LANES` of them, at most as many as a number has bits.
+    // There are `LANES` of them.
     ghost width: { (f : Self) → length (truths f) ≡ LANES };
-
-    ghost few: { LANES ≤ 64 };
 }

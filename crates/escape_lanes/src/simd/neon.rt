@@ -1,9 +1,8 @@
 //! 16 bytes in a vector of `std::simd`, with four bits a lane in the bit mask. HTML is classified
 //! by nibble tables.
-ghost use Rattle.std.specs.Prelude.{◌≡◌, ◌+◌, map, nat_le, refl};
-ghost use Rattle.std.proofs.Common.{◌∙◌, lit≤};
-ghost use Rattle.std.proofs.lemmas.List.{length-map};
-ghost use Rattle.escape_lanes.specs.Lanes.{AreBytes, flagged_lanes};
+ghost use Rattle.std.specs.Prelude.{◌≡◌, ◌+◌, map, refl};
+ghost use Rattle.std.proofs.Common.{lit≤};
+ghost use Rattle.escape_lanes.specs.Lanes.{AreBytes};
 ghost use Rattle.escape_lanes.specs.Mode.{mode_of};
 ghost use Rattle.escape_lanes.specs.Nibble.{at_low_half, at_high_half, html_flags};
 ghost use Rattle.escape_lanes.specs.Replacement.{needs_escape};
@@ -16,6 +15,7 @@ use crate::simd::flags::Flags;
 use crate::simd::lanes;
 use crate::simd::last::{self, LoadLast};
 use crate::simd::mask::Mask;
+pub use crate::simd::sse2::Flags128;
 use crate::simd::target::Ticks;
 use crate::simd::traits::{BitMask, Simd};
 use crate::simd::vector::Vector;
@@ -31,41 +31,6 @@ use std::simd::prelude::*;
 pub struct Simd128u {
     lanes: u8x16,
     ghost are_bytes: { AreBytes 16 lanes },
-}
-
-/// Which lanes of a [`Simd128u`] are flagged.
-#[derive(Debug, Clone, Copy)]
-pub struct Flags128 {
-    // 0x80 or more in a lane that is flagged, and less in the others.
-    lanes: u8x16,
-    ghost are_bytes: { AreBytes 16 lanes },
-}
-
-impl Flags for Flags128 {
-    ghost LANES = { 16 };
-
-    ghost truths = { λ f. flagged_lanes f.lanes };
-
-    ghost width = { λ f. length-map f.lanes (λ b. nat_le 0x80 b) ∙ f.are_bytes.full };
-
-    ghost few = { lit≤ tt };
-
-    #[inline(always)]
-    fn join(&self, other: &Flags128) -> Flags128 {
-        Flags128 {
-            lanes: lanes::join(&self.lanes, &other.lanes),
-        }
-    }
-
-    #[inline(always)]
-    fn none(&self) -> bool {
-        lanes::none(&self.lanes)
-    }
-
-    #[inline(always)]
-    fn bits(&self) -> u64 {
-        lanes::flag_bits(&self.lanes)
-    }
 }
 
 impl Simd for Simd128u {

@@ -30,7 +30,7 @@ pub struct Simd128u {
 #[derive(Debug, Clone, Copy)]
 pub struct Flags128 {
     // 0x80 or more in a lane that is flagged, and less in the others.
-    lanes: u8x16,
+    pub(crate) lanes: u8x16,
     ghost are_bytes: { AreBytes 16 lanes },
 }
 
@@ -40,8 +40,6 @@ impl Flags for Flags128 {
     ghost truths = { λ f. flagged_lanes f.lanes };
 
     ghost width = { λ f. length-map f.lanes (λ b. nat_le 0x80 b) ∙ f.are_bytes.full };
-
-    ghost few = { lit≤ tt };
 
     #[inline(always)]
     fn join(&self, other: &Flags128) -> Flags128 {

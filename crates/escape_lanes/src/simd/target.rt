@@ -1,5 +1,5 @@
 //! The bytes that a kernel writes to, and how often it did.
-ghost use Rattle.std.specs.Prelude.{◌≡◌, ℕ, ◌+◌, ◌<◌, ◌≤◌, length, take, max, slice_set};
+ghost use Rattle.std.specs.Prelude.{◌≡◌, ◌+◌, ◌<◌, ◌≤◌, length, take, max, slice_set};
 ghost use Rattle.std.proofs.Math.Seq.{paste};
 ghost use Rattle.escape_lanes.specs.Bits.{bits_of};
 ghost use Rattle.escape_lanes.specs.Spread.{IsBlock};

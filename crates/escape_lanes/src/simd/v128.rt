@@ -127,8 +127,6 @@ impl Flags for Flags128 {
 
     ghost width = { λ f. length-map (lanes_of_words f.low f.high) (λ b. nat_le 0x80 b) ∙ (words-bytes f.low f.high).full };
 
-    ghost few = { lit≤ tt };
-
     #[inline(always)]
     fn join(&self, other: &Flags128) -> Flags128 {
         Flags128 {

@@ -1,5 +1,5 @@
 //! The kernel of 16 lanes in a vector that classifies by comparisons.
-ghost use Rattle.std.specs.Prelude.{◌≡◌, ◌+◌, ◌*◌, ◌≤◌, length, take, chars};
+ghost use Rattle.std.specs.Prelude.{◌+◌, ◌≤◌, length, take, chars};
 ghost use Rattle.escape_lanes.specs.Mode.{mode_of, script};
 ghost use Rattle.escape_lanes.specs.Written.{bytes_of};
 ghost use Rattle.escape_simd.specs.Output.{bound};

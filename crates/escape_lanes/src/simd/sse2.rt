@@ -26,11 +26,11 @@ pub struct Simd128u {
     ghost are_bytes: { AreBytes 16 lanes },
 }
 
-/// Which lanes of a [`Simd128u`] are flagged.
+/// Which lanes of a [`Simd128u`] are flagged, here and in `neon`.
 #[derive(Debug, Clone, Copy)]
 pub struct Flags128 {
     // 0x80 or more in a lane that is flagged, and less in the others.
-    pub(crate) lanes: u8x16,
+    pub(super) lanes: u8x16,
     ghost are_bytes: { AreBytes 16 lanes },
 }
 

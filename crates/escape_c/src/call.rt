@@ -82,6 +82,10 @@ pub(crate) fn as_text(bytes: &[u8]) -> Result<&str, Refusal>
     ensures ok { IsOk result ↔ IsUtf8 bytes.now }
     ensures err { OnErr result (result ≡ Err Refusal.NotUtf8) }
 {
+    // Most texts are ASCII: this is asked by words, with no call.
+    if bytes.is_ascii() {
+        return Ok(unsafe { str::from_utf8_unchecked(bytes) });
+    }
     match str::from_utf8(bytes) {
         Ok(text) => Ok(text),
         Err(_) => Err(Refusal::NotUtf8),

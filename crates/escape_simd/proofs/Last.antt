@@ -1,10 +1,10 @@
 -- The last bytes of a text, held with zeros behind them.
-use Rattle.escape_simd.proofs.Words.{min, ◌≡◌, ℕ, ◌+◌, ◌-◌, ◌*◌, ◌/◌, ◌<◌, ◌≤◌, Bool, true, false, List, [], ◌++◌, length, take, drop, replicate, map, refl, sym, ap, ◌∙◌, arith, append_assoc, append-nil, length-append, length-drop, append_cancel_right, drop_all, drop_at, get_or_past, none_set, length-replicate, replicate-append-replicate, drop-append-le, drop-drop, take_all, take-append-le, clear_last, Mode, script, needs_escape, bytes_of, Target, inner, escaped_count, run_count, AreTail, IsWithin, Escapes, HasRoom, HoldsFlags, IsStored, IsVectorAt, Passed, state}
+use Rattle.escape_simd.proofs.Words.{min, ◌≡◌, ℕ, ◌+◌, ◌-◌, ◌*◌, ◌/◌, ◌<◌, ◌≤◌, Bool, true, false, List, [], ◌++◌, length, take, drop, replicate, map, refl, sym, ap, ◌∙◌, arith, append_assoc, append-nil, length-append, length-drop, append_cancel_right, drop_all, drop_at, get_or_past, none_set, length-replicate, replicate-append-replicate, drop-append-le, drop-drop, take_all, take-append-le, clear_last, Mode, script, needs_escape, bytes_of, Target, inner, escaped_count, run_count, flag_count, rest_length, AreTail, IsWithin, Escapes, HasRoom, HoldsFlags, IsStored, IsVectorAt, Passed, state}
 use Rattle.std.proofs.Math.Nat.{div-eq_of_lt, div-eq_of_lt-le}
 use Rattle.escape_simd.proofs.Behind.{inner-behind, escaped-behind, get_or-behind, runs-behind}
 use Rattle.escape_simd.proofs.Lanes.{CleanFrom, get_or-clear_last, get_or-cleared_last, held-cut, held-none}
 use Rattle.escape_simd.proofs.ReplacementLemmas.{inner-nil}
-use Rattle.escape_simd.proofs.RestSteps.{rest-bounds, rest-is}
+use Rattle.escape_simd.proofs.RestSteps.{rest-bounds, rest-flagged, rest-is}
 use Rattle.escape_simd.proofs.Stretches.{ended, onward_to, stored_ahead}
 use Rattle.escape_simd.proofs.Texts.{escaped-empty, runs-empty}
 use Rattle.escape_simd.proofs.Turns.{ahead-front, ahead-passed, ahead-runs}
@@ -168,6 +168,15 @@ module _ {mode : Mode} {n : ℕ} {text : List ℕ} {first last : List Bool} {fir
   -- and its first one
   pub tail-clean_front : n ≤ length text → none_set first ≡ true → CleanFrom mode text 0 n
   tail-clean_front some none p late early = held-none mode text 0 n 0 first (t.front some) (omega arith) none p late (omega (arith, early))
+
+-- A short text that has room for its bytes, and for five more for each lane that is set, has room for what they become.
+pub tail-room : {mode : Mode} {n : ℕ} {text : List ℕ} {first last : List Bool} {first_asked last_asked : List ℕ} (slack to size : ℕ) → AreTail mode n text first last first_asked last_asked → to + (length text + 5 * (flag_count first + flag_count last)) + slack ≤ size → HasRoom mode slack text 0 (length text) to size
+tail-room {mode} {n} {text} {first} {last} slack to size t fits =
+    let border : ℕ = length text - n in let count : ℕ = min (length text) n in
+    let front = rest-flagged mode text border 0 first (omega arith) (λ k before none. (t.front (omega (arith, before))).unset k none (omega arith) (omega (arith, before, t.few))) in
+    let back = rest-flagged mode text count border last (omega arith) (λ k before none. t.back.unset k none (omega arith) before) in
+    let begin : 0 + border ≡ border = omega arith in let all : border + count ≡ length text = omega arith in
+    record { fits = omega (arith, fits, front, back, ap (rest_length mode text) begin, ap (rest_length mode text) all) }
 
 -- how many vectors a short text begins
 pub one-begun : (n count : ℕ) → count < n → 1 ≡ count / n + 1

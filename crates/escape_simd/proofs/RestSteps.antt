@@ -1,5 +1,5 @@
 -- How long the rest of a text becomes, some bytes further on.
-use Rattle.escape_simd.proofs.Words.{◌≡◌, ℕ, zero, suc, ◌+◌, ◌-◌, ◌*◌, ◌<◌, ◌≤◌, List, ◌++◌, length, drop, get_or, refl, arith, length-append, length-drop, length-take-le, slice_range, Mode, script, inner, passed, first_replacement, escaped_count, rest_length, run_count}
+use Rattle.escape_simd.proofs.Words.{◌≡◌, ℕ, zero, suc, ◌+◌, ◌-◌, ◌*◌, ◌<◌, ◌≤◌, Bool, true, false, cond, List, [], ◌∷◌, ◌++◌, length, drop, get_or, refl, ap, arith, length-append, length-drop, length-take-le, slice_range, sum_by-cons, Mode, script, needs_escape, flag_count, inner, passed, first_replacement, escaped_count, rest_length, run_count}
 use Rattle.std.proofs.lemmas.List.Folds.{drop_split}
 use Rattle.escape_simd.proofs.Escapes.{passed-after}
 use Rattle.escape_simd.proofs.Lanes.{CleanFrom, clean-list}
@@ -58,6 +58,22 @@ module _ (mode : Mode) (src : List ℕ) where
   rest-steps : (n i next : ℕ) → next ≡ i + n → next ≤ length src → (rest_length mode src next + n ≤ rest_length mode src i) × (rest_length mode src i ≤ rest_length mode src next + 6 * n)
   rest-steps zero i next e h = let r : next ≡ i = omega arith in grind arith
   rest-steps (suc n) i next e h = let more = rest-steps n (i + 1) next (omega arith) h in grind (arith, rest-step)
+
+  -- and as many as they are, and five more for each lane that is set, where the bytes of all others are clean
+  pub rest-flagged : (n i : ℕ) (bits : List Bool) → i + n ≤ length src → ((k : ℕ) → k < n → get_or bits k false ≡ false → needs_escape mode (get_or src (i + k) 0) ≡ false) → rest_length mode src i ≤ rest_length mode src (i + n) + (n + 5 * flag_count bits)
+  rest-flagged zero i bits h clean = let r : i + 0 ≡ i = omega arith in grind arith
+  rest-flagged (suc n) i [] h clean =
+      let more = rest-flagged n (i + 1) [] (omega arith) (λ k few none. grind (arith, clean (suc k))) in
+      let there : i + suc n ≡ i + 1 + n = omega arith in let next = ap (rest_length mode src) there in
+      omega (arith, more, next, clean_rest mode src i (i + 1) (omega arith) (λ p late early. grind (arith, clean 0)) (omega arith))
+  rest-flagged (suc n) i (false ∷ bits) h clean =
+      let more = rest-flagged n (i + 1) bits (omega arith) (λ k few none. grind (arith, clean (suc k))) in
+      let there : i + suc n ≡ i + 1 + n = omega arith in let next = ap (rest_length mode src) there in
+      omega (arith, more, next, sum_by-cons (λ b. cond b 1 0) false bits, clean_rest mode src i (i + 1) (omega arith) (λ p late early. grind (arith, clean 0)) (omega arith))
+  rest-flagged (suc n) i (true ∷ bits) h clean =
+      let more = rest-flagged n (i + 1) bits (omega arith) (λ k few none. grind (arith, clean (suc k))) in
+      let there : i + suc n ≡ i + 1 + n = omega arith in let next = ap (rest_length mode src) there in
+      omega (arith, more, next, sum_by-cons (λ b. cond b 1 0) true bits, rest-step i (omega arith))
 
   -- the same, told of two places
   pub rest-between : (at next : ℕ) → at ≤ next → next ≤ length src → (rest_length mode src next + (next - at) ≤ rest_length mode src at) × (rest_length mode src at ≤ rest_length mode src next + 6 * (next - at))

@@ -15,7 +15,7 @@ ghost use Rattle.escape_simd.specs.Script.{IsOnlyScript};
 use crate::kernel::Kernel;
 use crate::mode::Mode;
 use crate::simd::{
-    HTML_MODE, JSON_MODE, SCRIPT_MODE, avx2, avx512, escape_at, neon, sse2, v128, whole,
+    HTML_MODE, JSON_MODE, SCRIPT_MODE, Vector, avx2, avx512, escape_at, neon, sse2, v128, whole,
 };
 
 /// Writes the output of a text in the mode `mode` to the front of `dst`, with the kernel `kernel`. Returns the length
@@ -263,17 +263,38 @@ fn format_by_other<const MODE: u8>(kernel: Kernel, value: &str, dst: &mut [u8]) 
     }
 }
 
-/// Writes what stands for the text in the mode numbered `MODE`, with no quotation marks, by the kernel.
+/// Writes what stands for the text in the mode numbered `MODE`, with no quotation marks, by the kernel. The default one is
+/// compared first here too.
 fn inner_by<const MODE: u8>(kernel: Kernel, value: &str, dst: &mut [u8]) -> usize
     requires { 6 * length value.now + 32 ≤ length dst.old }
     ensures { IsInnerWritten (lanes_of kernel) (mode_numbered MODE) value.now dst.old dst.new result }
 {
-    let src = value.as_bytes();
     match kernel {
-        Kernel::V128 => escape_at::<v128::Simd128u, MODE, 16>(src, dst, 0),
-        Kernel::Sse2 => escape_at::<sse2::Simd128u, MODE, 16>(src, dst, 0),
-        Kernel::Neon => escape_at::<neon::Simd128u, MODE, 16>(src, dst, 0),
-        Kernel::Avx2 => escape_at::<avx2::Simd256u, MODE, 32>(src, dst, 0),
-        Kernel::Avx512 => escape_at::<avx512::Simd512u, MODE, 64>(src, dst, 0),
+        Kernel::Avx2 => inner_at::<avx2::Simd256u, MODE, 32>(value, dst),
+        _ => inner_by_other::<MODE>(kernel, value, dst),
     }
+}
+
+/// As [`inner_by`], by any kernel.
+#[inline(never)]
+fn inner_by_other<const MODE: u8>(kernel: Kernel, value: &str, dst: &mut [u8]) -> usize
+    requires { 6 * length value.now + 32 ≤ length dst.old }
+    ensures { IsInnerWritten (lanes_of kernel) (mode_numbered MODE) value.now dst.old dst.new result }
+{
+    match kernel {
+        Kernel::V128 => inner_at::<v128::Simd128u, MODE, 16>(value, dst),
+        Kernel::Sse2 => inner_at::<sse2::Simd128u, MODE, 16>(value, dst),
+        Kernel::Neon => inner_at::<neon::Simd128u, MODE, 16>(value, dst),
+        Kernel::Avx2 => inner_at::<avx2::Simd256u, MODE, 32>(value, dst),
+        Kernel::Avx512 => inner_at::<avx512::Simd512u, MODE, 64>(value, dst),
+    }
+}
+
+/// As [`inner_by`], by the kernel of a vector.
+#[inline(always)]
+fn inner_at<V: Vector<N>, const MODE: u8, const N: usize>(value: &str, dst: &mut [u8]) -> usize
+    requires { 6 * length value.now + 32 ≤ length dst.old }
+    ensures { IsInnerWritten N (mode_numbered MODE) value.now dst.old dst.new result }
+{
+    escape_at::<V, MODE, N>(value.as_bytes(), dst, 0)
 }

@@ -1,16 +1,18 @@
 //! The body of all kernels: a text's bytes by chunks, by vectors, and the last ones.
 ghost use Rattle.std.specs.Prelude.{◌+◌, ◌*◌, ◌/◌, ◌<◌, ◌≤◌, true, length};
+ghost use Rattle.escape_lanes.specs.Bits.{bits_of};
+ghost use Rattle.escape_lanes.specs.Classified.{asked_of};
 ghost use Rattle.escape_lanes.specs.Written.{bytes_of};
 ghost use Rattle.escape_simd.specs.Modes.{mode_numbered};
 ghost use Rattle.escape_simd.specs.Formatted.{IsWrittenAt};
 ghost use Rattle.escape_simd.specs.Output.{inner};
 ghost use Rattle.escape_simd.specs.Parts.{IsPartAt};
-ghost use Rattle.escape_simd.specs.Stretch.{Escapes, HasRoom, reach, state};
+ghost use Rattle.escape_simd.specs.Stretch.{AreTail, Escapes, HasRoom, reach, state};
 
 use crate::simd::Vector;
 use crate::simd::chunk::{chunk, vector_from};
-use crate::simd::tail::escape_tail;
-use escape_lanes::simd::classify::classify;
+use crate::simd::tail::{TailFlags, escape_flagged_at, escape_tail, store_clean_tail};
+use escape_lanes::simd::classify::{Classified, classify};
 use escape_lanes::simd::target::{Target, Ticks};
 
 /// Escapes the bytes to the target from `to` on, with no quotation marks. Returns the place after them.
@@ -61,9 +63,61 @@ pub(crate) fn escape_chunks<V: Vector<N>, const MODE: u8, const N: usize>(
     (at, end)
 }
 
-/// As [`escape_bytes`], to `dst`, and with no count.
+/// As [`escape_bytes`], to `dst`, and with no count. A clean short text needs no frame.
 #[inline(never)]
 pub(crate) fn escape_at<V: Vector<N>, const MODE: u8, const N: usize>(
+    src: &[u8],
+    dst: &mut [u8],
+    to: usize,
+) -> usize
+    requires { to + 6 * length src.now + 32 ≤ length dst.old }
+    ensures { IsWrittenAt (reach true N) (inner (mode_numbered MODE) src.now) dst.old dst.new to result }
+{
+    if src.len() < 2 * N {
+        let mut target = Target::<N>::new(dst);
+        return match store_clean_tail::<V, MODE, N>(src, &mut target, to, &mut Ticks::new()) {
+            Ok(end) => end,
+            Err(flags) => escape_short_at::<V, MODE, N>(
+                src,
+                flags.first,
+                flags.first_classified,
+                flags.last,
+                flags.last_classified,
+                dst,
+                to,
+            ),
+        };
+    }
+    escape_any_at::<V, MODE, N>(src, dst, to)
+}
+
+/// As [`escape_at`], of a short text for which a classifier answered.
+#[inline(never)]
+fn escape_short_at<V: Vector<N>, const MODE: u8, const N: usize>(
+    text: &[u8],
+    first: u64,
+    first_classified: Classified<'_>,
+    last: u64,
+    last_classified: Classified<'_>,
+    dst: &mut [u8],
+    to: usize,
+) -> usize
+    requires flagged { AreTail (mode_numbered MODE) N text.now (bits_of 64 first) (bits_of 64 last) (asked_of first_classified) (asked_of last_classified) }
+    requires room { to + 6 * length text.now + 32 ≤ length dst.old }
+    ensures { IsWrittenAt (reach true N) (inner (mode_numbered MODE) text.now) dst.old dst.new to result }
+{
+    let flags = TailFlags {
+        first,
+        first_classified,
+        last,
+        last_classified,
+    };
+    escape_flagged_at::<V, MODE, N>(text, flags, dst, to)
+}
+
+/// As [`escape_at`], of any text.
+#[inline(never)]
+fn escape_any_at<V: Vector<N>, const MODE: u8, const N: usize>(
     src: &[u8],
     dst: &mut [u8],
     to: usize,

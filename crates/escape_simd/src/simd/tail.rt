@@ -230,7 +230,7 @@ pub(crate) fn escape_flagged_at<V: Vector<N>, const MODE: u8, const N: usize>(
     to: usize,
 ) -> usize
     requires flagged { AreTail (mode_numbered MODE) N text.now (bits_of 64 flags.first) (bits_of 64 flags.last) (asked_of flags.first_classified) (asked_of flags.last_classified) }
-    requires room { to + 6 * length text.now + 32 ≤ length dst.old }
+    requires room { HasRoom (mode_numbered MODE) (reach true N) text.now 0 (length text.now) to (length dst.old) }
     ensures { IsWrittenAt (reach true N) (inner (mode_numbered MODE) text.now) dst.old dst.new to result }
 {
     let mut target = Target::<N>::new(dst);

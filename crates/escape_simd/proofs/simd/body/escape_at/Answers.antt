@@ -3,12 +3,12 @@ use Rattle.escape_simd.proofs.Stretches.{room-six}
 use Rattle.escape_simd.proofs.Whole.{all-inner}
 use Rattle.escape_simd.proofs.simd.body.escape_at.Goals as goal
 
-pub escape_bytes-requires : goal.escape_bytes-requires
-escape_bytes-requires g c =
-    (omega arith, room-six (mode_numbered g.row.MODE) (reach true g.row.N) c.args.src.now 0 (length c.args.src.now) c.args.to (length (bytes_of c.new-target.result)) (omega arith) (omega arith) (omega (arith, c.requires, ap length c.new-target.ensures.bytes)))
+pub store_clean_tail-requires : goal.store_clean_tail-requires
+store_clean_tail-requires g c =
+    (omega arith, (omega (arith, c.if-src.true), room-six (mode_numbered g.row.MODE) (reach true g.row.N) c.args.src.now 0 (length c.args.src.now) c.args.to (length (bytes_of c.new-target.result)) (omega arith) (omega arith) (omega (arith, c.requires, ap length c.new-target.ensures.bytes))))
 
-pub returns : goal.returns
-returns g c =
+pub returns-in-Ok : goal.returns-in-Ok
+returns-in-Ok g c =
     let mode = mode_numbered g.row.MODE in let slack = reach true g.row.N in
-    let w = subst (λ (xs : List ℕ). IsWrittenAt slack (inner mode c.args.src.now) xs (bytes_of c.escape_bytes.new.target) c.args.to c.escape_bytes.result) c.new-target.ensures.bytes (all-inner c.escape_bytes.ensures.stretch) in
+    let w = subst (λ (xs : List ℕ). IsWrittenAt slack (inner mode c.args.src.now) xs (bytes_of c.store_clean_tail.new.target) c.args.to c.in-Ok.end) c.new-target.ensures.bytes (all-inner c.in-Ok.ensures.clean.stretch) in
     search (rules, w)

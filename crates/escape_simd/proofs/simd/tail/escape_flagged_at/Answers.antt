@@ -1,11 +1,10 @@
-use Rattle.escape_simd.proofs.Words.{true, ℕ, List, length, ap, subst, rules, arith, bytes_of, IsWrittenAt, mode_numbered, inner, reach}
-use Rattle.escape_simd.proofs.Stretches.{room-six}
+use Rattle.escape_simd.proofs.Words.{true, ℕ, List, length, subst, sym, rules, arith, bytes_of, HasRoom, IsWrittenAt, mode_numbered, inner, reach}
 use Rattle.escape_simd.proofs.Whole.{all-inner}
 use Rattle.escape_simd.proofs.simd.tail.escape_flagged_at.Goals as goal
 
 pub escape_flagged_tail-requires : goal.escape_flagged_tail-requires
 escape_flagged_tail-requires g c =
-    (omega arith, (c.requires.flagged, room-six (mode_numbered g.row.MODE) (reach true g.row.N) c.args.text.now 0 (length c.args.text.now) c.args.to (length (bytes_of c.new-target.result)) (omega arith) (omega arith) (omega (arith, c.requires.room, ap length c.new-target.ensures.bytes))))
+    (omega arith, (c.requires.flagged, subst (λ (xs : List ℕ). HasRoom (mode_numbered g.row.MODE) (reach true g.row.N) c.args.text.now 0 (length c.args.text.now) c.args.to (length xs)) (sym c.new-target.ensures.bytes) c.requires.room))
 
 pub returns : goal.returns
 returns g c =

@@ -170,13 +170,17 @@ def test_not_text():
         for wrong in 5, None, ["a"], object(), str:
             error = raised_by(ours, wrong)
             assert type(error) is TypeError and "takes a str or bytes, not %s" % type(wrong).__name__ in str(error), error
-        for arguments in (), ("a", "b"):
-            assert type(raised_by(ours, *arguments)) is TypeError
-        assert type(raised_by(ours, "a", other=True)) is TypeError
-        assert type(raised_by(ours, text="a")) is TypeError
-    assert type(raised_by(library.json, "a", markup=True)) is TypeError
-    assert type(raised_by(library.html, "a", True)) is TypeError
-    assert type(raised_by(library.html, "a", markup=True, other=1)) is TypeError
+
+
+def test_wrong_arguments():
+    """wrong arguments are a TypeError that names the call"""
+    for ours, _ in PAIRS:
+        given = [((), {}), (("a", "b"), {}), (("a",), {"other": True}), ((), {"text": "a"})]
+        given += [(("a",), {"markup": True})] if ours is library.json else [(("<", True), {}), (("a",), {"markup": True, "other": 1})]
+        for arguments, named in given:
+            error = raised_by(ours, *arguments, **named)
+            assert type(error) is TypeError, (ours.__name__, error)
+            assert re.match(r"(escape_simd\._escape\.)?%s\(\) " % ours.__name__, str(error)), (ours.__name__, error)
 
 
 def test_surrogates():

@@ -13,7 +13,6 @@ templates do not escape again.
 """
 
 from . import _escape
-from ._escape import html, json, script
 
 __all__ = ["Markup", "__version__", "html", "json", "script"]
 __version__ = "%d.%d.%d" % (_escape.version // 10000, _escape.version // 100 % 100, _escape.version % 100)
@@ -41,24 +40,26 @@ def _text(name, text, as_str=False):
     return text.decode() if as_str else text
 
 
-def _json(text, /):
-    return json(_text("json", text))
+def json(text, /):
+    return _escape.json(_text("json", text))
 
 
-def _html(text, /, *, markup=False):
+def html(text, /, *, markup=False):
     if hasattr(text, "__html__"):
         output = text.__html__()
         if not isinstance(output, str):
             raise TypeError("__html__() returned %s, not a str" % type(output).__name__)
     else:
-        output = html(_text("html", text, markup))
+        output = _escape.html(_text("html", text, markup))
     return Markup(output) if markup else output
 
 
-def _script(text, /, *, markup=False):
-    output = script(_text("script", text, markup))
+def script(text, /, *, markup=False):
+    output = _escape.script(_text("script", text, markup))
     return Markup(output) if markup else output
 
 
-# The calls in C are for a str or bytes alone. With other arguments they call these.
-_escape._json, _escape._html, _escape._script = _json, _html, _script
+# The calls in C are for a str or bytes alone. With other arguments they call these, which have the same names, since
+# Python's errors give the name of a function.
+_escape._json, _escape._html, _escape._script = json, html, script
+json, html, script = _escape.json, _escape.html, _escape.script

@@ -7,7 +7,8 @@
 // (std::bad_alloc, std::length_error). A call that throws leaves its target as it was.
 //
 // A text of any size is escaped by pieces, over a buffer of 12 KiB on the stack. So a result allocates only
-// what std::string needs for the output itself, and an append allocates nothing if the target has room.
+// what std::string needs for the output itself. An append allocates nothing if the target has room and the text
+// does not begin in the target.
 #ifndef ESCAPE_HPP
 #define ESCAPE_HPP
 
@@ -107,7 +108,8 @@ inline std::string html(std::string_view text) { return detail::output(detail::h
 // escaped too.
 inline std::string script(std::string_view text) { return detail::output(detail::script, text); }
 
-// Appends what json(text) returns. The text may be a part of the target, as for the next two.
+// Appends what json(text) returns. The text may be a part of the target: it is then copied first, to a string of
+// its own, which allocates as std::string does for that text. The next two do the same.
 inline void append_json(std::string &target, std::string_view text) { detail::append(detail::json, target, text); }
 
 // Appends what html(text) returns.

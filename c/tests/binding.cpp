@@ -112,7 +112,10 @@ void test_room() {
     string target = "kept";
     target.reserve(1000);
     const char *data = target.data();
-    escape::append_html(target, string(100, '<'));
+    const string text(100, '<');
+    allocations_left = 0;
+    escape::append_html(target, text);
+    allocations_left = -1;
     expect(target.data() == data && target.size() == 4 + 100 * 4, "a target with room was moved");
     expect(escape::json(string(100000, 'a')).capacity() < 2 * 100000, "a result keeps room for scratch");
 }
@@ -126,6 +129,19 @@ void test_target_as_text() {
     for (int n = 0; n < 5000; n++) wanted += "\\\"";
     escape::append_json(large, large);
     expect_text(large, wanted + '"');
+    // The part is copied first, also where the target has room.
+    string roomy(100, '<');
+    roomy.reserve(1000);
+    allocations_left = 0;
+    try {
+        escape::append_html(roomy, roomy);
+        expect(false, "a part of the target took no memory");
+    } catch (const std::bad_alloc &) {
+    }
+    allocations_left = 1;
+    escape::append_html(roomy, roomy);
+    allocations_left = -1;
+    expect(roomy.size() == 100 + 100 * 4, "a part of the target took more than its copy");
 }
 
 // Whether the call throws an escape::error for text that is not UTF-8, and leaves the target.

@@ -25,8 +25,9 @@
  *
  * What the caller owes: `text` points to `length` bytes, `buffer` to `room` bytes and `count` to one
  * size_t. The buffer and the count may overlap neither each other nor the text. Where a length is 0 its
- * pointer may be null; with another length a null pointer is taken for the address 0x1000, and the call
- * crashes there. `count` may not be null. And an `_unchecked` call gets UTF-8.
+ * pointer may be null; with another length a null pointer is taken for the address 0x1000, and a call that
+ * reads or writes there crashes, at an address from 0x1000 to 0x1fff. `count` may not be null. And an
+ * `_unchecked` call gets UTF-8.
  *
  * Every kernel writes the same bytes. The library is built for one level of processor, so each kernel
  * runs wherever the library does; ESCAPE_DEFAULT is the one that is fastest at most texts.

@@ -2,6 +2,8 @@
 #include "escape.h"
 
 #include <pthread.h>
+#include <setjmp.h>
+#include <signal.h>
 #include <stdarg.h>
 #include <stdio.h>
 #include <stdlib.h>
@@ -314,6 +316,53 @@ static void test_null(void) {
             count = 12345;
             if (mode->checked(kernel, NULL, 0, NULL, 0, &count) != ESCAPE_TOO_SHORT || count != 0) fault("%s, kernel %u, no buffer", mode->name, (unsigned)kernel);
         }
+}
+
+static sigjmp_buf before_crash;
+static volatile size_t crash_address;
+
+static void on_crash(int number, siginfo_t *info, void *context) {
+    (void)number, (void)context;
+    crash_address = (size_t)info->si_addr;
+    siglongjmp(before_crash, 1);
+}
+
+/* Makes a call, by its place among those of a mode. Answers the address at which it crashes, and 0 if it returns. */
+static size_t crash_of(const struct mode *mode, size_t place, escape_kernel kernel, const char *text, size_t length, char *buffer) {
+    call *const calls[] = {mode->checked, mode->unchecked, mode->inner, mode->inner_unchecked};
+    size_t count;
+    if (sigsetjmp(before_crash, 1)) return crash_address;
+    if (place < 4) calls[place](kernel, text, length, buffer, mode->bound(length), &count);
+    else if (place == 4) mode->exact(text, length, buffer, mode->bound(length), &count);
+    else mode->length(text, length, &count);
+    return 0;
+}
+
+/* A null pointer with a length is taken for the address 0x1000. A call that reads or writes there crashes in the 4096
+ * bytes from it on, whatever it touches first. */
+static void test_null_with_length(void) {
+    enum { MOST = 9000 };
+    static char text[MOST], buffer[6 * MOST + 35];
+    struct sigaction crash, segv, bus;
+    size_t length, m, place, at;
+    escape_kernel kernel;
+    memset(text, '"', sizeof text);
+    memset(&crash, 0, sizeof crash);
+    crash.sa_sigaction = on_crash;
+    crash.sa_flags = SA_SIGINFO;
+    sigaction(SIGSEGV, &crash, &segv);
+    sigaction(SIGBUS, &crash, &bus);
+    for (length = 1; length <= MOST; length += length < 140 ? 1 : 443)
+        for (m = 0; m < MODE_COUNT; m++)
+            for (place = 0; place < 6; place++)
+                for (kernel = 0; kernel < (place < 4 ? KERNELS : 1); kernel++) {
+                    at = crash_of(&MODES[m], place, kernel, NULL, length, buffer);
+                    if (at / 0x1000 != 1) fault("%s, call %zu, kernel %u, %zu bytes: the text at %zx", MODES[m].name, place, (unsigned)kernel, length, at);
+                    at = place < 5 ? crash_of(&MODES[m], place, kernel, text, length, NULL) : 0x1000;
+                    if (at / 0x1000 != 1) fault("%s, call %zu, kernel %u, %zu bytes: the buffer at %zx", MODES[m].name, place, (unsigned)kernel, length, at);
+                }
+    sigaction(SIGSEGV, &segv, NULL);
+    sigaction(SIGBUS, &bus, NULL);
 }
 
 /* Pages with one before and one after that may be neither read nor written. Answers the first byte. */
@@ -635,6 +684,7 @@ int main(void) {
     test("bounds", test_bounds);
     test("each status, the buffer unchanged, the count 0", test_statuses);
     test("null is an empty text", test_null);
+    test("null with a length crashes from 0x1000 to 0x1fff", test_null_with_length);
     test("source and target flush against forbidden pages", test_forbidden_pages);
     test("every kernel at every border, canaries past both limits", test_kernels);
     test("100,000 random texts against a byte loop", test_random_texts);

@@ -1,5 +1,5 @@
 //! JSON string literals, also for a script element, to formatters, writers and `String`s, and of many texts.
-ghost use Rattle.std.specs.Prelude.{◌≡◌, ◌+◌, ◌<◌, ◌≤◌, ◌↔◌, ◌++◌, length, take, string_bytes, string_len, string_capacity, slice_get, All, Some, Err, IsOk, IfOk, OnOk, OnErr, IfErr, IfSome};
+ghost use Rattle.std.specs.Prelude.{◌≡◌, ◌+◌, ◌<◌, ◌≤◌, ◌↔◌, ◌++◌, length, take, string_bytes, string_len, string_capacity, slice_get, All, Any, Some, Err, IsOk, IfOk, OnOk, OnErr, IfErr, IfSome};
 ghost use Rattle.std.specs.Io.KnownBytes.{Appends};
 ghost use Rattle.std.specs.List.{join_by};
 ghost use Rattle.escape_lanes.specs.Mode.{json, script};
@@ -238,8 +238,8 @@ pub fn escape_joined_into<A: Allocator>(
 ///
 /// # Errors
 ///
-/// The error for the first text that is refused, or `OutOfMemory` for a bracket or a comma. `dst` keeps the bytes that it
-/// had, and has no others.
+/// The error for the first text that is refused, or `OutOfMemory` for a bracket or a comma. It is `TooLarge` only if
+/// `6 * n + 35` exceeds `usize::MAX` for a text. `dst` keeps the bytes that it had, and has no others.
 ///
 /// ```rust
 /// escape_array_into(&["a", "\n"], &mut line)?; // ["a","\n"]
@@ -250,7 +250,10 @@ pub fn escape_array_into<A: Allocator>(
 ) -> Result<(), EscapeError>
     ensures exact { OnOk result (dst.new.items
         ≡ dst.old.items ++ array_of (λ v. plain json v.now) values.now) }
+    ensures fits { OnOk result (All (λ v. bound json (length v.now) ≤ usize.MAX) values.now) }
     ensures unchanged { OnErr result (dst.new.items ≡ dst.old.items) }
+    ensures too_large { result ≡ Err EscapeError.TooLarge
+        → Any (λ v. usize.MAX < bound json (length v.now)) values.now }
 {
     Ok(append_array::<{ JSON_MODE }, A>(values, dst)?)
 }
@@ -269,9 +272,12 @@ pub fn escape_script_array_into<A: Allocator>(
 ) -> Result<(), EscapeError>
     ensures exact { OnOk result (dst.new.items
         ≡ dst.old.items ++ array_of (λ v. plain script v.now) values.now) }
+    ensures fits { OnOk result (All (λ v. bound script (length v.now) ≤ usize.MAX) values.now) }
     ensures safe { OnOk result
         (IsSafeInScript (array_of (λ v. plain script v.now) values.now)) }
     ensures unchanged { OnErr result (dst.new.items ≡ dst.old.items) }
+    ensures too_large { result ≡ Err EscapeError.TooLarge
+        → Any (λ v. usize.MAX < bound script (length v.now)) values.now }
 {
     Ok(append_array::<{ SCRIPT_MODE }, A>(values, dst)?)
 }

@@ -1,5 +1,5 @@
 //! The outputs of many texts, with a text between each two.
-ghost use Rattle.std.specs.Prelude.{◌≡◌, ◌<◌, ◌≤◌, ◌↔◌, ◌++◌, ◌==◌, [], length, take, All, Err, OnOk, OnErr, IfErr, IfSome, slice_get, vec_len, if◌then◌else◌};
+ghost use Rattle.std.specs.Prelude.{◌≡◌, ◌<◌, ◌≤◌, ◌↔◌, ◌++◌, ◌==◌, [], length, take, All, Any, Err, OnOk, OnErr, IfErr, IfSome, slice_get, vec_len, if◌then◌else◌};
 ghost use Rattle.std.specs.List.{join_by};
 ghost use Rattle.escape_text.specs.Lists.{array_of};
 ghost use Rattle.escape_simd.specs.Modes.{mode_numbered};
@@ -112,7 +112,11 @@ pub(crate) fn append_array<const MODE: u8, A: Allocator>(
     requires mode { MODE ≤ 2 }
     ensures exact { OnOk result (dst.new.items
         ≡ dst.old.items ++ array_of (λ v. plain (mode_numbered MODE) v.now) values.now) }
+    ensures fits { OnOk result
+        (All (λ v. bound (mode_numbered MODE) (length v.now) ≤ usize.MAX) values.now) }
     ensures unchanged { OnErr result (dst.new.items ≡ dst.old.items) }
+    ensures too_large { result ≡ Err Refusal.TooLarge
+        → Any (λ v. usize.MAX < bound (mode_numbered MODE) (length v.now)) values.now }
 {
     let len = dst.len();
     let appended = append_brackets::<MODE, A>(values, dst);
@@ -130,7 +134,11 @@ fn append_brackets<const MODE: u8, A: Allocator>(
     requires mode { MODE ≤ 2 }
     ensures exact { OnOk result (dst.new.items
         ≡ dst.old.items ++ array_of (λ v. plain (mode_numbered MODE) v.now) values.now) }
+    ensures fits { OnOk result
+        (All (λ v. bound (mode_numbered MODE) (length v.now) ≤ usize.MAX) values.now) }
     ensures front { take (vec_len dst.old) dst.new.items ≡ dst.old.items }
+    ensures too_large { result ≡ Err Refusal.TooLarge
+        → Any (λ v. usize.MAX < bound (mode_numbered MODE) (length v.now)) values.now }
 {
     dst.extend_from_slice(b"[")?;
     if let Err((_, refusal)) = append_joined::<MODE, A>(values, ",", dst) {

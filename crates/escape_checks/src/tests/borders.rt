@@ -4,7 +4,9 @@ use crate::plain::plain;
 use crate::routes::{KERNELS, MODES, WAYS, Way, format, lanes};
 use crate::tests::texts::{LENGTHS, WIDTHS, repeated};
 use crate::tests::whole_targets::{UNTOUCHED, is_right_by};
-use escape_simd::Kernel;
+use escape_simd::{
+    Kernel, format_html_string, format_inner, format_json_inner, format_script_inner,
+};
 use escape_stream::Mode;
 use std::process::Abort;
 
@@ -80,27 +82,55 @@ fn a_quote_before_the_rest(rt: HostRuntime) {
     }
 }
 
-/// Whether this way to the kernel writes one letter, and after it zeros up to `stored` bytes.
-fn is_stored(way: Way, kernel: Kernel, stored: usize) -> bool {
+/// What one letter, the last of a text, leaves in a target. Four kernels store a whole vector for it, with
+/// zeros, and the widest just the letter.
+fn one_letter(kernel: Kernel) -> [u8; 100] {
+    let stored = match kernel {
+        Kernel::Avx512 => 1,
+        _ => lanes(kernel),
+    };
     let mut target = [UNTOUCHED; 100];
-    let count = format(way, kernel, Mode::Html, "a", &mut target);
-    let mut wanted = [UNTOUCHED; 100];
-    wanted[..stored.min(100)].fill(0);
-    wanted[0] = b'a';
-    count == 1 && target == wanted
+    target[..stored.min(100)].fill(0);
+    target[0] = b'a';
+    target
 }
 
-// One letter is the last of a text. Four kernels store a whole vector for it, with zeros, and the widest
-// just the letter. So a loop over bytes shows, and so does a kernel of another width.
+/// Whether this way to the kernel leaves that.
+fn is_stored(way: Way, kernel: Kernel) -> bool {
+    let mut target = [UNTOUCHED; 100];
+    let count = format(way, kernel, Mode::Html, "a", &mut target);
+    count == 1 && target == one_letter(kernel)
+}
+
+// So a loop over bytes shows, and so does a kernel of another width.
 #[test]
 fn byte_loop_behind_kernel(rt: HostRuntime) {
     for kernel in KERNELS {
-        let stored = match kernel {
-            Kernel::Avx512 => 1,
-            _ => lanes(kernel),
-        };
         for way in WAYS {
-            assert!(rt; is_stored(way, kernel, stored), "{way:?} {kernel:?}");
+            assert!(rt; is_stored(way, kernel), "{way:?} {kernel:?}");
+        }
+    }
+}
+
+/// Whether a call by the kernel without quotation marks leaves that, and so does the one that names the mode.
+fn is_inner_stored(kernel: Kernel, mode: Mode) -> bool {
+    let mut target = [UNTOUCHED; 100];
+    let mut named = [UNTOUCHED; 100];
+    let count = format_inner(kernel, mode, "a", &mut target);
+    let named_count = match mode {
+        Mode::Json => format_json_inner(kernel, "a", &mut named),
+        Mode::Html => format_html_string(kernel, "a", &mut named),
+        Mode::Script => format_script_inner(kernel, "a", &mut named),
+    };
+    let wanted = one_letter(kernel);
+    count == 1 && target == wanted && named_count == 1 && named == wanted
+}
+
+#[test]
+fn inner_by_another_kernel(rt: HostRuntime) {
+    for kernel in KERNELS {
+        for mode in MODES {
+            assert!(rt; is_inner_stored(kernel, mode), "{kernel:?} {mode:?}");
         }
     }
 }

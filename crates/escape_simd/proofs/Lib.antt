@@ -21,6 +21,7 @@ pub mod Lengths
 pub mod HtmlLemmas
 pub mod JsonLemmas
 pub mod ScriptLemmas
+pub mod ExamplesLemmas
 pub mod OutputLemmas
 pub mod Pieces
 pub mod EscapingLemmas

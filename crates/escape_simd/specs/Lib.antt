@@ -14,6 +14,7 @@ pub mod Spelling
 pub mod Html
 pub mod Json
 pub mod Script
+pub mod Examples
 pub mod Headline
 pub mod Laws
 pub mod Markup

@@ -3,6 +3,7 @@
 ghost use Rattle.std.specs.Prelude.{◌+◌, ◌*◌, ◌≤◌, ◌++◌, length, take, chars};
 ghost use Rattle.escape_lanes.specs.Mode.{json, html, script};
 ghost use Rattle.escape_simd.specs.Escaping.{IsEscaping};
+ghost use Rattle.escape_simd.specs.Examples.{HtmlExamples, JsonExamples, ScriptExamples};
 ghost use Rattle.escape_simd.specs.Formatted.{IsInnerWritten, IsWritten};
 ghost use Rattle.escape_simd.specs.Headline.{IsOnlyOutput};
 ghost use Rattle.escape_simd.specs.Json.{IsOnlyJson};
@@ -140,9 +141,12 @@ pub fn format_html_string(kernel: Kernel, value: &str, dst: &mut [u8]) -> usize
 /// let mut dst = [0; 38];
 /// let text = format_html_str(Kernel::Avx2, "<", &mut dst); // &lt;
 /// ```
+#[tactic(auto, using(crate::proofs::ExamplesLemmas::html_examples))]
 pub fn format_html_str<'a>(kernel: Kernel, value: &str, dst: &'a mut [u8]) -> &'a str
     requires has_room { bound html (length value.now) ≤ length dst.old }
     ensures output { IsEscaping html value.now result.now }
+    // Examples of what HTML reads as.
+    ensures examples { HtmlExamples }
 {
     let count = format_html_string(kernel, value, dst);
     // The output for a text is a text.
@@ -203,10 +207,13 @@ pub fn format_script_str<'a>(kernel: Kernel, value: &str, dst: &'a mut [u8]) -> 
 /// let mut dst = [0; 38];
 /// let len = format_json_inner(Kernel::Avx2, "\"", &mut dst); // 2
 /// ```
+#[tactic(auto, using(crate::proofs::ExamplesLemmas::json_examples))]
 pub fn format_json_inner(kernel: Kernel, value: &str, dst: &mut [u8]) -> usize
     requires has_room { 6 * length value.now + 32 ≤ length dst.old }
     ensures written { IsInnerWritten (lanes_of kernel) json value.now dst.old dst.new result }
     ensures headline { IsOnlyJson (quoted (take result dst.new)) (chars value.now) }
+    // Examples of what a literal denotes.
+    ensures examples { JsonExamples }
 {
     format_inner(kernel, Mode::Json, value, dst)
 }
@@ -227,10 +234,13 @@ pub fn format_json_inner(kernel: Kernel, value: &str, dst: &mut [u8]) -> usize
 /// let mut dst = [0; 38];
 /// let len = format_script_inner(Kernel::Avx2, "<", &mut dst); // 6
 /// ```
+#[tactic(auto, using(crate::proofs::ExamplesLemmas::script_examples))]
 pub fn format_script_inner(kernel: Kernel, value: &str, dst: &mut [u8]) -> usize
     requires has_room { 6 * length value.now + 32 ≤ length dst.old }
     ensures written { IsInnerWritten (lanes_of kernel) script value.now dst.old dst.new result }
     ensures headline { IsOnlyScript (quoted (take result dst.new)) (chars value.now) }
+    // Examples of what `IsOnlyScript` takes for a literal without raw marks.
+    ensures examples { ScriptExamples }
 {
     format_inner(kernel, Mode::Script, value, dst)
 }

@@ -21,7 +21,6 @@ use crate::simd::traits::{BitMask, Simd};
 use crate::simd::vector::Vector;
 use crate::tables::{HTML_HI_NIBBLE_TAB, HTML_LO_NIBBLE_TAB};
 pub use mask::Mask128;
-use mask::bits;
 pub(crate) use script::script_needs;
 pub use script::{script_flags, script_mask};
 use std::simd::prelude::*;
@@ -184,11 +183,11 @@ pub fn escaped_mask_vec<const HTML: bool>(v: &Simd128u, ticks: &mut Ticks) -> Ma
     }
 }
 
-/// Returns the bit mask of [`escaped_flags`], which is called once, so it ticks once.
+/// Returns the bit mask of [`escaped_mask_vec`], which is called once, so it ticks once.
 #[inline(always)]
 pub fn escaped_mask<const HTML: bool>(v: &Simd128u, ticks: &mut Ticks) -> NeonBits
     ensures lanes { ⟦<NeonBits as BitMask>⟧.bits result ≡ map (needs_escape (mode_of HTML)) (⟦<Simd128u as Simd>⟧.lanes v.now) }
     ensures tick { ticks.new ≡ ticks.old + 1 }
 {
-    bits(&lanes::flag_mask(&escaped_flags::<HTML>(v, ticks).lanes))
+    escaped_mask_vec::<HTML>(v, ticks).bitmask()
 }

@@ -1,10 +1,11 @@
 //! The classifiers of each kernel, on every byte.
+ghost use Rattle.std.specs.Prelude.{◌<◌};
 
 use crate::tests::bit_masks::has_fronts;
 use crate::tests::tables::is_flagged;
 use escape_lanes::simd::bits::NeonBits;
 use escape_lanes::simd::target::Ticks;
-use escape_lanes::simd::{Flags, Mask, Simd, avx2, avx512, neon, sse2, v128};
+use escape_lanes::simd::{BitMask, Flags, Mask, Simd, avx2, avx512, neon, sse2, v128};
 use escape_stream::Mode;
 use std::process::Abort;
 
@@ -189,4 +190,33 @@ fn neon_masks_of_lanes(rt: HostRuntime) {
     let json = neon::escaped_mask_vec::<false>(&v, &mut ticks).bitmask();
     has_fronts(&rt, &html, &[(12, (3, 3, false)), (13, (3, 16, true))]);
     has_fronts(&rt, &json, &[(13, (2, 2, false)), (14, (2, 16, true))]);
+}
+
+/// The first lane that is set of the neighbours from this byte on, in HTML and in JSON: by the bit mask, and by the mask.
+fn neon_firsts(at: usize) -> [[usize; 2]; 2]
+    requires { at < 16 }
+{
+    let v = neon::Simd128u::loadu(&NEIGHBOURS[at..]);
+    let mut ticks = Ticks::new();
+    let html = neon::escaped_mask_vec::<true>(&v, &mut ticks).bitmask();
+    let json = neon::escaped_mask_vec::<false>(&v, &mut ticks).bitmask();
+    [
+        [
+            neon::escaped_mask::<true>(&v, &mut ticks).first_offset(),
+            html.first_offset(),
+        ],
+        [
+            neon::escaped_mask::<false>(&v, &mut ticks).first_offset(),
+            json.first_offset(),
+        ],
+    ]
+}
+
+#[test]
+fn neon_masks_of_neighbours(rt: HostRuntime) {
+    for at in 0..16usize {
+        let html = (0x003f_003fu32 >> at).first_offset();
+        let json = (0x2001_2001u32 >> at).first_offset();
+        assert!(rt; neon_firsts(at) == [[html; 2], [json; 2]], "{at}");
+    }
 }

@@ -1,0 +1,4 @@
+-- `store_lanes` has no loop.
+-- A wrong body with one has to be refused for what it writes, and not because its loop has no invariant.
+-- So its edit (must-fail/store_lanes) puts the invariant
+-- in place of these four lines.

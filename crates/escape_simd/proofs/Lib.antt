@@ -11,6 +11,7 @@ pub mod Stretches
 pub mod Lanes
 pub mod Shortened
 pub mod Pasted
+pub mod RunsOfFlags
 pub mod Turns
 pub mod Vectors
 pub mod Last

@@ -1,10 +1,11 @@
 -- How far the turns of a vector have come.
-use Rattle.escape_simd.proofs.Words.{◌≡◌, ℕ, zero, suc, ◌+◌, ◌-◌, ◌<◌, ◌≤◌, Bool, true, false, true≢false, List, length, take, drop, get_or, refl, sym, subst, ◌∙◌, arith, append_assoc, false_from_ne_true, take-take, take-add, bytes_of, first_set, none_set, clear_first, Mode, needs_escape, stored_of, Target, run_count, run_count_after, Stretch, CanStore, Escaped, Escapes, HasRoom, HoldsFlags, IsFinished, IsFlaggedAt, IsStored, IsVectorAt, IsVectorEnd, state}
-use Rattle.escape_simd.proofs.Escapes.{passed-after, reach-few}
-use Rattle.escape_simd.proofs.Texts.{first-here, next-here, one≤passed, runs_after-≤, runs_stop-here}
-use Rattle.escape_simd.proofs.Stretches.{onward_to, room-least, standing, stored_ahead, stretch-on}
+use Rattle.escape_simd.proofs.Words.{◌≡◌, ℕ, ◌+◌, ◌-◌, ◌<◌, ◌≤◌, Bool, true, false, List, length, take, drop, get_or, refl, sym, subst, arith, append_assoc, take-take, take-add, bytes_of, first_set, none_set, Mode, needs_escape, stored_of, Target, run_count, run_count_after, Stretch, CanStore, EscapedRun, Escapes, HasRunRoom, IsRunEnd, inl, HasRoom, HoldsFlags, IsFinished, IsFlaggedAt, IsRunAt, IsStored, IsVectorAt, IsVectorEnd, state}
+use Rattle.escape_simd.proofs.Escapes.{reach-few}
+use Rattle.escape_simd.proofs.Texts.{runs_after-≤, runs_stop-here}
+use Rattle.escape_simd.proofs.Stretches.{onward_to, room-least, room-near, room-on, standing, stored_ahead, stretch-on}
 use Rattle.escape_simd.proofs.RestSteps.{clean_escaped, clean_inner, clean_rest, clean_runs}
-use Rattle.escape_simd.proofs.Lanes.{CleanFrom, cleared-later, first-set, first_set-here, first_set-least, held-cleared, held-first, held-further, held-none, none-before}
+use Rattle.escape_simd.proofs.RunsOfFlags.{run-room}
+use Rattle.escape_simd.proofs.Lanes.{CleanFrom, first-set, first_set-here, held-first, held-further, held-none}
 
 -- The bytes of a vector from `next` on are left, with what is written at `to`. The mask has their flags alone.
 pub record IsLeftAt (mode : Mode) (N slack : ℕ) (src : List ℕ) (valid next to size : ℕ) (bits : List Bool) : Type 0 where
@@ -37,11 +38,6 @@ pub ahead-front : {N : ℕ} (mode : Mode) (src : List ℕ) (target : Target N) (
 ahead-front mode src target from border to left whole same count within clean =
     let few : count ≤ left = omega arith in
     rw (← take-take count left _ few, ← take-take count left (drop from src) few, same) refl
-
--- where a byte needs an escape, no clean byte follows that place
-pub ahead-flagged : {N : ℕ} (mode : Mode) (src : List ℕ) (target : Target N) (from border to : ℕ) → needs_escape mode (get_or src from 0) ≡ true → CleanAhead mode src target from border to
-ahead-flagged mode src target from border to needed zero within clean = refl
-ahead-flagged mode src target from border to needed (suc count) within clean = absurd (true≢false (sym needed ∙ clean from (omega arith) (omega arith)))
 
 -- what clean bytes that stand in a target are passed as
 pub ahead-passed : {N : ℕ} (mode : Mode) (slack : ℕ) (src : List ℕ) (target : Target N) (from border next to : ℕ) → CleanAhead mode src target from border to → from ≤ next → next ≤ border → border ≤ length src → CleanFrom mode src from next
@@ -76,87 +72,64 @@ module _ {N : ℕ} {mode : Mode} {slack : ℕ} {src : List ℕ} {old mid : Targe
   pub turn-place : IsFlaggedAt mode src flagged × (next ≤ flagged) × (flagged < valid) × CleanFrom mode src next flagged
   turn-place = first-left so_far.left so_far.some is
 
-  -- there is room for its entry
+  -- it begins a run, which has room
+  pub turn-run : IsRunAt mode src valid flagged bits × HasRunRoom mode src flagged valid (end + (flagged - next)) (length (bytes_of mid))
+  turn-run =
+      let w = so_far.left in let p = turn-place in let clean = ahead-passed mode slack src mid next valid flagged end so_far.ahead p.1 (omega (arith, p)) (omega (arith, w.inside)) p.3 in (
+        record { flags = held-further mode src 0 valid next bits w.flags flagged p.1; some = so_far.some; first = is; inside = omega (arith, w.inside) },
+        inl (room-near valid 8 (omega arith) (omega (arith, w.inside)) (omega (arith, so_far.eight)) (room-on clean w.room)),
+      )
+
+  -- and its first entry
   pub turn-room : end + (flagged - next) + 8 ≤ length (bytes_of mid)
-  turn-room =
-      let least = room-least (omega (arith, so_far.left.before)) (omega (arith, so_far.left.inside)) so_far.left.room in
-      omega (arith, turn-place, least, so_far.eight)
+  turn-room = run-room turn-run.1 turn-place.2 (omega (arith, so_far.left.inside))
 
-  module _ {new : Target N} {after reached : ℕ} (done : Escaped mode src mid new flagged after (end + (flagged - next)) reached) where
-    -- the place after it
-    pub turn-after : (flagged < after) × (after ≤ flagged + 3)
-    turn-after = grind (arith, one≤passed)
-
-    -- what was passed with it is clean
-    turn-between : CleanFrom mode src (flagged + 1) after
-    turn-between p late before = passed-after mode src flagged after p done.place (omega arith) before
-
+  module _ {new : Target N} {after reached : ℕ} {rest : List Bool} (done : EscapedRun mode src mid new flagged after (end + (flagged - next)) reached) (on : flagged < after) (over : IsRunEnd mode src valid after rest) where
     -- all that was passed up to here
     turn-stretch : Stretch mode (valid - after + slack) src old new 0 after to reached
     turn-stretch =
-        let p = turn-place in let on = stretch-on done.stretch in let few = reach-few mode in let u = turn-after in
+        let p = turn-place in let h = stretch-on done.stretch in let few = reach-few mode in
         let clean = ahead-passed mode (valid - flagged + slack) src mid next valid flagged end so_far.ahead p.1 (omega arith) (omega (arith, so_far.left.inside)) p.3 in
         onward_to (valid - after + slack) (onward_to (valid - flagged + slack) so_far.stretch clean (omega arith) (omega arith)) done.stretch (omega arith) (omega arith)
 
     -- its run goes on
     turn-runs : run_count_after mode true (drop after src) + 1 ≡ run_count mode (drop next src)
-    turn-runs = rw done.place (omega (arith, first-here mode src flagged turn-place.0.inside turn-place.0.needed, ahead-runs mode src next flagged turn-place.1 turn-place.3))
+    turn-runs = omega (arith, done.run, ahead-runs mode src next flagged turn-place.1 turn-place.3)
 
     -- what is left has room
     turn-rest_room : HasRoom mode slack src after valid reached (length (bytes_of new))
     turn-rest_room = record { fits = omega (arith, turn-stretch.limit, so_far.stretch.limit, so_far.left.room.fits, done.stretch.same_slice.len) }
 
-    -- the mask that is left
-    module _ {rest : List Bool} (cut : rest ≡ clear_first (first_set bits + 1) bits) where
-      -- has the flags from there on
-      pub turn-flags : HoldsFlags mode src 0 valid after rest
-      turn-flags = grind (arith, turn-after, turn-place, held-cleared, held-further)
+    -- where the mask has no more, the last clean bytes are left
+    pub turn-end : none_set rest ≡ true → IsVectorEnd mode N slack src valid after reached (length (bytes_of new))
+    turn-end none = let u = turn-place in let w = so_far.left in record {
+      clean = λ p late early. held-none mode src 0 valid after rest over.flags (omega arith) none p late (omega (arith, early));
+      start = done.stretch.inside;
+      inside = w.inside;
+      near = omega (arith, w.few, u, on);
+      over = over.over;
+      room = turn-rest_room;
+    }
 
-      -- and none before
-      turn-cleared : (k : ℕ) → get_or rest k false ≡ true → after ≤ k
-      turn-cleared = grind (arith, none-before, cleared-later, turn-flags, turn-between)
+    -- where it has some
+    module _ (some : none_set rest ≡ false) where
+      -- the vector that begins there can be stored
+      pub turn-stores : (after ≤ valid) × CanStore N slack src after (valid - after) reached (length (bytes_of new))
+      turn-stores =
+          let w = so_far.left in let s = over.stops some in let least = room-least (omega (arith, s.0)) (omega (arith, w.inside)) turn-rest_room in
+          (omega (arith, s.0), record { few = omega (arith, w.few); inside = omega (arith, w.inside, s.0); room = omega (arith, least) })
 
-      -- where it has some, bytes are left
-      pub turn-left : none_set rest ≡ false → IsLeftAt mode N slack src valid after reached (length (bytes_of new)) rest
-      turn-left some =
-          let p = turn-place in let u = turn-after in let on = stretch-on done.stretch in let flags = turn-flags in let none = turn-cleared in
-          let f = (first-set mode src 0 valid after rest turn-flags some).0 in let c = turn-cleared (first_set rest) (first_set-here rest some) in
-          let w = so_far.left in let room = turn-rest_room in grind arith
-
-      -- where it has none, the last clean ones are
-      pub turn-end : none_set rest ≡ true → IsVectorEnd mode N slack src valid after reached (length (bytes_of new))
-      turn-end none = let room = turn-rest_room in grind (arith, turn-place, turn-after, stretch-on done.stretch, held-none mode src 0 valid after rest turn-flags (omega arith) none, turn-between, so_far.left)
-
-      -- where the run goes on, so do the turns
-      pub turn-goes-on : none_set rest ≡ false → after ≡ first_set rest → TurnsSoFar mode slack src old new valid after to reached rest ticks_old ticks_new
-      turn-goes-on some is_next =
-          let runs = turn-runs in let l = turn-left some in let f = (first-left l some is_next).0 in
-          let ahead = ahead-flagged mode src new after valid reached f.needed in let here = next-here mode src after f.inside f.needed in let first = first-here mode src after f.inside f.needed in let s = turn-stretch in grind arith
-
-      -- where it has ended
-      module _ (some : none_set rest ≡ false) (other : first_set rest ≡ after → ⊥) where
-        -- the vector that begins there can be stored
-        pub turn-stores : (after ≤ valid) × CanStore N slack src after (valid - after) reached (length (bytes_of new))
-        turn-stores =
-            let l = turn-left some in let least = room-least (omega (arith, l.before)) (omega (arith, l.inside)) l.room in
-            (omega (arith, l.before), record { few = omega (arith, l.few); inside = omega (arith, l.inside, l.before); room = omega (arith, least) })
-
-        -- the next byte is clean
-        turn-stops : needs_escape mode (get_or src after 0) ≡ false
-        turn-stops =
-            let there : 0 + after ≡ after = omega arith in let l = turn-left some in
-            let unset = false_from_ne_true (get_or rest after false) (λ set. other (omega (arith, first_set-least rest after set, turn-cleared (first_set rest) (first_set-here rest some)))) in
-            rw there at (turn-flags.unset after unset (omega arith) (omega (arith, l.before)))
-
-        -- it was stored, and the turns go on
-        pub turn-stored : {later : Target N} {ticks : ℕ} → IsStored slack src new later after (valid - after) reached → ticks ≡ ticks_new + 1 → TurnsSoFar mode slack src old later valid after to reached rest ticks_old ticks
-        turn-stored {later = later} s tick =
-            let l = turn-left some in let runs = turn-runs in
-            let ahead = ahead-front mode src later after valid reached (valid - after) (omega arith) s.ahead in
-            let stored = stored_ahead mode slack src new later after (valid - after) reached s (omega (arith, l.before, l.inside)) in
-            let on = onward_to (valid - after + slack) turn-stretch stored (omega arith) (omega arith) in
-            let stop = runs_stop-here mode src after (omega (arith, l.before, l.inside)) turn-stops in
-            grind arith
+      -- it was stored, and the turns go on
+      pub turn-stored : {later : Target N} {ticks : ℕ} → IsStored slack src new later after (valid - after) reached → ticks ≡ ticks_new + 1 → TurnsSoFar mode slack src old later valid after to reached rest ticks_old ticks
+      turn-stored {later = later} s tick =
+          let w = so_far.left in let stops = over.stops some in let runs = turn-runs in
+          let l : IsLeftAt mode N slack src valid after reached (length (bytes_of new)) rest = record { flags = over.flags; cleared = over.cleared; few = w.few; inside = w.inside; before = stops.0; room = turn-rest_room } in
+          let ahead = ahead-front mode src later after valid reached (valid - after) (omega arith) s.ahead in
+          let stored = stored_ahead mode slack src new later after (valid - after) reached s (omega (arith, l.before, l.inside)) in
+          let on = onward_to (valid - after + slack) turn-stretch stored (omega arith) (omega arith) in
+          let stop = runs_stop-here mode src after (omega (arith, l.before, l.inside)) stops.1 in
+          let kept = done.stored in
+          grind arith
 
     -- these were passed: so was the vector
     pub turn-finished : {last : Target N} {past close ticks : ℕ} → IsFinished mode slack src valid (state new after reached ticks_new) (state last past close ticks) → Escapes mode slack valid 1 1 src (state old 0 to ticks_old) (state last past close ticks)

@@ -1,7 +1,7 @@
 -- What a stretch of a text did to a target, and what it cost.
-use Rattle.std.specs.Prelude.{min, ◌≡◌, ℕ, ◌+◌, ◌-◌, ◌*◌, ◌<◌, ◌≤◌, Bool, true, false, List, ◌++◌, length, take, drop, slice_index, slice_index_or, if◌then◌else◌}
+use Rattle.std.specs.Prelude.{min, ◌≡◌, ℕ, ◌+◌, ◌-◌, ◌*◌, ◌<◌, ◌≤◌, Bool, true, false, List, ◌++◌, length, take, drop, slice_index, slice_index_or, if◌then◌else◌, ◌⊎◌}
 use Rattle.std.specs.List.{prefix_len}
-use Rattle.escape_lanes.specs.Bits.{none_set}
+use Rattle.escape_lanes.specs.Bits.{first_set, none_set}
 use Rattle.escape_lanes.specs.Mode.{Mode, json, html, script}
 use Rattle.escape_lanes.specs.Replacement.{needs_escape, replacement}
 use Rattle.escape_lanes.specs.Written.{bytes_of, stored_of, escaped_of, quotes_of, writes_of, IsSameSlice}
@@ -98,6 +98,31 @@ pub record Escaped {N : ℕ} (mode : Mode) (src : List ℕ) (old new : Target N)
   pub stretch : Stretch mode (run_reach mode) src old new at next to end
   pub place : next ≡ at + passed mode (drop at src)
   pub stored : stored_of new ≡ stored_of old
+
+-- there is room for an entry at each place that needs an escape, from `at` on and before `stop`
+abbrev pub HasRunRoom : Mode → List ℕ → ℕ → ℕ → ℕ → ℕ → Type 0
+HasRunRoom mode src at stop to size = HasRoom mode 8 src at stop to size ⊎ (to + 6 * (stop - at) + 2 ≤ size)
+
+-- The bytes of a text from `at` up to `next` were escaped, none but such as belong to one run.
+pub record EscapedRun {N : ℕ} (mode : Mode) (src : List ℕ) (old new : Target N) (at next to end : ℕ) : Type 0 where
+  pub stretch : Stretch mode (run_reach mode) src old new at next to end
+  pub stored : stored_of new ≡ stored_of old
+  pub run : run_count_after mode true (drop next src) + 1 ≡ run_count mode (drop at src)
+  pub alone : IsByteWise mode → (run_end mode src next ≡ run_end mode src at) × (escaped_of new ≡ escaped_of old + (next - at))
+
+-- A run goes on at `at`, whose lane is the first that a mask sets of a text's first `valid` bytes.
+pub record IsRunAt (mode : Mode) (src : List ℕ) (valid at : ℕ) (bits : List Bool) : Type 0 where
+  pub flags : HoldsFlags mode src 0 valid at bits
+  pub some : none_set bits ≡ false
+  pub first : at ≡ first_set bits
+  pub inside : valid ≤ length src
+
+-- A run has ended at `next`: the mask has the flags from there on, and no flagged byte follows.
+pub record IsRunEnd (mode : Mode) (src : List ℕ) (valid next : ℕ) (bits : List Bool) : Type 0 where
+  pub flags : HoldsFlags mode src 0 valid next bits
+  pub cleared : (k : ℕ) → slice_index_or bits k false ≡ true → next ≤ k
+  pub over : valid ≤ next → Passed mode src valid next
+  pub stops : none_set bits ≡ false → (next < valid) × (needs_escape mode (slice_index src next) ≡ false)
 
 -- A mask has the flags of `valid` bytes of a text from `at` on, at most a vector of N. A vector can be loaded from each place from
 -- `at` to their end, and they have room.

@@ -8,9 +8,8 @@ ghost use Rattle.escape_simd.specs.Stretch.{CanStore, Escapes, IsFinished, IsSto
 
 use crate::simd::Vector;
 use crate::simd::store::store;
-use crate::simd::util::{are_paid, are_short, escape, escape_blocks};
+use crate::simd::util::{are_paid, are_short, escape_blocks, escape_run};
 use escape_lanes::simd::classify::{Classified, classify_by_mask};
-use escape_lanes::simd::lane_bits::clear_first_lane;
 use escape_lanes::simd::mode::is_script;
 use escape_lanes::simd::target::{Target, Ticks};
 use escape_lanes::simd::{BitMask, LoadStore};
@@ -65,9 +64,8 @@ fn finish_vector<V: LoadStore, const MODE: u8, const N: usize, const LAST: bool>
 /// Escapes the first `valid` bytes of the text's first vector, some of which are flagged. Returns the places
 /// after them.
 ///
-/// The vector is stored. Then each turn passes the clean bytes before the next flagged one, writes what stands for that
-/// one, and unless a flagged byte follows, stores the vector that begins there. The loop ends in the middle of a turn:
-/// so the compiler peels the first turn, and a vector with one escape takes no branch of the loop.
+/// The vector is stored. Then each turn passes the clean bytes before the next run, escapes it, and stores the vector that
+/// begins after it. The loop ends in the middle of a turn: so a vector of one run takes no branch of the loop.
 #[inline(always)]
 pub(crate) fn escape_by_turns<V: LoadStore, const MODE: u8, const N: usize, const LAST: bool>(
     text: &[u8],
@@ -91,16 +89,20 @@ pub(crate) fn escape_by_turns<V: LoadStore, const MODE: u8, const N: usize, cons
     let mut end = to;
     'turns: loop {
         let flagged = left.first_offset();
-        let (after, reached) = escape::<MODE, N>(text, flagged, target, end + (flagged - next));
-        left = clear_first_lane(left);
+        let (after, reached) = escape_run::<u64, MODE, N>(
+            text,
+            valid,
+            flagged,
+            &mut left,
+            target,
+            end + (flagged - next),
+        );
         if left.all_zero() {
             return finish_vector::<V, MODE, N, LAST>(
                 text, valid, after, left, target, reached, ticks,
             );
         }
-        if left.first_offset() != after {
-            store_tail::<V, MODE, N, LAST>(text, valid, after, left, target, reached, ticks);
-        }
+        store_tail::<V, MODE, N, LAST>(text, valid, after, left, target, reached, ticks);
         next = after;
         end = reached;
     }

@@ -5,15 +5,17 @@ ghost use Rattle.escape_lanes.specs.Replacement.{needs_escape};
 ghost use Rattle.escape_lanes.specs.Written.{bytes_of, stored_of, escaped_of, quotes_of, writes_of, IsSameSlice};
 ghost use Rattle.escape_simd.specs.Modes.{mode_numbered};
 ghost use Rattle.escape_simd.specs.Output.{inner};
-ghost use Rattle.escape_simd.specs.Stretch.{Escaped, IsFlaggedAt, Stretch, run_end, run_reach};
+ghost use Rattle.escape_simd.specs.Stretch.{Escaped, EscapedRun, HasRunRoom, IsFlaggedAt, run_end};
 
 mod blocks;
+mod run;
 
 use crate::simd::separator::{is_separator, separator_entry};
 use crate::simd::{HTML_MODE, JSON_MODE};
 pub(crate) use blocks::{are_paid, are_short, escape_blocks};
 use escape_lanes::simd::mode::entry;
 use escape_lanes::simd::target::Target;
+pub(crate) use run::{Entries, RunEnd};
 
 /// Writes what stands for the byte at `at`, which needs an escape, or for the separator that begins
 /// with it. Returns the places after both.
@@ -39,32 +41,31 @@ pub(crate) fn escape<const MODE: u8, const N: usize>(
     (at + 1, end)
 }
 
-/// Escapes the run of bytes at `at` that need an escape, up to the first byte that needs none or the end. Returns that
-/// place, and the place in the target after the last replacement.
+/// Escapes the run that goes on at `at`, as far as `run` tells. Returns the places after it.
 #[inline(always)]
-fn escape_run<const MODE: u8, const N: usize>(
+pub(crate) fn escape_run<F: RunEnd<MODE>, const MODE: u8, const N: usize>(
     src: &[u8],
+    stop: usize,
     at: usize,
+    run: &mut F,
     target: &mut Target<'_, N>,
     to: usize,
 ) -> (usize, usize)
-    requires bytewise { MODE < 2 }
-    requires inside { at ≤ length src.now }
-    requires room { to + 6 * (length src.now - at) + 2 ≤ length (bytes_of target.old) }
-    ensures stretch { Stretch (mode_numbered MODE) (run_reach (mode_numbered MODE)) src.now target.old target.new at result.0 to result.1 }
-    ensures place { result.0 ≡ run_end (mode_numbered MODE) src.now at }
-    ensures escaped { escaped_of target.new ≡ escaped_of target.old + (result.0 - at) }
-    ensures stored { stored_of target.new ≡ stored_of target.old }
+    requires { F.goes run.old src.now stop at × HasRunRoom (mode_numbered MODE) src.now at stop to (length (bytes_of target.old)) }
+    ensures escaped { EscapedRun (mode_numbered MODE) src.now target.old target.new at result.0 to result.1 }
+    ensures some { at < result.0 }
+    ensures ended { F.ends run.new src.now stop result.0 }
 {
     let mut next = at;
     let mut end = to;
-    'run: while next < src.len() {
-        if entry::<MODE>(src[next]).0 == 0 {
-            return (next, end);
+    'run: loop {
+        let (after, reached) = escape::<MODE, N>(src, next, target, end);
+        if !run.goes_on(src, stop, next, after) {
+            return (after, reached);
         }
-        (next, end) = escape::<MODE, N>(src, next, target, end);
+        next = after;
+        end = reached;
     }
-    (next, end)
 }
 
 /// Writes the replacements of the bytes of `src` that need an escape from `at` on, up to the first
@@ -98,7 +99,14 @@ pub fn escape_unchecked<const HTML: bool, const N: usize>(
     ensures writes { writes_of target.new ≤ writes_of target.old + (result.0 - at) }
 {
     if HTML {
-        return escape_run::<{ HTML_MODE }, N>(src, at, target, to);
+        return escape_run::<Entries, { HTML_MODE }, N>(
+            src,
+            src.len(),
+            at,
+            &mut Entries,
+            target,
+            to,
+        );
     }
-    escape_run::<{ JSON_MODE }, N>(src, at, target, to)
+    escape_run::<Entries, { JSON_MODE }, N>(src, src.len(), at, &mut Entries, target, to)
 }

@@ -1,0 +1,129 @@
+-- How a run of escapes goes on, and how far a mask tells of one.
+use Rattle.escape_simd.proofs.Words.{◌≡◌, ℕ, ◌+◌, ◌<◌, ◌≤◌, inl, inr, Bool, true, false, true≢false, List, [], ◌∷◌, length, drop, get_or, refl, ap, sym, ◌∙◌, arith, length-bits_of, bits_of, bytes_of, first_set, none_set, clear_first, Mode, needs_escape, entry_count, escaped_count, Target, passed, run_count_after, run_end, run_reach, Escaped, EscapedRun, HasRunRoom, HoldsFlags, IsFlaggedAt, IsRunAt, IsRunEnd}
+use Rattle.escape_simd.proofs.Escapes.{entry-counts, passed-after}
+use Rattle.escape_simd.proofs.ReplacementLemmas.{length-replacement}
+use Rattle.escape_simd.proofs.Texts.{escaped-here, first-here, next-here, one≤passed, run_end-here}
+use Rattle.escape_simd.proofs.Stretches.{onward, room-least, standing, stretch-on}
+use Rattle.escape_simd.proofs.Lanes.{CleanFrom, cleared-later, first-set, first_set-here, first_set-least, held-cleared, held-further, none-before}
+use Rattle.escape_simd.specs.RunLaws.{mask-flagged}
+
+-- A run
+
+-- there is room for an entry
+pub run-room : {mode : Mode} {src : List ℕ} {at stop to size : ℕ} → HasRunRoom mode src at stop to size → at < stop → stop ≤ length src → to + 8 ≤ size
+run-room room before inside = elim room [
+  | inl h ↦ omega (arith, room-least (omega (arith, before)) inside h)
+  | inr h ↦ omega (arith, h, before)
+]
+
+-- it begins
+pub run-begins : {N : ℕ} {mode : Mode} {src : List ℕ} {at : ℕ} (t : Target N) (to : ℕ) → IsFlaggedAt mode src at → EscapedRun mode src t t at at to to
+run-begins {N} {mode} {src} {at} t to f = record {
+  stretch = standing mode (run_reach mode) src t at to (omega (arith, f.inside));
+  stored = refl;
+  run = omega (arith, first-here mode src at f.inside f.needed, next-here mode src at f.inside f.needed);
+  alone = λ _. (refl, omega arith);
+}
+
+-- one byte more was escaped
+module _ {N : ℕ} {mode : Mode} {src : List ℕ} {mid new : Target N} {next end after reached : ℕ} (f : IsFlaggedAt mode src next) (done : Escaped mode src mid new next after end reached) where
+  -- the place after it
+  pub run-after : (next < after) × (after ≤ next + 3)
+  run-after = let p = done.place in let o = one≤passed mode (drop next src) in omega (arith, p, o)
+
+  -- there is room for what is left
+  pub run-room-on : {stop : ℕ} → HasRunRoom mode src next stop end (length (bytes_of mid)) → after < stop → HasRunRoom mode src after stop reached (length (bytes_of new))
+  run-room-on room before = elim room [
+    | inl h ↦ inl (record { fits = omega (arith, done.stretch.limit, h.fits, done.stretch.same_slice.len) })
+    | inr h ↦ inr (omega (arith, h, stretch-on done.stretch, before, run-after, done.stretch.same_slice.len))
+  ]
+
+  -- the run
+  pub run-on : {old : Target N} {at to : ℕ} → EscapedRun mode src old mid at next to end → EscapedRun mode src old new at after to reached
+  run-on s =
+      let on = next-here mode src next f.inside f.needed in
+      let e = ap (λ k. run_count_after mode true (drop k src)) done.place in
+      record {
+        stretch = onward s.stretch done.stretch;
+        stored = done.stored ∙ s.stored;
+        run = omega (arith, s.run, on, e);
+        alone = λ one.
+            let there : after ≡ next + 1 = done.place ∙ ap (λ k. next + k) (one (drop next src)) in
+            let a = s.alone one in let more = escaped-here mode src next f.inside f.needed in let same = ap (λ k. escaped_count mode (drop k src)) done.place in (
+              ap (run_end mode src) there ∙ sym (run_end-here mode src next f.inside f.needed) ∙ a.0,
+              omega (arith, there, a.1, s.stretch.forward, more, same, done.stretch.escaped),
+            );
+      }
+
+-- A run that is looked up
+
+-- a byte whose entry has a count needs an escape
+pub counted : (mode : Mode) (b count : ℕ) → count ≡ entry_count mode b → (count ≡ 0 → ⊥) → needs_escape mode b ≡ true
+counted mode b count is some = grind arith
+
+-- and one whose entry has none needs none
+pub uncounted : (mode : Mode) (b count : ℕ) → count ≡ entry_count mode b → count ≡ 0 → needs_escape mode b ≡ false
+uncounted mode b count is none = grind (arith, entry-counts, length-replacement)
+
+-- A run by its flags
+
+-- where some lane is set, the first one is a lane
+first_set-inside : (bs : List Bool) → none_set bs ≡ false → first_set bs < length bs
+unfolding first_set none_set
+first_set-inside [] some = absurd (true≢false some)
+first_set-inside (true ∷ bs) some = omega arith
+first_set-inside (false ∷ bs) some = omega (arith, first_set-inside bs some)
+
+-- what a mask tells after one byte of it
+module _ {mode : Mode} {src : List ℕ} {valid at next : ℕ} {bits rest : List Bool} (r : IsRunAt mode src valid at bits) (place : next ≡ at + passed mode (drop at src)) (cut : rest ≡ clear_first (first_set bits + 1) bits) where
+  -- the place after it
+  place-after : (at < next) × (next ≤ at + 3) × (at < valid)
+  place-after = let f = mask-flagged r in let o = one≤passed mode (drop at src) in omega (arith, f.1, place, o)
+
+  -- what was passed with it is clean
+  mask-between : CleanFrom mode src (at + 1) next
+  mask-between p late before = passed-after mode src at next p place (omega arith) before
+
+  -- the flags from there on
+  mask-flags : HoldsFlags mode src 0 valid next rest
+  mask-flags = let u = place-after in rw cut (held-cleared mode src 0 valid next bits (held-further mode src 0 valid at bits r.flags next (omega (arith, u))) (first_set bits + 1) (omega (arith, u, r.first)))
+
+  -- and none before
+  mask-cleared : (k : ℕ) → get_or rest k false ≡ true → next ≤ k
+  mask-cleared k s =
+      let later = none-before mode src 0 (at + 1) next rest (λ i t. (omega (arith, r.first, cleared-later (first_set bits + 1) bits i (rw cut at t)), (mask-flags.set i t).1)) mask-between k s in
+      omega (arith, later)
+
+  -- where some lane is set, bytes are left
+  mask-left : none_set rest ≡ false → next < valid
+  mask-left some = omega (arith, (first-set mode src 0 valid next rest mask-flags some).0, mask-cleared (first_set rest) (first_set-here rest some))
+
+  -- and the next is a lane of the mask
+  pub mask-below : (mask : ℕ) → rest ≡ bits_of 64 mask → none_set rest ≡ false → next < 64
+  mask-below mask is some =
+      let f = first_set-inside rest some in omega (arith, mask-cleared (first_set rest) (first_set-here rest some), f, ap length is, length-bits_of 64 mask)
+
+  -- where it is set, the run goes on
+  pub mask-goes : none_set rest ≡ false → get_or rest next false ≡ true → IsRunAt mode src valid next rest
+  mask-goes some set = record {
+    flags = mask-flags;
+    some = some;
+    first = omega (arith, first_set-least rest next set, mask-cleared (first_set rest) (first_set-here rest some));
+    inside = r.inside;
+  }
+
+  -- else it has ended
+  pub mask-ends : (none_set rest ≡ false → get_or rest next false ≡ false) → IsRunEnd mode src valid next rest
+  mask-ends unset =
+      let u = place-after in let there : 0 + next ≡ next = omega arith in
+      record {
+        flags = mask-flags;
+        cleared = mask-cleared;
+        over = λ past. record {
+          whole = past;
+          near = omega (arith, u);
+          exact = λ one. omega (arith, past, u, place, one (drop at src));
+          clean = λ p late early. mask-between p (omega (arith, late, u)) early;
+        };
+        stops = λ some. (mask-left some, rw there at (mask-flags.unset next (unset some) (omega arith) (mask-left some)));
+      }

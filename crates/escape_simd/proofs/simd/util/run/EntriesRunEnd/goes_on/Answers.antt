@@ -1,0 +1,9 @@
+use Rattle.escape_simd.proofs.Words.{arith, get_or, mode_numbered}
+use Rattle.escape_simd.proofs.RunsOfFlags.{uncounted}
+use Rattle.escape_simd.proofs.Texts.{run_end-stop}
+use Rattle.escape_simd.proofs.simd.util.run.EntriesRunEnd.goes_on.Goals as goal
+
+pub returns-then-next-src-clause-ends : goal.returns-then-next-src-clause-ends
+returns-then-next-src-clause-ends g c = λ none.
+    let mode = mode_numbered g.row.MODE in
+    run_end-stop mode c.args.src.now c.args.next c.if-next-src.true (uncounted mode (get_or c.args.src.now c.args.next 0) c.entry.result.now.0 c.entry.ensures.count (grind (arith, none)))

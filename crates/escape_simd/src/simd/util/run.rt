@@ -1,0 +1,72 @@
+//! How far a run of escapes goes: as its flags tell, or its bytes.
+ghost use Rattle.std.specs.Prelude.{◌≡◌, ℕ, ◌+◌, ◌<◌, ◌≤◌, true, false, List, length, drop, slice_index_or};
+ghost use Rattle.escape_lanes.specs.Bits.{bits_of};
+ghost use Rattle.escape_simd.specs.Modes.{mode_numbered};
+ghost use Rattle.escape_simd.specs.Output.{passed};
+ghost use Rattle.escape_simd.specs.Stretch.{IsFlaggedAt, IsRunAt, IsRunEnd, run_end};
+ghost use Rattle.escape_simd.specs.RunLaws.{mask-flagged, entry-flagged};
+
+use escape_lanes::simd::BitMask;
+use escape_lanes::simd::lane_bits::{clear_first_lane, shift_lanes};
+use escape_lanes::simd::mode::entry;
+
+/// What tells whether a run goes on.
+pub(crate) trait RunEnd<const MODE: u8>: Drop {
+    // It goes on at a place of a text, and tells of those before a `stop` alone.
+    ghost goes: { Self → List ℕ → ℕ → ℕ → Type 0 };
+
+    // It has ended there.
+    ghost ends: { Self → List ℕ → ℕ → ℕ → Type 0 };
+
+    /// Returns whether the run goes on at `next`, the place after what was escaped at `at`.
+    fn goes_on(&mut self, src: &[u8], stop: usize, at: usize, next: usize) -> bool
+        requires { goes self.old src.now stop at
+            × (next ≡ at + passed (mode_numbered MODE) (drop at src.now))
+            × (next ≤ length src.now) }
+        ensures goes { result ≡ true → goes self.new src.now stop next }
+        ensures ends { result ≡ false → ends self.new src.now stop next };
+
+    // Where it goes on, a byte needs an escape.
+    ghost flagged: { (f : Self) (src : List ℕ) (stop at : ℕ) → goes f src stop at → IsFlaggedAt (mode_numbered MODE) src at × (at < stop) × (stop ≤ length src) };
+}
+
+/// Returns whether the lane is flagged. `lane` is below 64.
+#[inline(always)]
+fn is_set(flags: u64, lane: usize) -> bool
+    requires { lane < 64 }
+    ensures { result ≡ slice_index_or (bits_of 64 flags) lane false }
+{
+    shift_lanes(flags, lane).first_offset() == 0
+}
+
+impl<const MODE: u8> RunEnd<MODE> for u64 {
+    ghost goes = { λ mask src stop at. IsRunAt (mode_numbered MODE) src stop at (bits_of 64 mask) };
+
+    ghost ends = { λ mask src stop at. IsRunEnd (mode_numbered MODE) src stop at (bits_of 64 mask) };
+
+    /// Whether no flag is left is asked first: most vectors have one run, and leave here what goes through their runs too.
+    #[inline(always)]
+    fn goes_on(&mut self, _: &[u8], _: usize, _: usize, next: usize) -> bool {
+        *self = clear_first_lane(*self);
+        !self.all_zero() && is_set(*self, next)
+    }
+
+    ghost flagged = { λ mask src stop at goes. mask-flagged goes };
+}
+
+/// A text's bytes, looked up one by one.
+#[derive(Drop)]
+pub(crate) struct Entries;
+
+impl<const MODE: u8> RunEnd<MODE> for Entries {
+    ghost goes = { λ _ src stop at. (stop ≡ length src) × IsFlaggedAt (mode_numbered MODE) src at };
+
+    ghost ends = { λ _ src _ at. run_end (mode_numbered MODE) src at ≡ at };
+
+    #[inline(always)]
+    fn goes_on(&mut self, src: &[u8], _: usize, _: usize, next: usize) -> bool {
+        next < src.len() && entry::<MODE>(src[next]).0 != 0
+    }
+
+    ghost flagged = { λ _ src stop at goes. entry-flagged goes };
+}

@@ -22,7 +22,7 @@ unfolding bits_of
 bits-nil x = refl
 
 -- no bit of 0 is set
-bits-zero : (k : ℕ) → bits_of k 0 ≡ replicate k false
+pub bits-zero : (k : ℕ) → bits_of k 0 ≡ replicate k false
 bits-zero k = bits-lanes k 0 ∙ lanes-zero 1 k
 
 -- a number of n bits has no more of them

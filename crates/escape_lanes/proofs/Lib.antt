@@ -1,4 +1,5 @@
 mod DownLemmas
+mod EscapeMaskLemmas
 mod FlagLemmas
 mod BitLemmas
 mod GatherLemmas

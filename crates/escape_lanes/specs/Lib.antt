@@ -9,3 +9,4 @@ pub mod Written
 pub mod Spread
 pub mod Short
 pub mod Classified
+pub mod Masks

@@ -5,6 +5,7 @@ pub mod avx512;
 pub mod bits;
 pub mod classify;
 mod down;
+pub mod escape_mask;
 pub mod flags;
 mod front;
 mod halves;

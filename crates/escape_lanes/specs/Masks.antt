@@ -1,0 +1,35 @@
+-- What a mask tells of bytes.
+use Rattle.std.specs.Prelude.{◌≡◌, ℕ, ◌-◌, Bool, false, List, ◌++◌, length, map, take, drop, replicate}
+use Rattle.escape_lanes.specs.Bits.{none_set, clear_first}
+use Rattle.escape_lanes.specs.Mode.{Mode}
+use Rattle.escape_lanes.specs.Replacement.{needs_escape}
+
+-- A mask of bytes, lane by lane, which tells of those from one of them on.
+pub record MaskOf : Type 0 where
+  pub bytes : List ℕ
+  pub from : ℕ
+
+-- that tells of the bytes from one on
+abbrev pub mask_from : List ℕ → ℕ → MaskOf
+mask_from bytes from = record { bytes = bytes; from = from }
+
+-- that tells of all of them
+abbrev pub whole_mask : List ℕ → MaskOf
+whole_mask bytes = mask_from bytes 0
+
+-- the bytes that it tells of
+abbrev pub told_by : MaskOf → List ℕ
+told_by mask = drop mask.from mask.bytes
+
+-- its 64 lanes: of each byte that it tells of whether it needs an escape, and no other is set
+abbrev pub lanes_of_mask : Mode → MaskOf → List Bool
+lanes_of_mask mode mask = clear_first mask.from (map (needs_escape mode) mask.bytes ++ replicate (64 - length mask.bytes) false)
+
+-- no byte that it tells of needs an escape
+abbrev pub is_clear : Mode → MaskOf → Bool
+is_clear mode mask = none_set (lanes_of_mask mode mask)
+
+-- A text's vector at `at` was loaded and classified.
+pub record IsClassified (n : ℕ) (text : List ℕ) (at : ℕ) (lanes : List ℕ) (mask : MaskOf) : Type 0 where
+  pub loaded : lanes ≡ take n (drop at text)
+  pub told : mask ≡ whole_mask (take n (drop at text))

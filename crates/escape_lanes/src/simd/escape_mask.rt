@@ -1,0 +1,232 @@
+//! The mask that knows its bytes, and the classifiers, which alone make one.
+ghost use Rattle.std.specs.Prelude.{◌≡◌, ℕ, ◌+◌, ◌*◌, ◌<◌, ◌≤◌, ◌&&◌, List, [], false, length, take, drop};
+ghost use Rattle.std.specs.Borrow.{ftrue};
+ghost use Rattle.escape_lanes.specs.Bits.{bits_of, first_set};
+ghost use Rattle.escape_lanes.specs.Masks.{IsClassified, is_clear, lanes_of_mask, mask_from, whole_mask};
+ghost use Rattle.escape_lanes.specs.Mode.{mode_numbered};
+
+use crate::simd::flags::Flags;
+use crate::simd::lane_bits::{clear_first_lane, shift_lanes};
+use crate::simd::mode::flags;
+use crate::simd::ticks::Ticks;
+use crate::simd::traits::BitMask;
+use crate::simd::vector::Vector;
+use std::marker::Model;
+
+/// The bytes that a mask is of, and the first of them that it tells of. It takes no memory, and nothing runs to make it.
+#[derive(Drop)]
+struct Known {
+    ghost bytes: { List ℕ },
+    ghost from: { ℕ },
+}
+
+impl Model for Known {
+    ghost also_owns = { λ _. ftrue };
+}
+
+impl Known {
+    // All of these bytes.
+    #[inline(always)]
+    fn of(_bytes: &[u8]) -> Known
+        ensures { (result.bytes ≡ _bytes.now) × (result.from ≡ 0) }
+    {
+        Known {}
+    }
+
+    // So many of the bytes, without the first ones, and told from one of them on.
+    #[inline(always)]
+    fn part(_whole: &Known, _skip: usize, _count: usize, _from: usize) -> Known
+        ensures { (result.bytes ≡ take _count (drop _skip _whole.now.bytes)) × (result.from ≡ _from) }
+    {
+        Known {}
+    }
+}
+
+/// Which of at most 64 bytes need an escape (script: also e2): bit `i` is set where byte `i` does.
+///
+/// A contract sees the bytes, and from which of them on the mask tells. Only a classifier makes a mask: of a vector, or of
+/// what is left of one. It can't be cloned, and in `escape_simd` each store of a vector takes the mask that tells its bytes.
+#[derive(Drop)]
+pub struct EscapeMask<const MODE: u8> {
+    bits: u64,
+    of: Known,
+}
+
+impl<const MODE: u8> Model for EscapeMask<MODE> {
+    ghost use Rattle.std.specs.Prelude.{◌≡◌};
+    ghost use Rattle.escape_lanes.specs.Bits.{bits_of};
+    ghost use Rattle.escape_lanes.specs.Masks.{MaskOf, lanes_of_mask, mask_from};
+    ghost use Rattle.escape_lanes.specs.Mode.{mode_numbered};
+
+    ghost Value = { MaskOf };
+
+    ghost view = { λ m. mask_from m.of.bytes m.of.from };
+
+    ghost invariant = { λ m. bits_of 64 m.bits ≡ lanes_of_mask (mode_numbered MODE) (mask_from m.of.bytes m.of.from) };
+}
+
+impl<const MODE: u8> EscapeMask<MODE> {
+    /// Returns the mask of no bytes.
+    #[inline(always)]
+    pub fn empty() -> Self
+        ensures { result ≡ whole_mask [] }
+    {
+        EscapeMask {
+            bits: 0,
+            of: Known::of(&[]),
+        }
+    }
+
+    /// Returns the mask as a number.
+    #[inline(always)]
+    pub fn bits(&self) -> u64
+        ensures { bits_of 64 result ≡ lanes_of_mask (mode_numbered MODE) self.now }
+    {
+        self.bits
+    }
+
+    /// Returns whether no byte is flagged.
+    #[inline(always)]
+    pub fn is_clear(&self) -> bool
+        ensures { result ≡ is_clear (mode_numbered MODE) self.now }
+    {
+        self.bits.all_zero()
+    }
+
+    /// Returns the place of the first flagged byte, and 64 where none is.
+    #[inline(always)]
+    pub fn first_offset(&self) -> usize
+        ensures { result ≡ first_set (lanes_of_mask (mode_numbered MODE) self.now) }
+    {
+        self.bits.first_offset()
+    }
+
+    /// Takes the first flagged byte off the mask. Some byte is flagged.
+    #[inline(always)]
+    pub fn clear_first(&mut self)
+        requires { is_clear (mode_numbered MODE) self.old ≡ false }
+        ensures { self.new ≡ mask_from self.old.bytes (first_set (lanes_of_mask (mode_numbered MODE) self.old) + 1) }
+    {
+        let next = self.first_offset() + 1;
+        *self = EscapeMask {
+            bits: clear_first_lane(self.bits),
+            of: Known::part(&self.of, 0, 64, next),
+        };
+    }
+
+    /// Classifies the bytes from `from` on, in front of which none is flagged, by their mask. Ticks once.
+    #[inline(always)]
+    pub fn rest(self, from: usize, ticks: &mut Ticks) -> Self
+        requires forward { self.from ≤ from }
+        requires some { from < length self.bytes }
+        requires passed { from ≤ first_set (lanes_of_mask (mode_numbered MODE) self) }
+        ensures told { result ≡ mask_from self.entry.bytes from }
+        ensures tick { ticks.new ≡ ticks.old + 1 }
+    {
+        ticks.tick();
+        EscapeMask {
+            bits: self.bits,
+            of: Known::part(&self.of, 0, 64, from),
+        }
+    }
+
+    /// Returns the mask of the bytes from `count` on, below 64. The mask tells of all of its bytes.
+    #[inline(always)]
+    pub fn skip(self, count: usize) -> Self
+        requires whole { self.from ≡ 0 }
+        requires few { count < 64 }
+        requires inside { count ≤ length self.bytes }
+        ensures { result ≡ whole_mask (drop count self.entry.bytes) }
+    {
+        EscapeMask {
+            bits: shift_lanes(self.bits, count),
+            of: Known::part(&self.of, count, 64, 0),
+        }
+    }
+
+    /// Returns the mask of the first `count` bytes. The mask tells of all of its bytes.
+    #[inline(always)]
+    pub fn cut(self, count: usize) -> Self
+        requires whole { self.from ≡ 0 }
+        requires inside { count ≤ length self.bytes }
+        ensures { result ≡ whole_mask (take count self.entry.bytes) }
+    {
+        EscapeMask {
+            bits: self.bits.clear_high_bits(64 - count),
+            of: Known::part(&self.of, 0, count, 0),
+        }
+    }
+}
+
+/// Loads the text's vector at `at` and classifies it. Ticks once.
+#[inline(always)]
+pub fn classify<V: Vector<N>, const MODE: u8, const N: usize>(
+    text: &[u8],
+    at: usize,
+    ticks: &mut Ticks,
+) -> (V, EscapeMask<MODE>)
+    requires { at + N ≤ length text.now }
+    ensures classified { IsClassified N text.now at (V.lanes result.0) result.1 }
+    ensures tick { ticks.new ≡ ticks.old + 1 }
+{
+    let bytes = &text[at..at + N];
+    let v = V::load(bytes);
+    let mask = EscapeMask {
+        bits: flags::<V, MODE, N>(&v, ticks).bits(),
+        of: Known::of(bytes),
+    };
+    (v, mask)
+}
+
+/// Classifies the first lanes of a loaded vector that begins with these bytes. Ticks once.
+#[inline(always)]
+pub fn classify_front<V: Vector<N>, const MODE: u8, const N: usize>(
+    v: &V,
+    bytes: &[u8],
+    ticks: &mut Ticks,
+) -> EscapeMask<MODE>
+    requires few { length bytes.now ≤ N }
+    requires begun { take (length bytes.now) (V.lanes v.now) ≡ bytes.now }
+    ensures told { result ≡ whole_mask bytes.now }
+    ensures tick { ticks.new ≡ ticks.old + 1 }
+{
+    EscapeMask {
+        bits: flags::<V, MODE, N>(v, ticks)
+            .bits()
+            .clear_high_bits(64 - bytes.len()),
+        of: Known::of(bytes),
+    }
+}
+
+/// Loads and classifies four vectors of the text from `at` on. Returns them with their masks, and whether no byte of them is
+/// flagged. Ticks four times.
+#[inline(always)]
+pub fn classify_four<V: Vector<N>, const MODE: u8, const N: usize>(
+    text: &[u8],
+    at: usize,
+    ticks: &mut Ticks,
+) -> (
+    (V, EscapeMask<MODE>),
+    (V, EscapeMask<MODE>),
+    (V, EscapeMask<MODE>),
+    (V, EscapeMask<MODE>),
+    bool,
+)
+    requires { at + 4 * N ≤ length text.now }
+    ensures first { IsClassified N text.now at (V.lanes result.0.0) result.0.1 }
+    ensures second { IsClassified N text.now (at + N) (V.lanes result.1.0) result.1.1 }
+    ensures third { IsClassified N text.now (at + 2 * N) (V.lanes result.2.0) result.2.1 }
+    ensures fourth { IsClassified N text.now (at + 3 * N) (V.lanes result.3.0) result.3.1 }
+    ensures clear { result.4
+        ≡ (is_clear (mode_numbered MODE) result.0.1 && is_clear (mode_numbered MODE) result.1.1)
+        && (is_clear (mode_numbered MODE) result.2.1 && is_clear (mode_numbered MODE) result.3.1) }
+    ensures ticks { ticks.new ≡ ticks.old + 4 }
+{
+    let first = classify::<V, MODE, N>(text, at, ticks);
+    let second = classify::<V, MODE, N>(text, at + N, ticks);
+    let third = classify::<V, MODE, N>(text, at + 2 * N, ticks);
+    let fourth = classify::<V, MODE, N>(text, at + 3 * N, ticks);
+    let front = first.1.is_clear() & second.1.is_clear();
+    let last = third.1.is_clear() & fourth.1.is_clear();
+    (first, second, third, fourth, front & last)
+}

@@ -8,5 +8,4 @@ pub mod Words
 pub mod Written
 pub mod Spread
 pub mod Short
-pub mod Classified
 pub mod Masks

@@ -3,7 +3,6 @@
 pub mod avx2;
 pub mod avx512;
 pub mod bits;
-pub mod classify;
 mod down;
 pub mod escape_mask;
 pub mod flags;

@@ -1,5 +1,5 @@
 -- What a mask tells of the text that its vector holds.
-use Rattle.escape_simd.proofs.Words.{◌≡◌, ℕ, zero, suc, ◌+◌, ◌-◌, ◌<◌, ◌≤◌, Bool, true, false, List, [], ◌∷◌, ◌++◌, length, take, drop, get_or, map, replicate, refl, sym, ap, ◌∙◌, arith, length-append, length-take-le, length-drop, cases_Bool, drop-drop, drop-take, take-take, take_all, IsWithin, Tells, length-take, length-map, get_or-take, get_or-drop, get_or-map, get_or_past, get_or_append_left, get_or-append_right, get_or-replicate, length-replicate, first_set, none_set, clear_first, clear_last, Mode, needs_escape, HoldsFlags}
+use Rattle.escape_simd.proofs.Words.{◌≡◌, ℕ, zero, suc, ◌+◌, ◌-◌, ◌<◌, ◌≤◌, Bool, true, false, List, [], ◌∷◌, ◌++◌, length, take, drop, get_or, map, replicate, refl, ap, ◌∙◌, arith, length-append, length-take-le, length-drop, drop-drop, drop-take, take-take, length-take, length-map, get_or-take, get_or-drop, get_or-map, get_or_past, get_or_append_left, get_or-append_right, get_or-replicate, length-replicate, first_set, none_set, clear_first, MaskOf, is_clear, lanes_of_mask, whole_mask, Mode, needs_escape}
 use Rattle.escape_simd.proofs.Texts.{IsClean}
 
 -- no lane before the first set one is set
@@ -31,14 +31,6 @@ first_set-least bs k set = grind (arith, first_set-before)
 pub none_set-replicate : (n i : ℕ) → get_or (replicate n false) i false ≡ false
 none_set-replicate n i = grind (arith, get_or_past, length-replicate, get_or-replicate)
 
--- a lane of a mask whose last lanes were cleared
-pub get_or-clear_last : (n k : ℕ) (bs : List Bool) → k < length bs - n → get_or (clear_last n bs) k false ≡ get_or bs k false
-get_or-clear_last n k bs h = grind (arith, length-take-le {A = Bool}, get_or_append_left, get_or-take)
-
--- one of those
-pub get_or-cleared_last : (n k : ℕ) (bs : List Bool) → length bs - n ≤ k → get_or (clear_last n bs) k false ≡ false
-get_or-cleared_last n k bs h = grind (arith, length-take-le {A = Bool}, get_or-append_right, none_set-replicate)
-
 -- a lane of a mask whose first lanes were cleared
 pub get_or-clear_first : (n k : ℕ) (bs : List Bool) → n ≤ k → get_or (clear_first n bs) k false ≡ get_or bs k false
 get_or-clear_first n k bs h = grind (arith, get_or-append_right, length-replicate, get_or-drop)
@@ -61,6 +53,12 @@ pub clean-list : (mode : Mode) (src : List ℕ) (from n : ℕ) → CleanFrom mod
 clean-list mode src from n clean k h = grind (arith, length-take {A = ℕ}, get_or-take, get_or-drop)
 
 -- HoldsFlags
+
+-- A mask has the lanes of the bytes that need an escape, of the first `valid` bytes of a text from `at` on. Those before
+-- `from` it may have or not, and it has no other lane.
+pub record HoldsFlags (mode : Mode) (src : List ℕ) (at valid from : ℕ) (bits : List Bool) : Type 0 where
+  pub set : (k : ℕ) → get_or bits k false ≡ true → (k < valid) × (needs_escape mode (get_or src (at + k) 0) ≡ true)
+  pub unset : (k : ℕ) → get_or bits k false ≡ false → from ≤ at + k → k < valid → needs_escape mode (get_or src (at + k) 0) ≡ false
 
 -- a mask that is told lane by lane
 pub held-by : (mode : Mode) (src : List ℕ) (at valid from : ℕ) (bits : List Bool) → ((k : ℕ) → k < valid → get_or bits k false ≡ needs_escape mode (get_or src (at + k) 0)) → ((k : ℕ) → valid ≤ k → get_or bits k false ≡ false)
@@ -96,13 +94,6 @@ module _ (mode : Mode) (src : List ℕ) (at valid from : ℕ) (bits : List Bool)
     unset = λ k s later few. let t = held.unset k in grind (arith, get_or-clear_first);
   }
 
-  -- moved down
-  pub held-shifted : (c : ℕ) → c ≤ valid → from ≤ at + c → HoldsFlags mode src (at + c) (valid - c) (at + c) (drop c bits ++ replicate c false)
-  held-shifted c few start = record {
-    set = λ k s. let t = held.set (c + k) in grind (arith, get_or-shifted);
-    unset = λ k s later h. let t = held.unset (c + k) in grind (arith, get_or-shifted);
-  }
-
 -- a lane that is set after some were cleared
 pub cleared-later : (n : ℕ) (bits : List Bool) (k : ℕ) → get_or (clear_first n bits) k false ≡ true → n ≤ k
 cleared-later n bits k s = grind (arith, get_or-cleared_first)
@@ -112,41 +103,34 @@ pub none-before : (mode : Mode) (src : List ℕ) (at start from : ℕ) (bits : L
     → CleanFrom mode src start from → (k : ℕ) → get_or bits k false ≡ true → from ≤ at + k
 none-before mode src at start from bits set clean k s = grind arith
 
--- a vector's classification as a number, of which the text's bytes are the first lanes
-module _ (mode : Mode) (src lanes : List ℕ) (at n valid : ℕ) (long : length lanes ≡ n) (narrow : n ≤ 64) (few : valid ≤ n) (loaded : take valid lanes ≡ take valid (drop at src)) where
-  -- its flags
-  abbrev flags : List Bool
-  flags = map (needs_escape mode) lanes ++ replicate (64 - n) false
+-- the lanes of a mask of a text's bytes
+pub mask-holds : (mode : Mode) (src : List ℕ) (at valid next : ℕ) (mask : MaskOf) → mask.bytes ≡ take valid (drop at src) → at + valid ≤ length src → at + mask.from ≤ next → HoldsFlags mode src at valid next (lanes_of_mask mode mask)
+mask-holds mode src at valid next mask is inside later =
+    let f = map (needs_escape mode) mask.bytes in
+    let long : length mask.bytes ≡ valid = ap length is ∙ length-take-le valid (drop at src) (omega (arith, length-drop at src, inside)) in
+    let lane = λ (k : ℕ) (h : k < valid).
+    get_or_append_left f (replicate (64 - length mask.bytes) false) false k (omega (arith, length-map mask.bytes (needs_escape mode), long, h)) ∙ get_or-map (needs_escape mode) mask.bytes k 0 false (omega (arith, long, h))
+    ∙ ap (λ xs. needs_escape mode (get_or xs k 0)) is ∙ ap (needs_escape mode) (get_or-take valid (drop at src) k 0 h ∙ get_or-drop at src k 0) in
+    let past : (k : ℕ) → valid ≤ k → get_or (f ++ replicate (64 - length mask.bytes) false) k false ≡ false =
+    λ k h. get_or-append_right f (replicate (64 - length mask.bytes) false) valid k false (length-map mask.bytes (needs_escape mode) ∙ long) h ∙ none_set-replicate (64 - length mask.bytes) (k - valid) in
+    held-cleared mode src at valid next (f ++ replicate (64 - length mask.bytes) false) (held-by mode src at valid next (f ++ replicate (64 - length mask.bytes) false) lane past) mask.from (omega (arith, later))
 
-  -- there are 64
-  length-flags : length flags ≡ 64
-  length-flags = grind (arith, length-map, length-append {A = Bool}, length-replicate)
+-- where none is set, the first is no nearer than the last of 64
+first_set-none : (bs : List Bool) → none_set bs ≡ true → first_set bs ≡ length bs
+unfolding first_set none_set
+first_set-none [] none = refl
+first_set-none (false ∷ bs) none = ap suc (first_set-none bs none)
+first_set-none (true ∷ bs) none = cc
 
-  -- one of them
-  lane : (k : ℕ) → k < valid → get_or flags k false ≡ needs_escape mode (get_or src (at + k) 0)
-  lane k h = grind (arith, length-map, get_or_append_left, get_or-map, get_or-take, get_or-drop)
+pub mask-past : (mode : Mode) (mask : MaskOf) (k : ℕ) → is_clear mode mask ≡ true → k ≤ 64 → k ≤ first_set (lanes_of_mask mode mask)
+mask-past mode mask k none few =
+    let f = map (needs_escape mode) mask.bytes in let all = f ++ replicate (64 - length mask.bytes) false in
+    omega (arith, few, first_set-none (lanes_of_mask mode mask) none, length-append (replicate mask.from false) (drop mask.from all), length-replicate {A = Bool} mask.from false, length-drop mask.from all, length-append f (replicate (64 - length mask.bytes) false), length-map mask.bytes (needs_escape mode), length-replicate {A = Bool} (64 - length mask.bytes) false)
 
-  -- cut to the text's bytes
-  pub held-cut : (bits : List Bool) → bits ≡ clear_last (64 - valid) flags → HoldsFlags mode src at valid at bits
-  held-cut bits e = grind (arith, length-flags, held-by, get_or-clear_last, lane, get_or-cleared_last)
-
-  -- where they are all of them
-  pub held-whole : valid ≡ n → (bits : List Bool) → bits ≡ flags → HoldsFlags mode src at valid at bits
-  held-whole all bits e = grind (arith, length-map, held-by, lane, get_or-append_right, none_set-replicate)
-
--- where a vector's mask sets no lane, its bytes are clean
-pub none_clean : (mode : Mode) (lanes : List ℕ) → none_set (map (needs_escape mode) lanes) ≡ true → IsClean mode lanes
-none_clean mode lanes none k h = sym (get_or-map (needs_escape mode) lanes k 0 false h) ∙ none_set-at (map (needs_escape mode) lanes) k none
-
--- What a classifier answered for
-
--- a mask tells of the bytes whose flags it has
-pub held-tells : (mode : Mode) (src : List ℕ) (valid from : ℕ) (bits : List Bool) → HoldsFlags mode src 0 valid from bits → Tells mode src bits from valid
-held-tells mode src valid from bits h k later few = let t = h.set k in let u = h.unset k in grind (arith, cases_Bool)
-
--- all of the bytes are among them
-pub within-all : (part whole : List ℕ) → whole ≡ part → IsWithin part whole
-within-all part whole e = record { at = 0; same = rw e (take_all (length part) part (omega arith)) }
+-- where a mask of a text's bytes flags none, they are clean
+pub mask-clean : (mode : Mode) (src : List ℕ) (at valid : ℕ) (mask : MaskOf) → mask ≡ whole_mask (take valid (drop at src)) → at + valid ≤ length src → is_clear mode mask ≡ true → CleanFrom mode src at (at + valid)
+mask-clean mode src at valid mask is inside none =
+    held-none mode src at valid at (lanes_of_mask mode mask) (mask-holds mode src at valid at mask (ap (λ m. m.bytes) is) inside (omega (arith, ap (λ m. m.from) is))) (omega arith) none
 
 -- bytes of a text's part, from a place on
 pub part-later : (src : List ℕ) (at n from count : ℕ) → from + count ≤ n → take count (drop from (take n (drop at src))) ≡ take count (drop (at + from) src)
@@ -154,14 +138,8 @@ part-later src at n from count few =
     let sum : n ≡ from + (n - from) = omega (arith, few) in
     ap (λ k. take count (drop from (take k (drop at src)))) sum ∙ ap (take count) (drop-take from (n - from) (drop at src)) ∙ take-take count (n - from) (drop from (drop at src)) (omega (arith, few)) ∙ ap (take count) (drop-drop from at src)
 
--- and so are those from a place on
-pub within-later : (src whole : List ℕ) (at passed from n count : ℕ) → whole ≡ take n (drop at src) → from ≡ at + passed → passed + count ≤ n → at + n ≤ length src → IsWithin (take count (drop from src)) whole
-within-later src whole at passed from n count e there few inside =
-    let long : length (take count (drop from src)) ≡ count = length-take-le count (drop from src) (omega (arith, length-drop from src)) in
-    record { at = passed; same = ap (λ k. take k (drop passed whole)) long ∙ ap (λ xs. take count (drop passed xs)) e ∙ part-later src at n passed count few ∙ ap (λ i. take count (drop i src)) (sym there) }
-
--- a part of what is among them
-pub within-part : (text whole : List ℕ) (from count : ℕ) → from + count ≤ length text → IsWithin text whole → IsWithin (take count (drop from text)) whole
-within-part text whole from count inside w =
-    let long : length (take count (drop from text)) ≡ count = length-take-le count (drop from text) (omega (arith, length-drop from text)) in
-    record { at = w.at + from; same = ap (λ k. take k (drop (w.at + from) whole)) long ∙ sym (part-later whole w.at (length text) from count inside) ∙ ap (λ xs. take count (drop from xs)) w.same }
+-- the mask of a text's bytes, without the first ones
+pub mask-left : (src : List ℕ) (at n from : ℕ) → from ≤ n → whole_mask (drop from (take n (drop at src))) ≡ whole_mask (take (n - from) (drop (at + from) src))
+mask-left src at n from few =
+    let sum : n ≡ from + (n - from) = omega (arith, few) in
+    ap whole_mask (ap (λ k. drop from (take k (drop at src))) sum ∙ drop-take from (n - from) (drop at src) ∙ ap (take (n - from)) (drop-drop from at src))

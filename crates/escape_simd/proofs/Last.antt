@@ -1,14 +1,14 @@
 -- The last bytes of a text, held with zeros behind them.
-use Rattle.escape_simd.proofs.Words.{min, ◌≡◌, ℕ, ◌+◌, ◌-◌, ◌*◌, ◌/◌, ◌<◌, ◌≤◌, Bool, true, false, List, [], ◌++◌, length, take, drop, replicate, map, refl, sym, ap, ◌∙◌, arith, append_assoc, append-nil, length-append, length-drop, append_cancel_right, drop_all, drop_at, get_or_past, none_set, length-replicate, replicate-append-replicate, drop-append-le, drop-drop, take_all, take-append-le, clear_last, Mode, script, needs_escape, bytes_of, Target, inner, escaped_count, run_count, flag_count, rest_length, AreTail, IsWithin, Escapes, HasRoom, HoldsFlags, IsStored, IsVectorAt, Passed, state}
+use Rattle.escape_simd.proofs.Words.{min, ◌≡◌, ℕ, ◌+◌, ◌-◌, ◌*◌, ◌/◌, ◌<◌, ◌≤◌, true, false, List, [], ◌++◌, length, take, drop, replicate, refl, sym, ap, ◌∙◌, arith, append_assoc, append-nil, length-append, length-drop, append_cancel_right, drop_all, drop_at, get_or_past, length-replicate, replicate-append-replicate, drop-append-le, drop-drop, take_all, take-append_seam, MaskOf, is_clear, lanes_of_mask, whole_mask, Mode, script, bytes_of, Target, inner, escaped_count, run_count, flag_count, rest_length, AreTailMasks, Escapes, HasRoom, IsStored, IsVectorAt, Passed, state}
 use Rattle.std.proofs.Math.Nat.{div-eq_of_lt, div-eq_of_lt-le}
 use Rattle.escape_simd.proofs.Behind.{inner-behind, escaped-behind, get_or-behind, runs-behind}
-use Rattle.escape_simd.proofs.Lanes.{CleanFrom, get_or-clear_last, get_or-cleared_last, held-cut, held-none}
+use Rattle.escape_simd.proofs.Lanes.{CleanFrom, mask-clean, mask-holds}
 use Rattle.escape_simd.proofs.ReplacementLemmas.{inner-nil}
 use Rattle.escape_simd.proofs.RestSteps.{rest-bounds, rest-flagged, rest-is}
 use Rattle.escape_simd.proofs.Stretches.{ended, onward_to, stored_ahead}
 use Rattle.escape_simd.proofs.Texts.{escaped-empty, runs-empty}
 use Rattle.escape_simd.proofs.Turns.{ahead-front, ahead-passed, ahead-runs}
-use Rattle.escape_simd.proofs.Vectors.{clean-stored, escapes-ended, escapes-later, holds-from, passed-to}
+use Rattle.escape_simd.proofs.Vectors.{clean-stored, escapes-ended, escapes-later, passed-to}
 
 -- n zeros
 abbrev pub zeros : ℕ → List ℕ
@@ -33,13 +33,6 @@ module _ (mode : Mode) (text : List ℕ) (k : ℕ) where
   -- what is behind it
   behind : drop (length text) held ≡ zeros k
   behind = drop_at text (zeros k) (length text) refl
-
-  -- a mask of it
-  pub holds-behind : (at valid from : ℕ) (bits : List Bool) → HoldsFlags mode text at valid from bits → HoldsFlags mode held at valid from bits
-  holds-behind at valid from bits h = record {
-    set = λ i s. let t = h.set i s in grind (arith, get_or-behind);
-    unset = λ i s later few. let t = h.unset i s in grind (arith, get_or-behind);
-  }
 
   -- what escaped it
   pub escapes-behind : {N : ℕ} {slack border vectors asked : ℕ} {old new : Target N} {to end t0 t1 : ℕ} → Escapes mode slack border vectors asked held (state old 0 to t0) (state new (length text) end t1)
@@ -79,18 +72,11 @@ two-clean {mode = mode} {slack = slack} {n = n} {text = text} {old = old} {mid =
       cost = omega (arith, s1.stored, s2.stored, same);
     }
 
--- A short text by its masks
+-- A short text
 
 -- it is all that is loaded of it
 pub loaded-short : (text lanes : List ℕ) (n m : ℕ) → m ≡ n → lanes ≡ drop (length text - length text) text ++ zeros (m - length text) → lanes ≡ text ++ zeros (n - length text)
 loaded-short text lanes n m same loaded = let none : length text - length text ≡ 0 = omega arith in rw (sym same) (rw none at loaded)
-
--- fewer bytes of a mask
-pub held-fewer : (mode : Mode) (src : List ℕ) (at n from valid : ℕ) (bits : List Bool) → HoldsFlags mode src at n from bits → length bits ≡ 64 → valid ≤ n → n ≤ 64 → HoldsFlags mode src at valid from (clear_last (64 - valid) bits)
-held-fewer mode src at n from valid bits h long few narrow = record {
-  set = λ k s. let t = h.set k in grind (arith, get_or-clear_last, get_or-cleared_last);
-  unset = λ k s later below. let t = h.unset k in grind (arith, get_or-clear_last);
-}
 
 -- a short text as its last vector, in two rows
 pub spilled-short : (text lanes dst : List ℕ) (n m : ℕ) → length text < n → m ≡ n → lanes ≡ text ++ zeros (n - length text) → dst ≡ lanes ++ drop m (zeros n) → dst ++ (zeros n ++ []) ≡ drop (length text - n) text ++ zeros (2 * n - min (length text) n)
@@ -109,18 +95,23 @@ tail-rows text rows border passed next k is at inside = grind (arith, take_all, 
 -- The last bytes of a text from a place on, with zeros behind them
 module _ (mode : Mode) (slack n : ℕ) (text held : List ℕ) (next left k end : ℕ) (inside : next ≤ length text) (all : left ≡ length text - next) (is : held ≡ drop next text ++ zeros k) where
   -- they can be escaped as a vector
-  pub last-vector : (size : ℕ) (bits : List Bool) → left ≤ n → n ≤ k → HoldsFlags mode text next left next bits → HasRoom mode slack text next (length text) end size → IsVectorAt mode n slack held 0 left end size bits
-  last-vector size bits few free h room =
+  pub last-vector : (size : ℕ) → left ≤ n → n ≤ k → HasRoom mode slack text next (length text) end size → IsVectorAt mode n slack held 0 left end size
+  last-vector size few free room =
       let rest = drop next text in let long = length-drop next text in
       let front = rest-is mode (rest ++ zeros k) 0 ∙ ap length (inner-behind mode rest k) ∙ length-append (inner mode rest) (inner mode (zeros k)) in
       let back = rest-is mode (rest ++ zeros k) (0 + left) ∙ ap (λ xs. length (inner mode xs)) (drop_at rest (zeros k) (0 + left) (omega (arith, all, long))) in
       let none = (rest-bounds mode text (length text)).1 in
       record {
-        flags = grind (arith, holds-behind, holds-from);
         few = few;
-        inside = grind (arith, length-held, length-drop {A = ℕ});
+        inside = omega (arith, ap length is, length-held mode rest k, long, all, free);
         room = rw is (record { fits = omega (arith, room.fits, front, back, rest-is mode text next, none) });
       }
+
+  -- a mask of the text's bytes is one of theirs
+  pub last-told : {mask : MaskOf} → mask ≡ whole_mask (drop next text) → mask ≡ whole_mask (take left held)
+  last-told told =
+      let rest = drop next text in let count : left ≡ length rest = omega (arith, all, length-drop next text) in
+      told ∙ ap whole_mask (sym (ap (take left) is ∙ ap (λ j. take j (rest ++ zeros k)) count ∙ take-append_seam rest (zeros k)))
 
   -- then all are
   pub last-all : {N : ℕ} (old new : Target N) (past close t0 t1 : ℕ) → Escapes mode slack (0 + left) 1 1 held (state old 0 end t0) (state new past close t1) → Escapes mode slack (length text) 1 1 text (state old next end t0) (state new (length text) close t1)
@@ -130,53 +121,30 @@ module _ (mode : Mode) (slack n : ℕ) (text held : List ℕ) (next left k end :
       let whole : next + length (drop next text) ≡ length text = omega (arith, count, inside) in
       escapes-ended whole whole refl (escapes-later text (drop next text) next refl inside (escapes-behind mode (drop next text) k (rw (is, stops) at e)))
 
--- The last bytes of a text, with their flags
-
--- the mask of fewer bytes than a vector has
-pub last-mask : (mode : Mode) (n : ℕ) (text lanes : List ℕ) (truths whole bits : List Bool) → n ≤ 64 → length text < n → length lanes ≡ n → lanes ≡ text ++ zeros (n - length text)
-    → truths ≡ map (needs_escape mode) lanes → whole ≡ truths ++ replicate (64 - n) false → bits ≡ clear_last (64 - length text) whole → HoldsFlags mode text 0 (length text) 0 bits
-last-mask mode n text lanes truths whole bits narrow few long loaded flagged all cut =
-    held-cut mode text lanes 0 n (length text) long narrow (omega (arith, few)) (grind (arith, take-append-le)) bits (cc)
-
--- it is a short text
-pub last-short : {mode : Mode} {n : ℕ} {text : List ℕ} {none bits : List Bool} {first_asked last_asked : List ℕ} → length text < n → HoldsFlags mode text 0 (length text) 0 bits → last_asked ≡ text → AreTail mode n text none bits first_asked last_asked
-last-short {n = n} {text = text} {last_asked = last_asked} few held asked =
-    let start : length text - n ≡ 0 = omega (arith, few) in
-    let whole : last_asked ≡ drop (length text - n) text = asked ∙ sym (ap (λ k. drop k text) start) in grind arith
-
--- and so is one of a vector and more
-pub last-pair : {mode : Mode} {n : ℕ} {text : List ℕ} {first last : List Bool} {first_asked last_asked : List ℕ} → n ≤ length text → length text < 2 * n → HoldsFlags mode text 0 n 0 first → HoldsFlags mode text (length text - n) n (length text - n) last
-    → first_asked ≡ take n text → last_asked ≡ take n (drop (length text - n) text) → AreTail mode n text first last first_asked last_asked
-last-pair {n = n} {text = text} inside few held1 held2 asked1 asked2 =
-    let whole = take_all n (drop (length text - n) text) (omega (arith, length-drop (length text - n) text)) in grind arith
-
--- what is left of a text's last vector is among the bytes for which a classifier answered
-pub within-tail : (text rows whole : List ℕ) (border next k : ℕ) → rows ≡ drop next text ++ zeros k → whole ≡ drop border text → border ≤ next → next ≤ length text → IsWithin (take (length text - next) rows) whole
-within-tail text rows whole border next k is asked after inside =
-    let count = length-drop next text in
-    let part : take (length text - next) rows ≡ drop next text = ap (take (length text - next)) is ∙ take-append-le (length text - next) (drop next text) (zeros k) (omega (arith, count)) ∙ take_all (length text - next) (drop next text) (omega (arith, count)) in
-    let there : border + (next - border) ≡ next = omega (arith, after) in
-    let cut : drop (next - border) whole ≡ drop next text = ap (drop (next - border)) asked ∙ drop-drop (next - border) border text ∙ ap (λ i. drop i text) there in
-    record { at = next - border; same = rw (part, cut) (take_all (length (drop next text)) (drop next text) (omega arith)) }
-
 -- A short text of which no byte is flagged
-module _ {mode : Mode} {n : ℕ} {text : List ℕ} {first last : List Bool} {first_asked last_asked : List ℕ} (t : AreTail mode n text first last first_asked last_asked) where
-  -- its last vector is clean, which may be all of it
-  pub tail-clean_back : none_set last ≡ true → CleanFrom mode text (length text - n) (length text)
-  tail-clean_back none p late early = held-none mode text (length text - n) (min (length text) n) (length text - n) last t.back (omega arith) none p late (omega (arith, early))
+module _ (mode : Mode) {n : ℕ} {text : List ℕ} {first last : MaskOf} (t : AreTailMasks n text first last) where
+  -- its last vector is all that is left of it
+  tail-back : last ≡ whole_mask (take (min (length text) n) (drop (length text - n) text))
+  tail-back = t.back ∙ ap whole_mask (sym (take_all (min (length text) n) (drop (length text - n) text) (omega (arith, length-drop (length text - n) text))))
 
-  -- and its first one
-  pub tail-clean_front : n ≤ length text → none_set first ≡ true → CleanFrom mode text 0 n
-  tail-clean_front some none p late early = held-none mode text 0 n 0 first (t.front some) (omega arith) none p late (omega (arith, early))
+  -- it is clean, and may be all of the text
+  pub tail-clean_back : is_clear mode last ≡ true → CleanFrom mode text (length text - n) (length text)
+  tail-clean_back none p late early = mask-clean mode text (length text - n) (min (length text) n) last tail-back (omega arith) none p late (omega (arith, early))
 
--- A short text that has room for its bytes, and for five more for each lane that is set, has room for what they become.
-pub tail-room : {mode : Mode} {n : ℕ} {text : List ℕ} {first last : List Bool} {first_asked last_asked : List ℕ} (slack to size : ℕ) → AreTail mode n text first last first_asked last_asked → to + (length text + 5 * (flag_count first + flag_count last)) + slack ≤ size → HasRoom mode slack text 0 (length text) to size
-tail-room {mode} {n} {text} {first} {last} slack to size t fits =
-    let border : ℕ = length text - n in let count : ℕ = min (length text) n in
-    let front = rest-flagged mode text border 0 first (omega arith) (λ k before none. (t.front (omega (arith, before))).unset k none (omega arith) (omega (arith, before, t.few))) in
-    let back = rest-flagged mode text count border last (omega arith) (λ k before none. t.back.unset k none (omega arith) before) in
-    let begin : 0 + border ≡ border = omega arith in let all : border + count ≡ length text = omega arith in
-    record { fits = omega (arith, fits, front, back, ap (rest_length mode text) begin, ap (rest_length mode text) all) }
+  -- and so is the first one
+  pub tail-clean_front : n ≤ length text → is_clear mode first ≡ true → CleanFrom mode text 0 n
+  tail-clean_front some none p late early = mask-clean mode text 0 n first (t.front some) (omega (arith, some)) none p late (omega (arith, early))
+
+  -- where it has room for its bytes, and for five more for each lane that is set, it has room for what they become
+  pub tail-room : (slack to size : ℕ) → to + (length text + 5 * (flag_count (lanes_of_mask mode first) + flag_count (lanes_of_mask mode last))) + slack ≤ size → HasRoom mode slack text 0 (length text) to size
+  tail-room slack to size fits =
+      let border : ℕ = length text - n in let count : ℕ = min (length text) n in
+      let held1 = λ (some : n ≤ length text). mask-holds mode text 0 n 0 first (ap (λ m. m.bytes) (t.front some)) (omega (arith, some)) (omega (arith, ap (λ m. m.from) (t.front some))) in
+      let held2 = mask-holds mode text border count border last (ap (λ m. m.bytes) tail-back) (omega arith) (omega (arith, ap (λ m. m.from) tail-back)) in
+      let front = rest-flagged mode text border 0 (lanes_of_mask mode first) (omega arith) (λ k before none. (held1 (omega (arith, before))).unset k none (omega arith) (omega (arith, before, t.few))) in
+      let back = rest-flagged mode text count border (lanes_of_mask mode last) (omega arith) (λ k before none. held2.unset k none (omega arith) before) in
+      let begin : 0 + border ≡ border = omega arith in let all : border + count ≡ length text = omega arith in
+      record { fits = omega (arith, fits, front, back, ap (rest_length mode text) begin, ap (rest_length mode text) all) }
 
 -- how many vectors a short text begins
 pub one-begun : (n count : ℕ) → count < n → 1 ≡ count / n + 1

@@ -1,7 +1,7 @@
 -- How long what stands for parts of a text is, and for the whole.
-use Rattle.escape_simd.proofs.Words.{◌≡◌, ◌≢◌, ℕ, zero, suc, ◌+◌, ◌-◌, ◌*◌, ◌<◌, ◌≤◌, Bool, true, false, List, [], ◌∷◌, ◌++◌, length, drop, get_or, replicate, ap, ◌∙◌, arith, rules, length-append, length-drop, length-replicate, inl, inr, cases_lt, count_by, nat_tests, first_set, none_set, clear_first, clear_last, entry_count, map, take-append-le, Mode, script, needs_escape, replacement, inner, begins_separator, passed, first_replacement, plain, quote_count, rest_length, HoldsFlags, IsFlaggedAt, IsFront, IsPartLength}
+use Rattle.escape_simd.proofs.Words.{◌≡◌, ◌≢◌, ℕ, ◌+◌, ◌-◌, ◌*◌, ◌<◌, ◌≤◌, Bool, true, false, List, [], ◌∷◌, length, drop, get_or, ap, ◌∙◌, arith, length-append, length-drop, inl, inr, cases_lt, count_by, nat_tests, first_set, MaskOf, is_clear, lanes_of_mask, mask_from, whole_mask, take, sym, entry_count, Mode, script, needs_escape, replacement, inner, begins_separator, passed, first_replacement, plain, quote_count, rest_length, IsFlaggedAt, IsFront, IsPartLength}
 use Rattle.escape_simd.proofs.Escapes.{entry-counts, first-alone, passed-alone}
-use Rattle.escape_simd.proofs.Lanes.{CleanFrom, held-cut, cleared-later, first-set, first_set-here, held-cleared, held-first, held-further, held-none}
+use Rattle.escape_simd.proofs.Lanes.{CleanFrom, HoldsFlags, cleared-later, first-set, first_set-here, held-first, held-none, mask-holds}
 use Rattle.escape_simd.proofs.OutputLemmas.{length-plain}
 use Rattle.escape_simd.proofs.Parts.{itself, none-counted}
 use Rattle.escape_simd.proofs.ReplacementLemmas.{inner-nil, length-replacement}
@@ -33,76 +33,59 @@ part-few mode src at next len forward inside part = omega (arith, rest-between m
 pub part-longer : (mode : Mode) (src : List ℕ) (at count len : ℕ) → at + count ≤ length src → IsPartLength mode src at (at + count) len → len ≢ count → length src - at < rest_length mode src at
 part-longer mode src at count len inside part other = omega (arith, rest-between mode src at (at + count) (omega arith) inside, rest-bounds mode src (at + count), part, other)
 
--- The last bytes
-
--- their mask, told of the whole text
-pub last-held : (mode : Mode) (n : ℕ) (src lanes : List ℕ) (at count : ℕ) (truths whole bits : List Bool) → n ≤ 64 → at + count ≡ length src → count ≤ n
-    → lanes ≡ drop (length src - count) src ++ replicate (n - count) 0 → truths ≡ map (needs_escape mode) lanes → whole ≡ truths ++ replicate (64 - n) false → bits ≡ clear_last (64 - count) whole
-    → HoldsFlags mode src at count at bits
-last-held mode n src lanes at count truths whole bits narrow ends few loaded flagged all cut =
-    let long : length lanes ≡ n = omega (arith, few, ends, ap length loaded, length-append (drop (length src - count) src) (replicate (n - count) 0), length-drop (length src - count) src, length-replicate {A = ℕ} (n - count) 0) in
-    let from : length src - count ≡ at = omega (arith, ends) in
-    held-cut mode src lanes at n count long narrow few (grind (arith, take-append-le, length-drop {A = ℕ})) bits (cc)
-
 -- The flagged bytes of a part
 
--- Those before `next` were counted.
-pub record CountedSoFar (mode : Mode) (src : List ℕ) (at valid len : ℕ) (bits : List Bool) : Type 0 where
-  pub next : ℕ
-  pub after : at ≤ next
-  pub before : next ≤ at + valid
-  pub flags : HoldsFlags mode src at valid next bits
-  pub cleared : (k : ℕ) → get_or bits k false ≡ true → next ≤ at + k
-  pub counted : len + rest_length mode src next ≡ rest_length mode src at + (at + valid - next)
-
--- a mask whose first lanes are cleared has its first set one behind them
-first_set-past : (n : ℕ) (bits : List Bool) → first_set (replicate n false ++ bits) ≡ n + first_set bits
-unfolding first_set
-first_set-past zero bits = omega arith
-first_set-past (suc n) bits = omega (arith, first_set-past n bits)
+-- Those before the first that the mask tells of were counted.
+pub record CountedSoFar (mode : Mode) (src : List ℕ) (at valid len : ℕ) (mask : MaskOf) : Type 0 where
+  pub bytes : mask.bytes ≡ take valid (drop at src)
+  pub before : mask.from ≤ valid
+  pub counted : len + rest_length mode src (at + mask.from) ≡ rest_length mode src at + (valid - mask.from)
 
 module _ (mode : Mode) (src : List ℕ) (at valid : ℕ) (inside : at + valid ≤ length src) where
   -- none yet
-  pub counted-begin : (bits : List Bool) → HoldsFlags mode src at valid at bits → CountedSoFar mode src at valid valid bits
-  counted-begin bits held = search (rules, held)
+  pub counted-begin : (mask : MaskOf) → mask ≡ whole_mask (take valid (drop at src)) → CountedSoFar mode src at valid valid mask
+  counted-begin mask is =
+      let first = ap (λ m. m.from) is in let here : at + mask.from ≡ at = omega (arith, first) in
+      record { bytes = ap (λ m. m.bytes) is; before = omega (arith, first); counted = omega (arith, first, ap (rest_length mode src) here) }
 
-  module _ (len : ℕ) (bits : List Bool) (so_far : CountedSoFar mode src at valid len bits) where
+  module _ (len : ℕ) (mask : MaskOf) (so_far : CountedSoFar mode src at valid len mask) where
+    -- its lanes
+    abbrev bits : List Bool
+    bits = lanes_of_mask mode mask
+
+    held : HoldsFlags mode src at valid (at + mask.from) bits
+    held = mask-holds mode src at valid (at + mask.from) mask so_far.bytes inside (omega arith)
+
     -- six bytes at most stand for each
     pub counted-few : len ≤ 6 * valid
     counted-few =
-        omega (arith, rest-between mode src at (at + valid) (omega arith) inside, rest-between mode src so_far.next (at + valid) so_far.before inside, so_far.counted, so_far.after)
+        omega (arith, rest-between mode src at (at + valid) (omega arith) inside, rest-between mode src (at + mask.from) (at + valid) (omega (arith, so_far.before)) inside, so_far.counted, so_far.before)
 
     -- all of them
-    pub counted-end : none_set bits ≡ true → IsPartLength mode src at (at + valid) len
+    pub counted-end : is_clear mode mask ≡ true → IsPartLength mode src at (at + valid) len
     counted-end none =
-        let clean = held-none mode src at valid so_far.next bits so_far.flags so_far.after none in
-        omega (arith, clean_rest mode src so_far.next (at + valid) so_far.before clean inside, so_far.counted, so_far.before)
+        let clean = held-none mode src at valid (at + mask.from) bits held (omega arith) none in
+        omega (arith, clean_rest mode src (at + mask.from) (at + valid) (omega (arith, so_far.before)) clean inside, so_far.counted, so_far.before)
 
-    module _ (some : none_set bits ≡ false) (f : ℕ) (is : f ≡ first_set bits) where
+    module _ (some : is_clear mode mask ≡ false) (f : ℕ) (is : f ≡ first_set bits) where
       -- the next one is a flagged byte of the part
-      pub counted-first : IsFlaggedAt mode src (at + f) × (f < valid)
-      counted-first = grind (arith, first-set mode src at valid so_far.next bits so_far.flags some)
+      pub counted-first : IsFlaggedAt mode src (at + f) × (f < valid) × (mask.from ≤ f)
+      counted-first =
+          let s = first-set mode src at valid (at + mask.from) bits held some in
+          (record { inside = omega (arith, s, is, inside); needed = rw (sym is) at s.1 }, omega (arith, s, is), omega (arith, is, cleared-later mask.from _ (first_set bits) (first_set-here bits some)))
 
       -- one more
-      pub counted-next : (more : ℕ) → IsPartLength mode src (at + f) (at + f + 1) (more + 1) → CountedSoFar mode src at valid (len + more) (clear_first (first_set bits + 1) bits)
-      counted-next more one =
-          let few = counted-first.1 in
-          let late : so_far.next ≤ at + f = omega (arith, so_far.cleared (first_set bits) (first_set-here bits some), is) in
-          let clean : CleanFrom mode src so_far.next (at + f) = λ p after before. held-first mode src at valid so_far.next bits so_far.flags some so_far.after p after (omega (arith, before, is)) in
-          let passed = clean_rest mode src so_far.next (at + f) late clean (omega (arith, few, inside)) in
+      pub counted-next : (more : ℕ) (rest : MaskOf) → IsPartLength mode src (at + f) (at + f + 1) (more + 1) → rest ≡ mask_from mask.bytes (first_set bits + 1) → CountedSoFar mode src at valid (len + more) rest
+      counted-next more rest one cut =
+          let few = counted-first in let from : rest.from ≡ f + 1 = omega (arith, ap (λ m. m.from) cut, is) in
+          let clean : CleanFrom mode src (at + mask.from) (at + f) = λ p after before. held-first mode src at valid (at + mask.from) bits held some (omega arith) p after (omega (arith, before, is)) in
+          let passed = clean_rest mode src (at + mask.from) (at + f) (omega (arith, few)) clean (omega (arith, few, inside)) in
+          let there : at + rest.from ≡ at + f + 1 = omega (arith, from) in
           record {
-            next = at + f + 1;
-            after = omega arith;
-            before = omega (arith, few);
-            flags = held-cleared mode src at valid (at + f + 1) bits (held-further mode src at valid so_far.next bits so_far.flags (at + f + 1) (omega (arith, late))) (first_set bits + 1) (omega (arith, is));
-            cleared = λ k set. omega (arith, cleared-later (first_set bits + 1) bits k set, is);
-            counted = omega (arith, passed, one, so_far.counted, late, few, so_far.before);
+            bytes = ap (λ m. m.bytes) cut ∙ so_far.bytes;
+            before = omega (arith, few, from);
+            counted = omega (arith, passed, one, so_far.counted, few, from, ap (rest_length mode src) there);
           }
-
-      -- the lanes that are left are fewer
-      pub counted-fewer : (rest : List Bool) → rest ≡ clear_first (first_set bits + 1) bits → (first_set bits < first_set rest) × (first_set bits < valid)
-      counted-fewer rest cleared =
-          (omega (arith, ap first_set cleared, first_set-past (first_set bits + 1) (drop (first_set bits + 1) bits)), omega (arith, counted-first.1, is))
 
 -- The whole text
 

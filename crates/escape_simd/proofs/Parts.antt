@@ -1,7 +1,7 @@
 -- A text that is appended: from registers, or part by part in place.
-use Rattle.escape_simd.proofs.Words.{◌≡◌, ℕ, ◌+◌, ◌-◌, ◌<◌, ◌≤◌, Bool, true, false, cond, List, [], ◌++◌, length, length-drop, take, drop, slice_range, replicate, get_or, sym, ap, ◌∙◌, append_assoc, arith, count_by, take-add, take-append-add, take-append_seam, nat_tests, append-nil, take-append-drop, take-take, take_all, get_or-le-sum_by, none_set, Mode, bytes_of, Target, inner, quote_of, IsFront, IsPartAt, AreTail, reach}
+use Rattle.escape_simd.proofs.Words.{◌≡◌, ℕ, ◌+◌, ◌-◌, ◌<◌, ◌≤◌, Bool, true, false, cond, List, [], ◌++◌, length, length-drop, take, drop, slice_range, replicate, get_or, sym, ap, ◌∙◌, append_assoc, arith, count_by, take-add, take-append-add, take-append_seam, nat_tests, append-nil, take-append-drop, take-take, take_all, get_or-le-sum_by, MaskOf, IsClassified, is_clear, ◌*◌, ◌&&◌, and_parts, Mode, bytes_of, Target, inner, quote_of, IsFront, IsPartAt, AreTailMasks, reach}
 use Rattle.escape_simd.proofs.Costs.{BodySoFar}
-use Rattle.escape_simd.proofs.Lanes.{CleanFrom, clean-list}
+use Rattle.escape_simd.proofs.Lanes.{CleanFrom, clean-list, mask-clean}
 use Rattle.escape_simd.proofs.Last.{tail-clean_back, tail-clean_front}
 use Rattle.escape_simd.proofs.ReplacementLemmas.{inner-nil}
 use Rattle.escape_simd.proofs.RestSteps.{rest-is}
@@ -50,11 +50,24 @@ marked mode text old new last written quoted = grind (arith, append_assoc)
 -- Short texts
 
 -- a short text of which no byte is flagged stands for itself
-pub tail-itself : {first last : List Bool} {first_asked last_asked : List ℕ} (mode : Mode) (n : ℕ) (text : List ℕ) → AreTail mode n text first last first_asked last_asked → none_set first ≡ true → none_set last ≡ true → inner mode text ≡ text
+pub tail-itself : {first last : MaskOf} (mode : Mode) (n : ℕ) (text : List ℕ) → AreTailMasks n text first last → is_clear mode first ≡ true → is_clear mode last ≡ true → inner mode text ≡ text
 tail-itself mode n text t none1 none2 =
     itself mode text (λ p late early.
-    let few = t.few in let back = tail-clean_back t none2 p in
-    let front = λ (some : n ≤ length text). tail-clean_front t some none1 p in grind (arith, few, back, front))
+    let few = t.few in let back = tail-clean_back mode t none2 p in
+    let front = λ (some : n ≤ length text). tail-clean_front mode t some none1 p in grind (arith, few, back, front))
+
+-- four clean vectors are clean
+pub clean-four : (mode : Mode) (n : ℕ) (src : List ℕ) (at : ℕ) {mask1 mask2 mask3 mask4 : MaskOf} {lanes1 lanes2 lanes3 lanes4 : List ℕ} {clear : Bool} → at + 4 * n ≤ length src
+    → IsClassified n src at lanes1 mask1 → IsClassified n src (at + n) lanes2 mask2 → IsClassified n src (at + 2 * n) lanes3 mask3 → IsClassified n src (at + 3 * n) lanes4 mask4
+    → clear ≡ ((is_clear mode mask1 && is_clear mode mask2) && (is_clear mode mask3 && is_clear mode mask4)) → clear ≡ true → CleanFrom mode src at (at + 4 * n)
+clean-four mode n src at {mask1} {mask2} {mask3} {mask4} inside a b c d is clear p late early =
+    let all = and_parts (is_clear mode mask1 && is_clear mode mask2) (is_clear mode mask3 && is_clear mode mask4) (sym is ∙ clear) in
+    let front = and_parts (is_clear mode mask1) (is_clear mode mask2) all.0 in let back = and_parts (is_clear mode mask3) (is_clear mode mask4) all.1 in
+    let c1 = mask-clean mode src at n mask1 a.told (omega (arith, inside)) front.0 p in
+    let c2 = mask-clean mode src (at + n) n mask2 b.told (omega (arith, inside)) front.1 p in
+    let c3 = mask-clean mode src (at + 2 * n) n mask3 c.told (omega (arith, inside)) back.0 p in
+    let c4 = mask-clean mode src (at + 3 * n) n mask4 d.told (omega (arith, inside)) back.1 p in
+    grind (arith, c1, c2, c3, c4, late, early)
 
 -- the first lanes of a vector that was loaded with a text are the text
 pub lanes-front : (n : ℕ) (text lanes : List ℕ) → lanes ≡ text ++ replicate (n - length text) 0 → take (length text) lanes ≡ text

@@ -1,10 +1,10 @@
 -- A vector escaped in blocks, block after block.
-use Rattle.escape_simd.proofs.Words.{◌≡◌, ℕ, ◌+◌, ◌-◌, ◌*◌, ◌/◌, ◌<◌, ◌≤◌, min, Bool, true, false, cond, not, ◌&&◌, ◌||◌, List, ◌++◌, length, take, drop, map, replicate, nat_eq, get_or, refl, sym, ap, ◌∙◌, arith, length-append, length-take-le, length-drop, IsWithin, Tells, cases_Bool, paste, nat_tests, drop-drop, length-map, take-map, take-take, get_or-take, get_or-drop, get_or_past, bits_of, first_set, length-bits_of, Mode, bytes_of, stored_of, Target, shortened, flag_count, flagged_blocks, put_apart, IsBlock, Stretch, HasBlocks, length-replicate, count_by-le-length}
-use Rattle.escape_simd.proofs.Lanes.{first_set-here}
+use Rattle.escape_simd.proofs.Words.{◌≡◌, ℕ, ◌+◌, ◌-◌, ◌*◌, ◌/◌, ◌<◌, ◌≤◌, min, Bool, true, false, cond, not, ◌&&◌, List, ◌++◌, length, take, drop, map, replicate, nat_eq, get_or, refl, sym, ap, subst, ◌∙◌, arith, append_assoc, length-append, length-take-le, length-drop, drop-append-le, drop-map, take-append-le, replicate-append-replicate, paste, nat_tests, drop-drop, length-map, take-map, take-take, get_or-take, get_or-drop, get_or_past, bits_of, clear_first, length-bits_of, MaskOf, lanes_of_mask, whole_mask, Mode, needs_escape, bytes_of, stored_of, Target, shortened, flag_count, flagged_blocks, put_apart, IsBlock, IsBlockAt, Stretch, HasBlocks, HasRoom, length-replicate, count_by-le-length}
+use Rattle.escape_simd.proofs.Lanes.{HoldsFlags, mask-holds, mask-left}
 use Rattle.escape_simd.proofs.RestSteps.{rest-between}
 use Rattle.escape_simd.proofs.PutApart.{AreMarked, count-none, blocks-none, blocks-one, blocks-onward, length-put_apart, marked-apart}
-use Rattle.escape_simd.proofs.Shortened.{KeepsClean, keeps-clean}
-use Rattle.escape_simd.proofs.Stretches.{pasted, ended, onward_at}
+use Rattle.escape_simd.proofs.Shortened.{KeepsClean}
+use Rattle.escape_simd.proofs.Stretches.{pasted, ended, onward_at, room-on}
 
 -- a vector is counted where there are no escapes
 counted : (n : ℕ) → cond (nat_eq n 0) 1 0 ≡ 1 - n
@@ -26,6 +26,55 @@ block-stretch mode clean src old new at k to end flags eight marked some w room 
     (omega (arith, marked.few, marked.inside, length-drop at src)) apart.0 (omega arith) (omega (arith, w.written.escaped, apart.1)) (omega (arith, w.written.quotes))
     (omega (arith, w.written.writes, w.written.stored, w.written.escaped, counted (flag_count flags)))
 
+-- A mask's first block
+
+module _ {mode : Mode} {src : List ℕ} {at to size : ℕ} {mask : MaskOf} (is : mask ≡ whole_mask (take (length mask.bytes) (drop at src))) (h : HasBlocks mode src at (length mask.bytes) to size) where
+  -- its flags
+  abbrev flags : List Bool
+  flags = take 8 (lanes_of_mask mode mask)
+
+  held : HoldsFlags mode src at (length mask.bytes) at (lanes_of_mask mode mask)
+  held = mask-holds mode src at (length mask.bytes) at mask (ap (λ m. m.bytes) is) (omega (arith, h.inside)) (omega (arith, ap (λ m. m.from) is))
+
+  module _ (n : ℕ) (number : bits_of 64 n ≡ lanes_of_mask mode mask) where
+    -- there are eight
+    eight : length flags ≡ 8
+    eight = length-take-le 8 (lanes_of_mask mode mask) (omega (arith, ap length number, length-bits_of 64 n))
+
+    -- each of them
+    flag : (i : ℕ) → get_or flags i false ≡ true → (i < 8) × (get_or (lanes_of_mask mode mask) i false ≡ true)
+    flag i s =
+        let l : i < 8 = grind (arith, nat_tests, get_or_past, eight) in
+        (l, sym (get_or-take 8 (lanes_of_mask mode mask) i false l) ∙ s)
+
+    -- they are those of the text's bytes
+    block-marked : ((i : ℕ) → get_or src i 0 < 256) → AreMarked mode flags (min 8 (length mask.bytes)) (drop at src)
+    block-marked bytes = record {
+      few = omega (arith, eight);
+      inside = omega (arith, eight, length-drop at src, h.inside);
+      bytes = λ i. rw (get_or-drop at src i 0) (bytes (at + i));
+      set = λ i s. let l = flag i s in let t = held.set i l.1 in rw (get_or-drop at src i 0) (omega (arith, l, t), t.1);
+      short = λ i s. let l = flag i s in let t = held.set i l.1 in rw (get_or-drop at src i 0) (h.short i t.0 t.1);
+      unset = λ i l c. rw (get_or-drop at src i 0) (held.unset i (sym (get_or-take 8 (lanes_of_mask mode mask) i false (omega (arith, l))) ∙ c) (omega arith) (omega (arith, l)));
+    }
+
+    -- it was escaped
+    pub block-escaped : {N : ℕ} {old new : Target N} {end : ℕ} (v : List ℕ) {fs : List Bool} → ((i : ℕ) → get_or src i 0 < 256) → size ≡ length (bytes_of old) → fs ≡ flags → take 8 v ≡ take 8 (map shortened (take 16 (drop at src))) → IsBlock fs (take 8 v) old new to end
+        → IsBlockAt mode mask src old new at to end
+    block-escaped {N} {old} {new} {end} v {fs} bytes size_is same shorter w =
+        let k : ℕ = min 8 (length mask.bytes) in
+        let half : take 8 v ≡ map shortened (take 8 (drop at src)) = shorter ∙ take-map shortened 8 (take 16 (drop at src)) ∙ ap (map shortened) (take-take 8 16 (drop at src) (omega arith)) in
+        let b = rw (same, half) at w in
+        let least = rest-between mode src at (at + length mask.bytes) (omega arith) (omega (arith, h.inside)) in
+        let step = block-stretch mode h.kept src old new at k to end flags eight (block-marked bytes) (omega (arith, h.some)) b (omega (arith, least, h.room.fits, size_is, h.some)) in
+        record {
+          stretch = ended step refl (omega (arith, b.after));
+          after = b.after;
+          stored = omega (arith, b.written.stored, counted (flag_count flags), blocks-one (lanes_of_mask mode mask));
+        }
+
+-- Block after block
+
 -- Of the text's `valid` bytes at `at`, with these flags, those of so many blocks were escaped, and the blocks end at `end`. The last
 -- one may have more bytes. A block without a flag counts as a vector.
 pub record AreDone {N : ℕ} (mode : Mode) (src : List ℕ) (bits : List Bool) (old new : Target N) (at valid to end blocks : ℕ) : Type 0 where
@@ -34,125 +83,101 @@ pub record AreDone {N : ℕ} (mode : Mode) (src : List ℕ) (bits : List Bool) (
   pub stored : stored_of new + flagged_blocks blocks bits ≡ stored_of old + blocks
   pub few : blocks ≤ (valid + 7) / 8
 
--- The same, with what is left of the vector's own classification, unless a block used it up. Each further block without a flag was
--- classified.
-pub record BlocksSoFar {N : ℕ} (mode : Mode) (src : List ℕ) (bits : List Bool) (old new : Target N) (at valid to end blocks : ℕ) (own : List ℕ) (used : Bool) (ticks_old ticks_new : ℕ) : Type 0 where
+-- The same, with whether the vector's own classification is still unused. Each further block without a flag was classified.
+pub record BlocksSoFar {N : ℕ} (mode : Mode) (src : List ℕ) (bits : List Bool) (old new : Target N) (at valid to end blocks : ℕ) (unused : Bool) (ticks_old ticks_new : ℕ) : Type 0 where
   pub done : AreDone mode src bits old new at valid to end blocks
-  pub own_left : used ≡ false → IsWithin (take valid (drop at src)) own
-  pub unused : used ≡ false → stored_of new ≡ stored_of old
-  pub some : used ≡ true → stored_of old + 1 ≤ stored_of new
-  pub counted : ticks_new + cond used 1 0 + stored_of old ≡ ticks_old + stored_of new
+  pub none : unused ≡ true → stored_of new ≡ stored_of old
+  pub some : unused ≡ false → stored_of old + 1 ≤ stored_of new
+  pub counted : ticks_new + cond unused 0 1 + stored_of old ≡ ticks_old + stored_of new
 
-module _ {mode : Mode} {src : List ℕ} (f : ℕ) {at valid to size : ℕ} (h : HasBlocks mode src at valid to size (bits_of 64 f)) where
+module _ {mode : Mode} {src : List ℕ} {at valid to size : ℕ} {whole : MaskOf} (is : whole ≡ whole_mask (take valid (drop at src))) (h : HasBlocks mode src at valid to size) where
   -- the flags
-  abbrev bits : List Bool
-  bits = bits_of 64 f
+  abbrev all : List Bool
+  all = lanes_of_mask mode whole
 
-  -- the first one
-  first : get_or bits (first_set bits) false ≡ true
-  first = first_set-here bits h.some
+  -- the mask of the bytes from a block on
+  module _ (block : ℕ) (more : 8 * block < valid) {mask : MaskOf} (left : mask ≡ whole_mask (drop (8 * block) whole.bytes)) where
+    -- it tells of the text's bytes
+    pub left-told : mask ≡ whole_mask (take (valid - 8 * block) (drop (at + 8 * block) src))
+    left-told = left ∙ ap (λ m. whole_mask (drop (8 * block) m.bytes)) is ∙ mask-left src at valid (8 * block) (omega (arith, more))
 
-  -- it is one of a byte's
-  pub first-valid : first_set bits < valid
-  first-valid = (h.flags.set (first_set bits) first).0
+    -- of so many
+    pub left-long : length mask.bytes ≡ valid - 8 * block
+    left-long = ap (λ m. length m.bytes) left-told ∙ length-take-le (valid - 8 * block) (drop (at + 8 * block) src) (omega (arith, length-drop (at + 8 * block) src, h.inside, more))
 
-  -- the mode has short escapes
-  clean : KeepsClean mode
-  clean = let t = h.flags.set (first_set bits) first in keeps-clean mode (get_or src (at + first_set bits) 0) (h.short (first_set bits) t.0 first t.1)
+    -- its first eight are the block's
+    left-eight : take 8 (lanes_of_mask mode mask) ≡ take 8 (drop (8 * block) all)
+    left-eight =
+        let f = map (needs_escape mode) whole.bytes in let long : length whole.bytes ≡ valid = ap (λ m. length m.bytes) is ∙ length-take-le valid (drop at src) (omega (arith, length-drop at src, h.inside)) in
+        let first = ap (λ m. m.from) is in
+        let part : drop (8 * block) (f ++ replicate (64 - length whole.bytes) false) ≡ drop (8 * block) f ++ replicate (64 - length whole.bytes) false = drop-append-le (8 * block) f _ (omega (arith, length-map whole.bytes (needs_escape mode), long, more)) in
+        let count : 64 - length whole.bytes + 8 * block ≡ 64 - length (drop (8 * block) whole.bytes) = omega (arith, length-drop (8 * block) whole.bytes, long, h.few, more) in
+        let wide : 8 ≤ length (drop (8 * block) f ++ replicate (64 - length whole.bytes) false) =
+        omega (arith, length-append (drop (8 * block) f) (replicate (64 - length whole.bytes) false), length-drop (8 * block) f, length-map whole.bytes (needs_escape mode), length-replicate {A = Bool} (64 - length whole.bytes) false, long, h.few, more) in
+        ap (λ m. take 8 (lanes_of_mask mode m)) left
+        ∙ ap (λ xs. take 8 (xs ++ replicate (64 - length (drop (8 * block) whole.bytes)) false)) (sym (drop-map (needs_escape mode) (8 * block) whole.bytes))
+        ∙ ap (λ n. take 8 (drop (8 * block) f ++ replicate n false)) (sym count)
+        ∙ ap (λ xs. take 8 (drop (8 * block) f ++ xs)) (sym (replicate-append-replicate (64 - length whole.bytes) (8 * block) false))
+        ∙ ap (take 8) (sym (append_assoc (drop (8 * block) f) (replicate (64 - length whole.bytes) false) (replicate (8 * block) false)))
+        ∙ take-append-le 8 (drop (8 * block) f ++ replicate (64 - length whole.bytes) false) (replicate (8 * block) false) wide
+        ∙ ap (take 8) (sym part) ∙ ap (λ n. take 8 (drop (8 * block) (clear_first n (f ++ replicate (64 - length whole.bytes) false)))) (sym first)
 
-  -- the next block
-  module _ {N : ℕ} {old mid : Target N} {p block : ℕ} (bytes : (i : ℕ) → get_or src i 0 < 256) (size_is : size ≡ length (bytes_of old)) (d : AreDone mode src bits old mid at valid to p block) (more : 8 * block < valid) where
-    -- the text from there on
-    abbrev rest : List ℕ
-    rest = drop (at + 8 * block) src
-
-    -- its flags
-    abbrev flags : List Bool
-    flags = take 8 (drop (8 * block) bits)
-
-    -- there are eight
-    eight : length flags ≡ 8
-    eight = length-take-le 8 (drop (8 * block) bits) (omega (arith, length-drop (8 * block) bits, length-bits_of 64 f, more, h.few))
-
-    -- each of them
-    flag : (i : ℕ) → get_or flags i false ≡ true → (i < 8) × (get_or bits (8 * block + i) false ≡ true)
-    flag i s =
-        let l : i < 8 = grind (arith, nat_tests, get_or_past, eight) in
-        (l, sym (get_or-take 8 (drop (8 * block) bits) i false l ∙ get_or-drop (8 * block) bits i false) ∙ s)
-
-    -- each byte
-    byte : (i : ℕ) → get_or rest i 0 ≡ get_or src (at + (8 * block + i)) 0
-    byte i = let e : at + 8 * block + i ≡ at + (8 * block + i) = omega arith in rw e at (get_or-drop (at + 8 * block) src i 0)
-
-    -- the flags are those of the text's bytes
-    block-marked : AreMarked mode flags (min 8 (valid - 8 * block)) rest
-    block-marked = record {
-      few = omega (arith, eight);
-      inside = omega (arith, eight, length-drop (at + 8 * block) src, h.inside, more);
-      bytes = λ i. rw (byte i) (bytes (at + (8 * block + i)));
-      set = λ i s. let l = flag i s in let t = h.flags.set (8 * block + i) l.1 in rw (byte i) (omega (arith, l, t), t.1);
-      short = λ i s. let l = flag i s in let t = h.flags.set (8 * block + i) l.1 in rw (byte i) (h.short (8 * block + i) t.0 l.1 t.1);
-      unset = λ i l c. rw (byte i) (h.flags.unset (8 * block + i) (sym (get_or-take 8 (drop (8 * block) bits) i false (omega (arith, l)) ∙ get_or-drop (8 * block) bits i false) ∙ c) (omega arith) (omega (arith, l)));
-    }
-
-    -- the mask tells of them
-    pub block-told : Tells mode (take valid (drop at src)) bits (8 * block) (min valid (8 * block + 8))
-    block-told k later few = grind (arith, cases_Bool, get_or-take, get_or-drop, h.flags.set k, h.flags.unset k)
-
-    -- and there is room for a block
-    pub next-room : p + 16 ≤ length (bytes_of mid)
-    next-room =
-        let here : at + min (8 * block) valid ≡ at + 8 * block = omega (arith, more) in
-        let least = rest-between mode src (at + 8 * block) (at + valid) (omega (arith, more)) (omega (arith, h.inside)) in
-        omega (arith, rw here at d.stretch.limit, least, d.stretch.same_slice.len, h.room.fits, size_is, more)
-
-    -- these, shortened
-    module _ {v : List ℕ} (shorter : v ≡ map shortened (take 16 rest)) where
-      -- with the block one more is done
-      pub done-block : {fs : List Bool} {new : Target N} {end : ℕ} → fs ≡ flags → IsBlock fs (take 8 v) mid new p end → AreDone mode src bits old new at valid to end (block + 1)
-      done-block {fs} {new} {end} told w =
-          let k : ℕ = min 8 (valid - 8 * block) in
-          let half : take 8 v ≡ map shortened (take 8 rest) = ap (take 8) shorter ∙ take-map shortened 8 (take 16 rest) ∙ ap (map shortened) (take-take 8 16 rest (omega arith)) in
-          let b = rw (told, half) at w in
-          let step = block-stretch mode clean src mid new (at + 8 * block) k p end flags eight block-marked (omega (arith, more)) b next-room in
-          let next : at + 8 * block + k ≡ at + min (8 * (block + 1)) valid = omega (arith, more) in
-          let after : p + (k + flag_count flags) ≡ end - (8 * (block + 1) - valid) = omega (arith, b.after, more) in
-          let count = blocks-onward block 1 bits in let one = blocks-one (drop (8 * block) bits) in
+    module _ {N : ℕ} {old mid : Target N} {p : ℕ} (size_is : size ≡ length (bytes_of old)) (d : AreDone mode src all old mid at valid to p block) where
+      -- it can be escaped by blocks
+      pub left-blocks : HasBlocks mode src (at + 8 * block) (length mask.bytes) p (length (bytes_of mid))
+      left-blocks =
+          let here : at + min (8 * block) valid ≡ at + 8 * block = omega (arith, more) in let end : p - (8 * block - valid) ≡ p = omega (arith, more) in
+          let stop : at + valid ≡ at + 8 * block + length mask.bytes = omega (arith, left-long, more) in
+          let room = subst (λ i. HasRoom mode 16 src (at + 8 * block) i p (length (bytes_of mid))) stop (room-on (ended d.stretch here end) (subst (λ n. HasRoom mode 16 src at (at + valid) to n) size_is h.room)) in
           record {
-            stretch = ended (onward_at d.stretch step (omega (arith, more)) (omega (arith, more))) next after;
-            far = omega (arith, d.far, b.after);
-            stored = omega (arith, d.stored, b.written.stored, counted (flag_count flags), count, one);
+            some = omega (arith, left-long, more);
+            short = λ k few needed. let e : at + (8 * block + k) ≡ at + 8 * block + k = omega arith in rw e at (h.short (8 * block + k) (omega (arith, few, left-long)) (rw (sym e) at needed));
+            kept = h.kept;
+            few = omega (arith, left-long, h.few);
+            inside = omega (arith, left-long, h.inside, more);
+            room = room;
+          }
+
+      -- with it one more is done
+      done-block : {new : Target N} {end : ℕ} → IsBlockAt mode mask src mid new (at + 8 * block) p end → AreDone mode src all old new at valid to end (block + 1)
+      done-block e =
+          let next : at + 8 * block + min 8 (length mask.bytes) ≡ at + min (8 * (block + 1)) valid = omega (arith, more, left-long) in
+          let count = blocks-onward block 1 all in let one = blocks-one (drop (8 * block) all) in let here = blocks-one (lanes_of_mask mode mask) in
+          record {
+            stretch = ended (onward_at d.stretch e.stretch (omega (arith, more)) (omega (arith, more))) next (omega (arith, left-long, more, e.after));
+            far = omega (arith, d.far, e.after);
+            stored = omega (arith, d.stored, e.stored, count, one, here, ap flag_count left-eight);
             few = omega (arith, more);
           }
 
   -- with its classification
-  pub blocks-next : {N : ℕ} {old mid new : Target N} {p block end ticks_old ticks ticks2 : ℕ} {own own2 : List ℕ} {used flagged used2 : Bool} {fs : List Bool} → ((i : ℕ) → get_or src i 0 < 256) → size ≡ length (bytes_of old)
-      → BlocksSoFar mode src bits old mid at valid to p block own used ticks_old ticks → 8 * block < valid → fs ≡ take 8 (drop (8 * block) bits)
-      → IsBlock fs (take 8 (map shortened (take 16 (drop (at + 8 * block) src)))) mid new p end → flagged ≡ not (nat_eq (flag_count fs) 0) → used2 ≡ (used || not flagged) → ticks2 ≡ ticks + cond (not flagged && used) 1 0
-      → (used2 ≡ false → IsWithin (take valid (drop at src)) own2) → BlocksSoFar mode src bits old new at valid to end (block + 1) own2 used2 ticks_old ticks2
-  blocks-next bytes size_is b more told w f u t left =
+  pub blocks-next : {N : ℕ} {old mid new : Target N} {p block end ticks_old ticks ticks2 : ℕ} {mask : MaskOf} {unused unused2 : Bool} → size ≡ length (bytes_of old) → BlocksSoFar mode src all old mid at valid to p block unused ticks_old ticks → 8 * block < valid
+      → mask ≡ whole_mask (drop (8 * block) whole.bytes) → IsBlockAt mode mask src mid new (at + 8 * block) p end → unused2 ≡ (unused && not (nat_eq (flag_count (take 8 (lanes_of_mask mode mask))) 0))
+      → ticks2 ≡ ticks + cond (not unused && nat_eq (flag_count (take 8 (lanes_of_mask mode mask))) 0) 1 0 → BlocksSoFar mode src all old new at valid to end (block + 1) unused2 ticks_old ticks2
+  blocks-next {mask = mask} size_is b more left e u t =
+      let stored = e.stored in let one = blocks-one (lanes_of_mask mode mask) in
       record {
-        done = done-block bytes size_is b.done more refl told w;
-        own_left = left;
-        unused = grind (arith, nat_tests, w.written.stored, b.unused, b.some, b.counted);
-        some = grind (arith, nat_tests, w.written.stored, b.unused, b.some, b.counted);
-        counted = grind (arith, nat_tests, w.written.stored, b.unused, b.some, b.counted);
+        done = done-block _ more left size_is b.done e;
+        none = grind (arith, nat_tests, stored, one, u, t, b.none, b.some, b.counted);
+        some = grind (arith, nat_tests, stored, one, u, t, b.none, b.some, b.counted);
+        counted = grind (arith, nat_tests, stored, one, u, t, b.none, b.some, b.counted);
       }
 
   -- the last block
-  module _ {N : ℕ} {old new : Target N} {end blocks : ℕ} (d : AreDone mode src bits old new at valid to end blocks) (over : valid ≤ 8 * blocks) where
+  module _ {N : ℕ} {old new : Target N} {end blocks : ℕ} (d : AreDone mode src all old new at valid to end blocks) (over : valid ≤ 8 * blocks) where
     -- all of it is a stretch
     pub done-stretch : Stretch mode 16 src old new at (at + valid) to (end - (8 * blocks - valid))
     done-stretch = grind (arith, nat_tests, ended)
 
     -- no block after it has a flag
-    pub done-stored : stored_of new + flagged_blocks 8 bits ≡ stored_of old + (valid + 7) / 8
+    pub done-stored : stored_of new + flagged_blocks 8 all ≡ stored_of old + (valid + 7) / 8
     done-stored =
-        let left : List Bool = drop (8 * blocks) bits in
-        let none = count-none left (λ i s. absurd (let t = h.flags.set (8 * blocks + i) (sym (get_or-drop (8 * blocks) bits i false) ∙ s) in omega (arith, t, over))) in
-        let all : blocks + (8 - blocks) ≡ 8 = omega (arith, d.few, h.few) in
-        omega (arith, d.stored, d.few, over, blocks-none (8 - blocks) left none, rw all at (blocks-onward blocks (8 - blocks) bits))
+        let left : List Bool = drop (8 * blocks) all in
+        let held = mask-holds mode src at valid at whole (ap (λ m. m.bytes) is) (omega (arith, h.inside)) (omega (arith, ap (λ m. m.from) is)) in
+        let none = count-none left (λ i s. absurd (let t = held.set (8 * blocks + i) (sym (get_or-drop (8 * blocks) all i false) ∙ s) in omega (arith, t, over))) in
+        let eight : blocks + (8 - blocks) ≡ 8 = omega (arith, d.few, h.few) in
+        omega (arith, d.stored, d.few, over, blocks-none (8 - blocks) left none, rw eight at (blocks-onward blocks (8 - blocks) all))
 
     -- each of them but the first was classified
-    pub done-ticks : {own : List ℕ} {used : Bool} {ticks_old ticks_new : ℕ} → BlocksSoFar mode src bits old new at valid to end blocks own used ticks_old ticks_new → ticks_new ≡ ticks_old + ((valid + 7) / 8 - (flagged_blocks 8 bits + 1))
-    done-ticks b = grind (arith, nat_tests, b.counted, b.some, b.unused, done-stored)
+    pub done-ticks : {unused : Bool} {ticks_old ticks_new : ℕ} → BlocksSoFar mode src all old new at valid to end blocks unused ticks_old ticks_new → ticks_new ≡ ticks_old + ((valid + 7) / 8 - (flagged_blocks 8 all + 1))
+    done-ticks b = grind (arith, nat_tests, b.counted, b.some, b.none, done-stored)

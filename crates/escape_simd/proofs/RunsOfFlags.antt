@@ -1,11 +1,10 @@
 -- How a run of escapes goes on, and how far a mask tells of one.
-use Rattle.escape_simd.proofs.Words.{◌≡◌, ℕ, ◌+◌, ◌<◌, ◌≤◌, inl, inr, Bool, true, false, true≢false, List, [], ◌∷◌, length, drop, get_or, refl, ap, sym, ◌∙◌, arith, length-bits_of, bits_of, bytes_of, first_set, none_set, clear_first, Mode, needs_escape, entry_count, escaped_count, Target, passed, run_count_after, run_end, run_reach, Escaped, EscapedRun, HasRunRoom, HoldsFlags, IsFlaggedAt, IsRunAt, IsRunEnd}
+use Rattle.escape_simd.proofs.Words.{◌≡◌, ℕ, ◌+◌, ◌<◌, ◌≤◌, inl, inr, Bool, true, false, true≢false, List, [], ◌∷◌, length, drop, get_or, refl, ap, sym, ◌∙◌, arith, length-bits_of, bits_of, bytes_of, first_set, none_set, MaskOf, lanes_of_mask, mask_from, Mode, needs_escape, entry_count, escaped_count, Target, passed, run_count_after, run_end, run_reach, Escaped, EscapedRun, HasRunRoom, IsFlaggedAt, IsRunAt, IsRunEnd}
 use Rattle.escape_simd.proofs.Escapes.{entry-counts, passed-after}
 use Rattle.escape_simd.proofs.ReplacementLemmas.{length-replacement}
 use Rattle.escape_simd.proofs.Texts.{escaped-here, first-here, next-here, one≤passed, run_end-here}
 use Rattle.escape_simd.proofs.Stretches.{onward, room-least, standing, stretch-on}
-use Rattle.escape_simd.proofs.Lanes.{CleanFrom, cleared-later, first-set, first_set-here, first_set-least, held-cleared, held-further, none-before}
-use Rattle.escape_simd.specs.RunLaws.{mask-flagged}
+use Rattle.escape_simd.proofs.Lanes.{CleanFrom, HoldsFlags, cleared-later, first-set, first_set-here, first_set-least, mask-holds, none-before}
 
 -- A run
 
@@ -75,55 +74,68 @@ first_set-inside (true ∷ bs) some = omega arith
 first_set-inside (false ∷ bs) some = omega (arith, first_set-inside bs some)
 
 -- what a mask tells after one byte of it
-module _ {mode : Mode} {src : List ℕ} {valid at next : ℕ} {bits rest : List Bool} (r : IsRunAt mode src valid at bits) (place : next ≡ at + passed mode (drop at src)) (cut : rest ≡ clear_first (first_set bits + 1) bits) where
+module _ {mode : Mode} {src : List ℕ} {valid at next : ℕ} {mask rest : MaskOf} (r : IsRunAt mode src valid at mask) (place : next ≡ at + passed mode (drop at src)) (cut : rest ≡ mask_from mask.bytes (first_set (lanes_of_mask mode mask) + 1)) where
+  -- its lanes
+  abbrev bits : List Bool
+  bits = lanes_of_mask mode rest
+
   -- the place after it
-  place-after : (at < next) × (next ≤ at + 3) × (at < valid)
-  place-after = let f = mask-flagged r in let o = one≤passed mode (drop at src) in omega (arith, f.1, place, o)
+  place-after : (at < next) × (next ≤ at + 3)
+  place-after = omega (arith, one≤passed mode (drop at src), place)
 
   -- what was passed with it is clean
   mask-between : CleanFrom mode src (at + 1) next
   mask-between p late before = passed-after mode src at next p place (omega arith) before
 
+  -- the mask tells of the bytes behind it
+  behind : rest.from ≡ at + 1
+  behind = omega (arith, ap (λ m. m.from) cut, r.first)
+
   -- the flags from there on
-  mask-flags : HoldsFlags mode src 0 valid next rest
-  mask-flags = let u = place-after in rw cut (held-cleared mode src 0 valid next bits (held-further mode src 0 valid at bits r.flags next (omega (arith, u))) (first_set bits + 1) (omega (arith, u, r.first)))
+  mask-flags : HoldsFlags mode src 0 valid next bits
+  mask-flags = mask-holds mode src 0 valid next rest (ap (λ m. m.bytes) cut ∙ r.bytes) (omega (arith, r.inside)) (omega (arith, behind, place-after))
 
   -- and none before
-  mask-cleared : (k : ℕ) → get_or rest k false ≡ true → next ≤ k
+  mask-cleared : (k : ℕ) → get_or bits k false ≡ true → next ≤ k
   mask-cleared k s =
-      let later = none-before mode src 0 (at + 1) next rest (λ i t. (omega (arith, r.first, cleared-later (first_set bits + 1) bits i (rw cut at t)), (mask-flags.set i t).1)) mask-between k s in
+      let later = none-before mode src 0 (at + 1) next bits (λ i t. (omega (arith, behind, cleared-later rest.from _ i t), (mask-flags.set i t).1)) mask-between k s in
       omega (arith, later)
 
   -- where some lane is set, bytes are left
-  mask-left : none_set rest ≡ false → next < valid
-  mask-left some = omega (arith, (first-set mode src 0 valid next rest mask-flags some).0, mask-cleared (first_set rest) (first_set-here rest some))
+  mask-left : none_set bits ≡ false → next < valid
+  mask-left some = omega (arith, (first-set mode src 0 valid next bits mask-flags some).0, mask-cleared (first_set bits) (first_set-here bits some))
 
   -- and the next is a lane of the mask
-  pub mask-below : (mask : ℕ) → rest ≡ bits_of 64 mask → none_set rest ≡ false → next < 64
-  mask-below mask is some =
-      let f = first_set-inside rest some in omega (arith, mask-cleared (first_set rest) (first_set-here rest some), f, ap length is, length-bits_of 64 mask)
+  pub mask-below : (n : ℕ) → bits_of 64 n ≡ bits → none_set bits ≡ false → next < 64
+  mask-below n is some =
+      let f = first_set-inside bits some in omega (arith, mask-cleared (first_set bits) (first_set-here bits some), f, ap length is, length-bits_of 64 n)
 
   -- where it is set, the run goes on
-  pub mask-goes : none_set rest ≡ false → get_or rest next false ≡ true → IsRunAt mode src valid next rest
-  mask-goes some set = record {
-    flags = mask-flags;
-    some = some;
-    first = omega (arith, first_set-least rest next set, mask-cleared (first_set rest) (first_set-here rest some));
-    inside = r.inside;
-  }
+  pub mask-goes : none_set bits ≡ false → get_or bits next false ≡ true → IsRunAt mode src valid next rest
+  mask-goes some set =
+      let t = mask-flags.set next set in let there : 0 + next ≡ next = omega arith in
+      record {
+        bytes = ap (λ m. m.bytes) cut ∙ r.bytes;
+        some = some;
+        first = omega (arith, first_set-least bits next set, mask-cleared (first_set bits) (first_set-here bits some));
+        flagged = record { inside = omega (arith, t, r.inside); needed = rw there at t.1 };
+        before = t.0;
+        inside = r.inside;
+      }
 
   -- else it has ended
-  pub mask-ends : (none_set rest ≡ false → get_or rest next false ≡ false) → IsRunEnd mode src valid next rest
+  pub mask-ends : (none_set bits ≡ false → get_or bits next false ≡ false) → IsRunEnd mode src valid next rest
   mask-ends unset =
       let u = place-after in let there : 0 + next ≡ next = omega arith in
       record {
-        flags = mask-flags;
+        bytes = ap (λ m. m.bytes) cut ∙ r.bytes;
+        from = omega (arith, behind, u);
         cleared = mask-cleared;
         over = λ past. record {
           whole = past;
-          near = omega (arith, u);
-          exact = λ one. omega (arith, past, u, place, one (drop at src));
-          clean = λ p late early. mask-between p (omega (arith, late, u)) early;
+          near = omega (arith, u, r.before);
+          exact = λ one. omega (arith, past, u, r.before, place, one (drop at src));
+          clean = λ p late early. mask-between p (omega (arith, late, r.before)) early;
         };
         stops = λ some. (mask-left some, rw there at (mask-flags.unset next (unset some) (omega arith) (mask-left some)));
       }

@@ -1,32 +1,39 @@
 -- How far the turns of a vector have come.
-use Rattle.escape_simd.proofs.Words.{◌≡◌, ℕ, ◌+◌, ◌-◌, ◌<◌, ◌≤◌, Bool, true, false, List, length, take, drop, get_or, refl, sym, subst, arith, append_assoc, take-take, take-add, bytes_of, first_set, none_set, Mode, needs_escape, stored_of, Target, run_count, run_count_after, Stretch, CanStore, EscapedRun, Escapes, HasRunRoom, IsRunEnd, inl, HasRoom, HoldsFlags, IsFinished, IsFlaggedAt, IsRunAt, IsStored, IsVectorAt, IsVectorEnd, state}
+use Rattle.escape_simd.proofs.Words.{◌≡◌, ℕ, ◌+◌, ◌-◌, ◌<◌, ◌≤◌, Bool, true, false, List, length, take, drop, get_or, refl, sym, ap, subst, ◌∙◌, arith, append_assoc, take-take, take-add, length-take-le, bytes_of, first_set, none_set, MaskOf, is_clear, lanes_of_mask, mask_from, told_by, whole_mask, Mode, needs_escape, stored_of, Target, run_count, run_count_after, Stretch, CanStore, EscapedRun, Escapes, HasRunRoom, IsRunEnd, inl, HasRoom, IsFinished, IsFlaggedAt, IsRunAt, IsStored, IsVectorAt, IsVectorEnd, state, drop-take}
 use Rattle.escape_simd.proofs.Escapes.{reach-few}
 use Rattle.escape_simd.proofs.Texts.{runs_after-≤, runs_stop-here}
 use Rattle.escape_simd.proofs.Stretches.{onward_to, room-least, room-near, room-on, standing, stored_ahead, stretch-on}
 use Rattle.escape_simd.proofs.RestSteps.{clean_escaped, clean_inner, clean_rest, clean_runs}
 use Rattle.escape_simd.proofs.RunsOfFlags.{run-room}
-use Rattle.escape_simd.proofs.Lanes.{CleanFrom, first-set, first_set-here, held-first, held-further, held-none}
+use Rattle.escape_simd.proofs.Lanes.{CleanFrom, HoldsFlags, cleared-later, first-set, first_set-here, held-first, held-none, mask-holds}
 
--- The bytes of a vector from `next` on are left, with what is written at `to`. The mask has their flags alone.
-pub record IsLeftAt (mode : Mode) (N slack : ℕ) (src : List ℕ) (valid next to size : ℕ) (bits : List Bool) : Type 0 where
-  pub flags : HoldsFlags mode src 0 valid next bits
-  pub cleared : (k : ℕ) → get_or bits k false ≡ true → next ≤ k
+-- The bytes of a vector from `next` on are left, with what is written at `to`. The mask tells of these.
+pub record IsLeftAt (mode : Mode) (N slack : ℕ) (src : List ℕ) (valid next to size : ℕ) (mask : MaskOf) : Type 0 where
+  pub told : mask ≡ mask_from (take valid src) next
   pub few : valid ≤ N
   pub inside : valid + N ≤ length src
   pub before : next < valid
   pub room : HasRoom mode slack src next valid to size
+
+-- its lanes
+left-held : {mode : Mode} {N slack : ℕ} {src : List ℕ} {valid next to size : ℕ} {mask : MaskOf} → IsLeftAt mode N slack src valid next to size mask → HoldsFlags mode src 0 valid next (lanes_of_mask mode mask)
+left-held {mode} {src = src} {valid = valid} {next = next} {mask = mask} l = mask-holds mode src 0 valid next mask (ap (λ m. m.bytes) l.told) (omega (arith, l.inside)) (omega (arith, ap (λ m. m.from) l.told))
+
+-- none is set before
+left-later : {mode : Mode} {N slack : ℕ} {src : List ℕ} {valid next to size : ℕ} {mask : MaskOf} → IsLeftAt mode N slack src valid next to size mask → (k : ℕ) → get_or (lanes_of_mask mode mask) k false ≡ true → next ≤ k
+left-later {mode} {src = src} {valid = valid} {next = next} {mask = mask} l k s = omega (arith, cleared-later mask.from _ k s, ap (λ m. m.from) l.told)
 
 -- the text's clean bytes from `from` on, as far as the border, stand in a target from `to` on
 abbrev pub CleanAhead : {N : ℕ} → Mode → List ℕ → Target N → ℕ → ℕ → ℕ → Type 0
 CleanAhead mode src target from border to = (count : ℕ) → from + count ≤ border → ((p : ℕ) → from ≤ p → p < from + count → needs_escape mode (get_or src p 0) ≡ false)
     → take count (drop to (bytes_of target)) ≡ take count (drop from src)
 
--- The bytes up to `next` were passed, of a text's first vector whose mask now has the lanes from there on. Of the vectors stored all
+-- The bytes up to `next` were passed, of a text's first vector whose mask now tells of those from there on. Of the vectors stored all
 -- but the first were classified.
-pub record TurnsSoFar {N : ℕ} (mode : Mode) (slack : ℕ) (src : List ℕ) (old new : Target N) (valid next to end : ℕ) (bits : List Bool) (ticks_old ticks_new : ℕ) : Type 0 where
+pub record TurnsSoFar {N : ℕ} (mode : Mode) (slack : ℕ) (src : List ℕ) (old new : Target N) (valid next to end : ℕ) (mask : MaskOf) (ticks_old ticks_new : ℕ) : Type 0 where
   pub eight : 8 ≤ slack
-  pub left : IsLeftAt mode N slack src valid next end (length (bytes_of new)) bits
-  pub some : none_set bits ≡ false
+  pub left : IsLeftAt mode N slack src valid next end (length (bytes_of new)) mask
+  pub some : is_clear mode mask ≡ false
   pub stretch : Stretch mode (valid - next + slack) src old new 0 next to end
   pub ahead : CleanAhead mode src new next valid end
   pub stored : stored_of new + run_count mode (drop next src) ≤ stored_of old + run_count mode src + 1
@@ -51,32 +58,45 @@ pub ahead-runs : (mode : Mode) (src : List ℕ) (from next : ℕ) → from ≤ n
 ahead-runs mode src from next forward clean = sym (clean_runs mode src from next forward clean)
 
 -- the turns begin
-pub turns-begin : {N : ℕ} {mode : Mode} {slack : ℕ} {src : List ℕ} {old new : Target N} {valid to : ℕ} {bits : List Bool} {ticks : ℕ} → 8 ≤ slack → IsVectorAt mode N slack src 0 valid to (length (bytes_of old)) bits
-    → none_set bits ≡ false → IsStored slack src old new 0 valid to → TurnsSoFar mode slack src old new valid 0 to to bits ticks ticks
-turns-begin {mode = mode} {slack = slack} {src = src} {old = old} {new = new} {valid = valid} {to = to} {bits = bits} eight v some s =
-    let first = (first-set mode src 0 valid 0 bits v.flags some).0 in let ahead = ahead-front mode src new 0 valid to valid (omega arith) s.ahead in
+pub turns-begin : {N : ℕ} {mode : Mode} {slack : ℕ} {src : List ℕ} {old new : Target N} {valid to : ℕ} {mask : MaskOf} {ticks : ℕ} → 8 ≤ slack → mask ≡ whole_mask (take valid src) → IsVectorAt mode N slack src 0 valid to (length (bytes_of old))
+    → is_clear mode mask ≡ false → IsStored slack src old new 0 valid to → TurnsSoFar mode slack src old new valid 0 to to mask ticks ticks
+turns-begin {mode = mode} {slack = slack} {src = src} {old = old} {new = new} {valid = valid} {to = to} {mask = mask} eight is v some s =
+    let held = mask-holds mode src 0 valid 0 mask (ap (λ m. m.bytes) is) (omega (arith, v.inside)) (omega (arith, ap (λ m. m.from) is)) in
+    let first = (first-set mode src 0 valid 0 (lanes_of_mask mode mask) held some).0 in let ahead = ahead-front mode src new 0 valid to valid (omega arith) s.ahead in
     let stretch = stored_ahead mode slack src old new 0 valid to s (omega arith) in
-    let border : 0 + valid ≡ valid = omega arith in
+    let border : 0 + valid ≡ valid = omega arith in let none : valid - 0 ≡ valid = omega arith in
     let room : HasRoom mode slack src 0 valid to (length (bytes_of new)) = rw (sym s.same_slice.len) at (subst (λ k. HasRoom mode slack src 0 k to (length (bytes_of old))) border v.room) in
-    grind arith
+    record {
+      eight = eight;
+      left = record { told = is; few = v.few; inside = omega (arith, v.inside); before = omega (arith, first); room = room };
+      some = some;
+      stretch = rw none stretch;
+      ahead = ahead;
+      stored = omega (arith, s.stored);
+      classified = omega (arith, s.stored);
+    }
 
 -- what is known of the first flagged byte of those that are left
-first-left : {N : ℕ} {mode : Mode} {slack : ℕ} {src : List ℕ} {valid next to size flagged : ℕ} {bits : List Bool} → IsLeftAt mode N slack src valid next to size bits → none_set bits ≡ false → flagged ≡ first_set bits
+first-left : {N : ℕ} {mode : Mode} {slack : ℕ} {src : List ℕ} {valid next to size flagged : ℕ} {mask : MaskOf} → IsLeftAt mode N slack src valid next to size mask → is_clear mode mask ≡ false → flagged ≡ first_set (lanes_of_mask mode mask)
     → IsFlaggedAt mode src flagged × (next ≤ flagged) × (flagged < valid) × CleanFrom mode src next flagged
-first-left l some is = grind (arith, first-set, first_set-here, held-first)
+first-left {mode = mode} {src = src} {valid = valid} {next = next} {flagged = flagged} {mask = mask} l some is =
+    let bits : List Bool = lanes_of_mask mode mask in let here : 0 + first_set bits ≡ flagged = omega (arith, is) in
+    let f = first-set mode src 0 valid next bits (left-held l) some in let later = left-later l (first_set bits) (first_set-here bits some) in
+    let clean = subst (λ k. CleanFrom mode src next k) here (held-first mode src 0 valid next bits (left-held l) some (omega arith)) in
+    (record { inside = omega (arith, is, f, l.inside); needed = subst (λ k. needs_escape mode (get_or src k 0) ≡ true) here f.1 }, omega (arith, is, later), omega (arith, is, f), clean)
 
 -- one turn: the first byte that is flagged is escaped
-module _ {N : ℕ} {mode : Mode} {slack : ℕ} {src : List ℕ} {old mid : Target N} {valid next to end flagged : ℕ} {bits : List Bool} {ticks_old ticks_new : ℕ}
-    (so_far : TurnsSoFar mode slack src old mid valid next to end bits ticks_old ticks_new) (is : flagged ≡ first_set bits) where
+module _ {N : ℕ} {mode : Mode} {slack : ℕ} {src : List ℕ} {old mid : Target N} {valid next to end flagged : ℕ} {mask : MaskOf} {ticks_old ticks_new : ℕ}
+    (so_far : TurnsSoFar mode slack src old mid valid next to end mask ticks_old ticks_new) (is : flagged ≡ first_set (lanes_of_mask mode mask)) where
   -- it is one of those left
   pub turn-place : IsFlaggedAt mode src flagged × (next ≤ flagged) × (flagged < valid) × CleanFrom mode src next flagged
   turn-place = first-left so_far.left so_far.some is
 
   -- it begins a run, which has room
-  pub turn-run : IsRunAt mode src valid flagged bits × HasRunRoom mode src flagged valid (end + (flagged - next)) (length (bytes_of mid))
+  pub turn-run : IsRunAt mode src valid flagged mask × HasRunRoom mode src flagged valid (end + (flagged - next)) (length (bytes_of mid))
   turn-run =
       let w = so_far.left in let p = turn-place in let clean = ahead-passed mode slack src mid next valid flagged end so_far.ahead p.1 (omega (arith, p)) (omega (arith, w.inside)) p.3 in (
-        record { flags = held-further mode src 0 valid next bits w.flags flagged p.1; some = so_far.some; first = is; inside = omega (arith, w.inside) },
+        record { bytes = ap (λ m. m.bytes) w.told; some = so_far.some; first = is; flagged = p.0; before = p.2; inside = omega (arith, w.inside) },
         inl (room-near valid 8 (omega arith) (omega (arith, w.inside)) (omega (arith, so_far.eight)) (room-on clean w.room)),
       )
 
@@ -84,7 +104,7 @@ module _ {N : ℕ} {mode : Mode} {slack : ℕ} {src : List ℕ} {old mid : Targe
   pub turn-room : end + (flagged - next) + 8 ≤ length (bytes_of mid)
   turn-room = run-room turn-run.1 turn-place.2 (omega (arith, so_far.left.inside))
 
-  module _ {new : Target N} {after reached : ℕ} {rest : List Bool} (done : EscapedRun mode src mid new flagged after (end + (flagged - next)) reached) (on : flagged < after) (over : IsRunEnd mode src valid after rest) where
+  module _ {new : Target N} {after reached : ℕ} {rest : MaskOf} (done : EscapedRun mode src mid new flagged after (end + (flagged - next)) reached) (on : flagged < after) (over : IsRunEnd mode src valid after rest) where
     -- all that was passed up to here
     turn-stretch : Stretch mode (valid - after + slack) src old new 0 after to reached
     turn-stretch =
@@ -101,9 +121,9 @@ module _ {N : ℕ} {mode : Mode} {slack : ℕ} {src : List ℕ} {old mid : Targe
     turn-rest_room = record { fits = omega (arith, turn-stretch.limit, so_far.stretch.limit, so_far.left.room.fits, done.stretch.same_slice.len) }
 
     -- where the mask has no more, the last clean bytes are left
-    pub turn-end : none_set rest ≡ true → IsVectorEnd mode N slack src valid after reached (length (bytes_of new))
+    pub turn-end : is_clear mode rest ≡ true → IsVectorEnd mode N slack src valid after reached (length (bytes_of new))
     turn-end none = let u = turn-place in let w = so_far.left in record {
-      clean = λ p late early. held-none mode src 0 valid after rest over.flags (omega arith) none p late (omega (arith, early));
+      clean = λ p late early. held-none mode src 0 valid after (lanes_of_mask mode rest) (mask-holds mode src 0 valid after rest over.bytes (omega (arith, w.inside)) (omega (arith, over.from))) (omega arith) none p late (omega (arith, early));
       start = done.stretch.inside;
       inside = w.inside;
       near = omega (arith, w.few, u, on);
@@ -112,24 +132,41 @@ module _ {N : ℕ} {mode : Mode} {slack : ℕ} {src : List ℕ} {old mid : Targe
     }
 
     -- where it has some
-    module _ (some : none_set rest ≡ false) where
+    module _ (some : is_clear mode rest ≡ false) where
+      -- the mask tells of the bytes from there on
+      pub turn-told : (rest.from ≤ after) × (after < length rest.bytes) × (after ≤ first_set (lanes_of_mask mode rest))
+      turn-told =
+          let w = so_far.left in let s = over.stops some in
+          (over.from, omega (arith, s.0, ap length over.bytes, length-take-le valid src (omega (arith, w.inside))), over.cleared (first_set (lanes_of_mask mode rest)) (first_set-here (lanes_of_mask mode rest) some))
+
       -- the vector that begins there can be stored
-      pub turn-stores : (after ≤ valid) × CanStore N slack src after (valid - after) reached (length (bytes_of new))
-      turn-stores =
+      pub turn-stores : {left : MaskOf} → left ≡ mask_from rest.bytes after → (told_by left ≡ take (valid - after) (drop after src)) × CanStore N slack src after (valid - after) reached (length (bytes_of new))
+      turn-stores told =
           let w = so_far.left in let s = over.stops some in let least = room-least (omega (arith, s.0)) (omega (arith, w.inside)) turn-rest_room in
-          (omega (arith, s.0), record { few = omega (arith, w.few); inside = omega (arith, w.inside, s.0); room = omega (arith, least) })
+          let sum : valid ≡ after + (valid - after) = omega (arith, s.0) in
+          (ap told_by told ∙ ap (drop after) over.bytes ∙ ap (λ k. drop after (take k src)) sum ∙ drop-take after (valid - after) src, record { few = omega (arith, w.few); inside = omega (arith, w.inside, s.0); room = omega (arith, least) })
 
       -- it was stored, and the turns go on
-      pub turn-stored : {later : Target N} {ticks : ℕ} → IsStored slack src new later after (valid - after) reached → ticks ≡ ticks_new + 1 → TurnsSoFar mode slack src old later valid after to reached rest ticks_old ticks
-      turn-stored {later = later} s tick =
+      pub turn-stored : {later : Target N} {left : MaskOf} {ticks : ℕ} → left ≡ mask_from rest.bytes after → lanes_of_mask mode left ≡ lanes_of_mask mode rest → IsStored slack src new later after (valid - after) reached → ticks ≡ ticks_new + 1
+          → TurnsSoFar mode slack src old later valid after to reached left ticks_old ticks
+      turn-stored {later = later} {left = left} told same s tick =
           let w = so_far.left in let stops = over.stops some in let runs = turn-runs in
-          let l : IsLeftAt mode N slack src valid after reached (length (bytes_of new)) rest = record { flags = over.flags; cleared = over.cleared; few = w.few; inside = w.inside; before = stops.0; room = turn-rest_room } in
+          let l : IsLeftAt mode N slack src valid after reached (length (bytes_of new)) left = record { told = told ∙ ap (λ xs. mask_from xs after) over.bytes; few = w.few; inside = w.inside; before = stops.0; room = turn-rest_room } in
+          let some_left : is_clear mode left ≡ false = ap none_set same ∙ some in
           let ahead = ahead-front mode src later after valid reached (valid - after) (omega arith) s.ahead in
           let stored = stored_ahead mode slack src new later after (valid - after) reached s (omega (arith, l.before, l.inside)) in
           let on = onward_to (valid - after + slack) turn-stretch stored (omega arith) (omega arith) in
           let stop = runs_stop-here mode src after (omega (arith, l.before, l.inside)) stops.1 in
           let kept = done.stored in
-          grind arith
+          record {
+            eight = so_far.eight;
+            left = record { told = l.told; few = l.few; inside = l.inside; before = l.before; room = rw (sym s.same_slice.len) at l.room };
+            some = some_left;
+            stretch = on;
+            ahead = ahead;
+            stored = omega (arith, so_far.stored, s.stored, kept, runs, stop);
+            classified = omega (arith, so_far.classified, s.stored, kept, tick);
+          }
 
     -- these were passed: so was the vector
     pub turn-finished : {last : Target N} {past close ticks : ℕ} → IsFinished mode slack src valid (state new after reached ticks_new) (state last past close ticks) → Escapes mode slack valid 1 1 src (state old 0 to ticks_old) (state last past close ticks)

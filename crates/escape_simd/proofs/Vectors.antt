@@ -1,9 +1,10 @@
 -- A vector of a text as a whole: stored where it is clean, and what blocks cost.
-use Rattle.escape_simd.proofs.Words.{◌≡◌, ℕ, ◌+◌, ◌-◌, ◌*◌, ◌/◌, ◌<◌, ◌≤◌, Bool, true, false, ◌&&◌, List, ◌++◌, length, length-drop, length-take-le, map, replicate, take, drop, get_or, refl, sym, ap, subst, ◌∙◌, arith, cases_Bool, drop-drop, get_or-drop, get_or-map, get_or-take, get_or-zip2, length-map, nat_tests, zip2, take-take, bits_of, flagged_blocks, gaps, length-bits_of, none_set, Mode, is_long, script, needs_escape, replacement, stored_of, Target, passed, run_count, AreShort, CanStore, Escapes, HasRoom, HasVectors, HoldsFlags, IsStored, IsVectorAt, Passed, Stretch, state}
+use Rattle.escape_simd.proofs.Words.{◌≡◌, ℕ, ◌+◌, ◌-◌, ◌*◌, ◌/◌, ◌<◌, ◌≤◌, Bool, true, false, ◌&&◌, List, length, length-drop, length-take-le, map, take, drop, get_or, refl, sym, ap, subst, ◌∙◌, arith, cases_Bool, drop-drop, get_or-drop, get_or-map, get_or-take, get_or-zip2, length-map, nat_tests, zip2, bits_of, first_set, flagged_blocks, gaps, length-bits_of, none_set, MaskOf, is_clear, lanes_of_mask, whole_mask, Mode, is_long, script, needs_escape, replacement, stored_of, Target, passed, run_count, AreShort, CanStore, Escapes, HasBlocks, HasRoom, HasVectors, IsStored, IsVectorAt, Passed, Stretch, state}
 use Rattle.escape_simd.proofs.Escapes.{other-byte, passed-alone}
 use Rattle.escape_simd.proofs.Gaps.{gaps-paid_mask}
-use Rattle.escape_simd.proofs.Lanes.{CleanFrom, held-shifted, held-whole, none_clean, none_set-at}
-use Rattle.escape_simd.proofs.Stretches.{ended, onward, onward_to, room-later, room-least, stored_ahead, stretch-later, widened}
+use Rattle.escape_simd.proofs.Lanes.{CleanFrom, HoldsFlags, first-set, first_set-here, mask-holds, none_set-at}
+use Rattle.escape_simd.proofs.Shortened.{keeps-clean}
+use Rattle.escape_simd.proofs.Stretches.{ended, onward, onward_to, room-later, room-least, room-near, stored_ahead, stretch-later, widened}
 use Rattle.escape_simd.proofs.Texts.{passed_clean-here}
 use Rattle.escape_simd.proofs.Turns.{ahead-front, ahead-passed, ahead-runs}
 
@@ -65,40 +66,20 @@ escapes-later {N} {mode} {slack} {border} {vectors} {asked} {old} {new} {next} {
       cost = omega (arith, e.cost, u);
     }
 
--- a mask of a text's bytes from a place on, as one of a text of their own
-pub holds-from : (mode : Mode) (src : List ℕ) (at i valid from start : ℕ) (bits : List Bool) → start ≡ at + from → HoldsFlags mode src (at + i) valid start bits → HoldsFlags mode (drop at src) i valid from bits
-holds-from mode src at i valid from start bits begins h = record {
-  set = λ k s. let t = h.set k s in grind (arith, get_or-drop);
-  unset = λ k s later few. let t = h.unset k s in grind (arith, get_or-drop);
-}
-
 -- a vector of a text, as the first of a text of its own
-pub vector-later : (mode : Mode) (n slack : ℕ) (src text : List ℕ) (at valid to size : ℕ) (bits : List Bool) → text ≡ drop at src → IsVectorAt mode n slack src at valid to size bits → IsVectorAt mode n slack text 0 valid to size bits
-vector-later mode n slack src text at valid to size bits is v =
-    record { flags = grind (arith, holds-from, v.flags); few = v.few; inside = grind (arith, length-drop {A = ℕ}, v.inside); room = room-later text valid (0 + valid) is refl v.room (omega arith) }
+pub vector-later : (mode : Mode) (n slack : ℕ) (src text : List ℕ) (at valid to size : ℕ) → text ≡ drop at src → IsVectorAt mode n slack src at valid to size → IsVectorAt mode n slack text 0 valid to size
+vector-later mode n slack src text at valid to size is v =
+    record { few = v.few; inside = omega (arith, v.inside, ap length is, length-drop at src); room = room-later text valid (0 + valid) is refl v.room (omega arith) }
 
 -- a vector of which what came before it may have passed some bytes
-pub vector-left : (mode : Mode) (n : ℕ) (src : List ℕ) (at from to size : ℕ) (bits : List Bool) → 16 ≤ n → HoldsFlags mode src at n at bits → Passed mode src at from → HasVectors mode n 1 src at from to size
-    → IsVectorAt mode n n src from (n - (from - at)) to size (drop (from - at) bits ++ replicate (from - at) false)
-vector-left mode n src at from to size bits several held p v =
-    let h = held-shifted mode src at n at bits held (from - at) in
+pub vector-left : (mode : Mode) (n : ℕ) (src : List ℕ) (at from to size : ℕ) → 16 ≤ n → Passed mode src at from → HasVectors mode n 1 src at from to size → IsVectorAt mode n n src from (n - (from - at)) to size
+vector-left mode n src at from to size several p v =
     let border : at + 1 * n ≡ from + (n - (from - at)) = omega (arith, p.whole, p.near, several) in
-    record { flags = grind arith; few = omega arith; inside = omega (arith, v.inside, p.whole, p.near, several); room = subst (λ k. HasRoom mode n src from k to size) border v.room }
+    record { few = omega arith; inside = omega (arith, v.inside, p.whole, p.near, several); room = subst (λ k. HasRoom mode n src from k to size) border v.room }
 
 -- a vector that is there can be stored
-pub vector-stores : {mode : Mode} {N slack : ℕ} {src : List ℕ} {at valid to size : ℕ} {bits : List Bool} → IsVectorAt mode N slack src at valid to size bits → CanStore N slack src at valid to size
+pub vector-stores : {mode : Mode} {N slack : ℕ} {src : List ℕ} {at valid to size : ℕ} → IsVectorAt mode N slack src at valid to size → CanStore N slack src at valid to size
 vector-stores v = let least = room-least (omega arith) (omega (arith, v.inside)) v.room in record { few = v.few; inside = omega (arith, v.inside); room = omega (arith, least) }
-
--- a vector's flags as a number
-pub mask-held : (mode : Mode) (n : ℕ) (src : List ℕ) (at : ℕ) (truths bits : List Bool) → n ≤ 64 → at + n ≤ length src → truths ≡ map (needs_escape mode) (take n (drop at src)) → bits ≡ truths ++ replicate (64 - n) false → HoldsFlags mode src at n at bits
-mask-held mode n src at truths bits narrow inside flagged is =
-    grind (arith, length-take-le {A = ℕ}, length-drop {A = ℕ}, held-whole, take-take)
-
--- a vector with no flag is clean
-pub flags-clean : (mode : Mode) (n : ℕ) (src : List ℕ) (at : ℕ) (truths : List Bool) → at + n ≤ length src → truths ≡ map (needs_escape mode) (take n (drop at src)) → none_set truths ≡ true → CleanFrom mode src at (at + n)
-flags-clean mode n src at truths inside flagged none p after before =
-    let c = none_clean mode (take n (drop at src)) (ap none_set (sym flagged) ∙ none) (p - at) in
-    grind (arith, length-drop {A = ℕ}, length-take-le {A = ℕ}, get_or-drop, get_or-take)
 
 -- in script, e2 is one byte
 e2_count : length (replacement script 226) ≡ 1
@@ -130,18 +111,40 @@ alone-short : (mode : Mode) (n : ℕ) (src : List ℕ) (at valid : ℕ) (bits : 
 alone-short mode n src at valid bits h short inside few p after before =
     let t = h.set (p - at) in let u = h.unset (p - at) in let s = short (p - at) in grind (arith, cases_Bool, not_lead, passed_clean-here)
 
--- a vector was escaped by blocks, whose stores its runs pay for
-pub vector-blocks : {N : ℕ} (mode : Mode) (slack : ℕ) (src : List ℕ) (old new : Target N) (at valid to end size : ℕ) (flags ticks_old ticks_new : ℕ) → IsVectorAt mode N slack src at valid to size (bits_of 64 flags) → AreShort mode N src at (bits_of 64 flags)
-    → N ≤ 64 → 16 ≤ slack → (valid + 7) / 8 ≤ flagged_blocks 8 (bits_of 64 flags) + gaps false (take valid (bits_of 64 flags)) + 1
-    → Stretch mode 16 src old new at (at + valid) to end → stored_of new + flagged_blocks 8 (bits_of 64 flags) ≡ stored_of old + (valid + 7) / 8 → ticks_new ≡ ticks_old + ((valid + 7) / 8 - (flagged_blocks 8 (bits_of 64 flags) + 1))
-    → Escapes mode slack (at + valid) 1 1 src (state old at to ticks_old) (state new (at + valid) end ticks_new)
-vector-blocks {N} mode slack src old new at valid to end size flags ticks_old ticks_new v short narrow far paid s stored ticks =
-    let bits = bits_of 64 flags in
-    let told : (k : ℕ) → k < valid → get_or bits k false ≡ needs_escape mode (get_or src (at + k) 0) = told-held mode src at valid bits v.flags in
-    let alone : (p : ℕ) → at ≤ p → p < at + valid → passed mode (drop p src) ≡ 1 = alone-short mode N src at valid bits v.flags short (omega (arith, v.inside)) v.few in
-    let runs = gaps-paid_mask mode src bits at valid (omega (arith, v.inside)) (omega (arith, length-bits_of 64 flags, v.few, narrow)) told alone in
-    record {
-      stretch = widened slack far s;
-      passed = passed-to mode src (at + valid);
-      cost = omega (arith, stored, ticks, paid, runs);
-    }
+-- a vector that can be escaped by blocks
+module _ {N : ℕ} {mode : Mode} {slack : ℕ} {src : List ℕ} {at valid to size : ℕ} {mask : MaskOf} (is : mask ≡ whole_mask (take valid (drop at src))) (v : IsVectorAt mode N slack src at valid to size) (far : 16 ≤ slack) (several : 16 ≤ N) (narrow : N ≤ 64) where
+  -- its lanes
+  abbrev bits : List Bool
+  bits = lanes_of_mask mode mask
+
+  held : HoldsFlags mode src at valid at bits
+  held = mask-holds mode src at valid at mask (ap (λ m. m.bytes) is) (omega (arith, v.inside)) (omega (arith, ap (λ m. m.from) is))
+
+  module _ (short : AreShort mode N src at bits) where
+    -- so it can
+    pub vector-has_blocks : is_clear mode mask ≡ false → HasBlocks mode src at valid to size
+    vector-has_blocks some =
+        let f = first-set mode src at valid at bits held some in
+        let two = short (first_set bits) (omega (arith, f, v.few)) (first_set-here bits some) f.1 in
+        record {
+          some = omega (arith, f);
+          short = λ k h needed. short k (omega (arith, h, v.few)) (told-held mode src at valid bits held k h ∙ needed) needed;
+          kept = keeps-clean mode _ two;
+          few = omega (arith, v.few, narrow);
+          inside = omega (arith, v.inside, several);
+          room = room-near (at + valid) 16 (omega arith) (omega (arith, v.inside)) (omega (arith, far)) v.room;
+        }
+
+    -- it was, and its runs pay for what was stored
+    pub vector-blocks : {old new : Target N} {end ticks_old ticks_new : ℕ} (n : ℕ) → bits_of 64 n ≡ bits → (valid + 7) / 8 ≤ flagged_blocks 8 bits + gaps false (take valid bits) + 1
+        → Stretch mode 16 src old new at (at + valid) to end → stored_of new + flagged_blocks 8 bits ≡ stored_of old + (valid + 7) / 8 → ticks_new ≡ ticks_old + ((valid + 7) / 8 - (flagged_blocks 8 bits + 1))
+        → Escapes mode slack (at + valid) 1 1 src (state old at to ticks_old) (state new (at + valid) end ticks_new)
+    vector-blocks n number paid s stored ticks =
+        let told = told-held mode src at valid bits held in
+        let alone = alone-short mode N src at valid bits held short (omega (arith, v.inside)) v.few in
+        let runs = gaps-paid_mask mode src bits at valid (omega (arith, v.inside)) (omega (arith, ap length number, length-bits_of 64 n, v.few, narrow)) told alone in
+        record {
+          stretch = widened slack far s;
+          passed = passed-to mode src (at + valid);
+          cost = omega (arith, stored, ticks, paid, runs);
+        }

@@ -18,8 +18,8 @@ pub use Rattle.std.specs.Simd.Lanes.{mask_l, pick_l, sel_l, top, zip2}
 pub use Rattle.std.specs.Str.{IsCharBoundary, all_scalars}
 unfoldable pub use Rattle.escape_lanes.specs.Bits.{bits_of, first_set, gaps, none_set}
 pub use Rattle.escape_lanes.specs.Bits.{clear_first, clear_last, length-bits_of}
-pub use Rattle.escape_lanes.specs.Classified.{IsAnswer, IsWithin, Tells, asked_of}
 pub use Rattle.escape_lanes.specs.Entry.{entry_bytes, entry_count, padded}
+pub use Rattle.escape_lanes.specs.Masks.{IsClassified, MaskOf, is_clear, lanes_of_mask, mask_from, told_by, whole_mask}
 pub use Rattle.escape_lanes.specs.Mode.{Mode, html, json, mode_of, script}
 unfoldable pub use Rattle.escape_lanes.specs.Replacement.{replacement}
 pub use Rattle.escape_lanes.specs.Replacement.{control_escape, needs_escape}
@@ -47,4 +47,4 @@ pub use Rattle.escape_simd.specs.Runs.{escaped_count, run_count, run_count_after
 pub use Rattle.escape_simd.specs.Script.{HasNoRawMark, IsOnlyScript, IsSafeInScript, IsScriptFree, IsScriptItem, IsShortestScript, is_script_marked}
 pub use Rattle.escape_simd.specs.Spelling.{IsTextOf, Spells}
 unfoldable pub use Rattle.escape_simd.specs.Stretch.{rest_length}
-pub use Rattle.escape_simd.specs.Stretch.{AreTail, AreShort, CanStore, Cost, Escaped, EscapedRun, Escapes, HasRunRoom, HasBlocks, HasRoom, HasVectors, HoldsFlags, IsByteWise, IsFinished, IsFlaggedAt, IsRunAt, IsRunEnd, IsStored, IsVectorAt, IsVectorEnd, Passed, Stretch, reach, run_end, run_reach, state}
+pub use Rattle.escape_simd.specs.Stretch.{AreTailMasks, AreShort, CanStore, Cost, Escaped, EscapedRun, Escapes, HasRunRoom, HasBlocks, HasRoom, HasVectors, IsBlockAt, IsByteWise, IsFinished, IsFlaggedAt, IsRunAt, IsRunEnd, IsStored, IsVectorAt, IsVectorEnd, Passed, Stretch, reach, run_end, run_reach, state}

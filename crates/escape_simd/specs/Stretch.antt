@@ -1,9 +1,12 @@
 -- What a stretch of a text did to a target, and what it cost.
 use Rattle.std.specs.Prelude.{min, ◌≡◌, ℕ, ◌+◌, ◌-◌, ◌*◌, ◌<◌, ◌≤◌, Bool, true, false, List, ◌++◌, length, take, drop, slice_index, slice_index_or, if◌then◌else◌, ◌⊎◌}
 use Rattle.std.specs.List.{prefix_len}
-use Rattle.escape_lanes.specs.Bits.{first_set, none_set}
+use Rattle.escape_lanes.specs.Bits.{first_set}
+use Rattle.escape_lanes.specs.Masks.{MaskOf, is_clear, lanes_of_mask, whole_mask}
 use Rattle.escape_lanes.specs.Mode.{Mode, json, html, script}
 use Rattle.escape_lanes.specs.Replacement.{needs_escape, replacement}
+use Rattle.escape_lanes.specs.Short.{shortened}
+use Rattle.escape_lanes.specs.Spread.{flag_count, flagged_blocks}
 use Rattle.escape_lanes.specs.Written.{bytes_of, stored_of, escaped_of, quotes_of, writes_of, IsSameSlice}
 use Rattle.escape_lanes.specs.declared.simd.target.Target.{Target}
 use Rattle.escape_simd.specs.Output.{inner, passed}
@@ -43,12 +46,6 @@ pub record Cost {N : ℕ} (mode : Mode) (src : List ℕ) (at next vectors asked 
   pub stored : stored_of new + run_count mode (drop next src) ≤ stored_of old + run_count mode (drop at src) + vectors
   pub covered : ticks_old + stored_of new ≤ ticks_new + stored_of old + asked
   pub classified : ticks_new + run_count mode (drop next src) + asked ≤ ticks_old + run_count mode (drop at src) + vectors
-
--- A mask has the lanes of the bytes that need an escape, of the first `valid` bytes of a text from `at` on. Those before
--- `from` it may have or not, and it has no other lane.
-pub record HoldsFlags (mode : Mode) (src : List ℕ) (at valid from : ℕ) (bits : List Bool) : Type 0 where
-  pub set : (k : ℕ) → slice_index_or bits k false ≡ true → (k < valid) × (needs_escape mode (slice_index src (at + k)) ≡ true)
-  pub unset : (k : ℕ) → slice_index_or bits k false ≡ false → from ≤ at + k → k < valid → needs_escape mode (slice_index src (at + k)) ≡ false
 
 -- what stands for a byte is told by that byte alone
 abbrev pub IsByteWise : Mode → Type 0
@@ -110,24 +107,26 @@ pub record EscapedRun {N : ℕ} (mode : Mode) (src : List ℕ) (old new : Target
   pub run : run_count_after mode true (drop next src) + 1 ≡ run_count mode (drop at src)
   pub alone : IsByteWise mode → (run_end mode src next ≡ run_end mode src at) × (escaped_of new ≡ escaped_of old + (next - at))
 
--- A run goes on at `at`, whose lane is the first that a mask sets of a text's first `valid` bytes.
-pub record IsRunAt (mode : Mode) (src : List ℕ) (valid at : ℕ) (bits : List Bool) : Type 0 where
-  pub flags : HoldsFlags mode src 0 valid at bits
-  pub some : none_set bits ≡ false
-  pub first : at ≡ first_set bits
+-- A run goes on at `at`, the first byte that a mask flags of a text's first `valid` bytes.
+pub record IsRunAt (mode : Mode) (src : List ℕ) (valid at : ℕ) (mask : MaskOf) : Type 0 where
+  pub bytes : mask.bytes ≡ take valid src
+  pub some : is_clear mode mask ≡ false
+  pub first : at ≡ first_set (lanes_of_mask mode mask)
+  pub flagged : IsFlaggedAt mode src at
+  pub before : at < valid
   pub inside : valid ≤ length src
 
--- A run has ended at `next`: the mask has the flags from there on, and no flagged byte follows.
-pub record IsRunEnd (mode : Mode) (src : List ℕ) (valid next : ℕ) (bits : List Bool) : Type 0 where
-  pub flags : HoldsFlags mode src 0 valid next bits
-  pub cleared : (k : ℕ) → slice_index_or bits k false ≡ true → next ≤ k
+-- A run has ended at `next`: the mask tells of the bytes from there on, and flags none before. No flagged byte follows.
+pub record IsRunEnd (mode : Mode) (src : List ℕ) (valid next : ℕ) (mask : MaskOf) : Type 0 where
+  pub bytes : mask.bytes ≡ take valid src
+  pub from : mask.from ≤ next
+  pub cleared : (k : ℕ) → slice_index_or (lanes_of_mask mode mask) k false ≡ true → next ≤ k
   pub over : valid ≤ next → Passed mode src valid next
-  pub stops : none_set bits ≡ false → (next < valid) × (needs_escape mode (slice_index src next) ≡ false)
+  pub stops : is_clear mode mask ≡ false → (next < valid) × (needs_escape mode (slice_index src next) ≡ false)
 
--- A mask has the flags of `valid` bytes of a text from `at` on, at most a vector of N. A vector can be loaded from each place from
--- `at` to their end, and they have room.
-pub record IsVectorAt (mode : Mode) (N slack : ℕ) (src : List ℕ) (at valid to size : ℕ) (bits : List Bool) : Type 0 where
-  pub flags : HoldsFlags mode src at valid at bits
+-- The text has `valid` bytes at `at`, at most a vector of N. A vector can be loaded from each place from `at` to their end, and
+-- they have room.
+pub record IsVectorAt (mode : Mode) (N slack : ℕ) (src : List ℕ) (at valid to size : ℕ) : Type 0 where
   pub few : valid ≤ N
   pub inside : at + valid + N ≤ length src
   pub room : HasRoom mode slack src at (at + valid) to size
@@ -171,25 +170,30 @@ pub record HasVectors (mode : Mode) (N vectors : ℕ) (src : List ℕ) (at from 
   pub inside : at + (vectors + 1) * N ≤ length src
   pub room : HasRoom mode N src from (at + vectors * N) to size
 
--- A short text, with the flags of its last vector and the bytes for which a classifier answered them, and where it has as many
--- bytes as one vector, those of its first one.
-pub record AreTail (mode : Mode) (N : ℕ) (text : List ℕ) (first last : List Bool) (first_asked last_asked : List ℕ) : Type 0 where
+-- The masks of a short text: of its last vector, and where it has as many bytes as one vector, of its first one.
+pub record AreTailMasks (N : ℕ) (text : List ℕ) (first last : MaskOf) : Type 0 where
   pub few : length text < 2 * N
-  pub front : N ≤ length text → HoldsFlags mode text 0 N 0 first
-  pub back : HoldsFlags mode text (length text - N) (min (length text) N) (length text - N) last
-  pub front_asked : N ≤ length text → first_asked ≡ take N text
-  pub back_asked : last_asked ≡ drop (length text - N) text
+  pub front : N ≤ length text → first ≡ whole_mask (take N text)
+  pub back : last ≡ whole_mask (drop (length text - N) text)
 
 -- what stands for each flagged byte of n that needs an escape is two bytes: a reverse solidus, and a letter or the byte itself
 abbrev pub AreShort : Mode → ℕ → List ℕ → ℕ → List Bool → Type 0
 AreShort mode n src at bits =
     (k : ℕ) → k < n → slice_index_or bits k false ≡ true → needs_escape mode (slice_index src (at + k)) ≡ true → length (replacement mode (slice_index src (at + k))) ≡ 2
 
--- a text's `valid` bytes can be escaped by blocks: some are flagged, and each of these has a short escape
-pub record HasBlocks (mode : Mode) (src : List ℕ) (at valid to size : ℕ) (bits : List Bool) : Type 0 where
-  pub flags : HoldsFlags mode src at valid at bits
-  pub some : none_set bits ≡ false
-  pub short : AreShort mode valid src at bits
+-- A text's `valid` bytes at `at` can be escaped by blocks: each that needs an escape has a short one, and each other one is not
+-- changed.
+pub record HasBlocks (mode : Mode) (src : List ℕ) (at valid to size : ℕ) : Type 0 where
+  pub some : 0 < valid
+  pub short : (k : ℕ) → k < valid → needs_escape mode (slice_index src (at + k)) ≡ true → length (replacement mode (slice_index src (at + k))) ≡ 2
+  pub kept : (b : ℕ) → needs_escape mode b ≡ false → shortened b ≡ b
   pub few : valid ≤ 64
   pub inside : at + valid + 16 ≤ length src
   pub room : HasRoom mode 16 src at (at + valid) to size
+
+-- The text's next eight bytes at `at`, or as many as a mask tells of if these are fewer, were escaped. `end` is the place after
+-- eight. It counts as a vector where none is flagged.
+pub record IsBlockAt {N : ℕ} (mode : Mode) (mask : MaskOf) (src : List ℕ) (old new : Target N) (at to end : ℕ) : Type 0 where
+  pub stretch : Stretch mode 16 src old new at (at + min 8 (length mask.bytes)) to (end - (8 - min 8 (length mask.bytes)))
+  pub after : end ≡ to + 8 + flag_count (take 8 (lanes_of_mask mode mask))
+  pub stored : stored_of new + flagged_blocks 1 (lanes_of_mask mode mask) ≡ stored_of old + 1

@@ -17,4 +17,4 @@ pub(crate) mod whole;
 pub(crate) use body::{escape_at, escape_chunks};
 pub use escape_lanes::simd::mode::{HTML_MODE, JSON_MODE, SCRIPT_MODE};
 pub use escape_lanes::simd::{BitMask, Flags, LoadLast, Mask, Simd, Vector, bits, target};
-pub(crate) use tail::{TailFlags, classify_pair, classify_short, escape_flagged_at};
+pub(crate) use tail::{classify_pair, classify_short, escape_flagged_at};

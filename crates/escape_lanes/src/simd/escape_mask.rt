@@ -117,10 +117,11 @@ impl<const MODE: u8> EscapeMask<MODE> {
     /// Classifies the bytes from `from` on, in front of which none is flagged, by their mask. Ticks once.
     #[inline(always)]
     pub fn rest(self, from: usize, ticks: &mut Ticks) -> Self
-        requires forward { self.from ≤ from }
-        requires some { from < length self.bytes }
-        requires passed { from ≤ first_set (lanes_of_mask (mode_numbered MODE) self) }
+        requires { (self.from ≤ from)
+            × (from < length self.bytes)
+            × (from ≤ first_set (lanes_of_mask (mode_numbered MODE) self)) }
         ensures told { result ≡ mask_from self.entry.bytes from }
+        ensures lanes { lanes_of_mask (mode_numbered MODE) result ≡ lanes_of_mask (mode_numbered MODE) self.entry }
         ensures tick { ticks.new ≡ ticks.old + 1 }
     {
         ticks.tick();
@@ -133,9 +134,7 @@ impl<const MODE: u8> EscapeMask<MODE> {
     /// Returns the mask of the bytes from `count` on, below 64. The mask tells of all of its bytes.
     #[inline(always)]
     pub fn skip(self, count: usize) -> Self
-        requires whole { self.from ≡ 0 }
-        requires few { count < 64 }
-        requires inside { count ≤ length self.bytes }
+        requires { (self.from ≡ 0) × (count < 64) × (count ≤ length self.bytes) }
         ensures { result ≡ whole_mask (drop count self.entry.bytes) }
     {
         EscapeMask {
@@ -147,8 +146,7 @@ impl<const MODE: u8> EscapeMask<MODE> {
     /// Returns the mask of the first `count` bytes. The mask tells of all of its bytes.
     #[inline(always)]
     pub fn cut(self, count: usize) -> Self
-        requires whole { self.from ≡ 0 }
-        requires inside { count ≤ length self.bytes }
+        requires { (self.from ≡ 0) × (count ≤ length self.bytes) }
         ensures { result ≡ whole_mask (take count self.entry.bytes) }
     {
         EscapeMask {

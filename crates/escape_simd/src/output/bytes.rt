@@ -9,8 +9,7 @@ use crate::output::in_place::{append_flagged, append_in_place};
 use crate::output::push::{lanes, push_all, push_quote};
 use crate::output::{N, V};
 use crate::simd::{classify_pair, classify_short};
-use escape_lanes::simd::Flags;
-use escape_lanes::simd::classify::{classify, classify_four};
+use escape_lanes::simd::escape_mask::{classify, classify_four};
 use escape_lanes::simd::target::Ticks;
 use std::alloc::Allocator;
 
@@ -23,17 +22,17 @@ pub(super) fn append_last<const MODE: u8, A: Allocator>(text: &[u8], dst: &mut V
         ++ (inner (mode_numbered MODE) text.now ++ quote_of (mode_numbered MODE)) }
 {
     let (count, len) = (text.len(), dst.len());
-    let flags = if count < N {
-        let (v, flags) = classify_short::<V, MODE, N>(text, &mut Ticks::new());
-        if flags.none() {
+    let masks = if count < N {
+        let (v, masks) = classify_short::<V, MODE, N>(text, &mut Ticks::new());
+        if masks.are_clear() {
             push_all(dst, &lanes(&v));
             dst.truncate(len + count);
             return push_quote::<MODE, A>(dst);
         }
-        flags
+        masks
     } else {
-        let (v1, v2, flags) = classify_pair::<V, MODE, N>(text, &mut Ticks::new());
-        if flags.none() {
+        let (v1, v2, masks) = classify_pair::<V, MODE, N>(text, &mut Ticks::new());
+        if masks.are_clear() {
             let last = count - N;
             push_all(dst, &lanes(&v1));
             // The last vector overlaps the first one.
@@ -41,16 +40,9 @@ pub(super) fn append_last<const MODE: u8, A: Allocator>(text: &[u8], dst: &mut V
             push_all(dst, &lanes(&v2));
             return push_quote::<MODE, A>(dst);
         }
-        flags
+        masks
     };
-    append_flagged::<MODE, A>(
-        text,
-        flags.first,
-        flags.first_classified,
-        flags.last,
-        flags.last_classified,
-        dst,
-    );
+    append_flagged::<MODE, A>(text, masks.first, masks.last, dst);
 }
 
 /// Appends what stands for a text of two vectors or more: its clean front as it is, and then the rest.
@@ -62,9 +54,12 @@ pub(super) fn append_long<const MODE: u8, A: Allocator>(text: &[u8], dst: &mut V
 {
     let mut at = 0;
     'chunks: while 5 * N <= text.len() - at {
-        let answers = classify_four::<V, MODE, N>(text, at, &mut Ticks::new());
-        let ((v1, _), (v2, _), (v3, _), (v4, _), none) = answers;
-        if !none {
+        let ((v1, _), (v2, _), (v3, _), (v4, _), clear) = classify_four::<V, MODE, N>(
+            text,
+            at,
+            &mut Ticks::new(),
+        );
+        if !clear {
             break;
         }
         let rows = [lanes(&v1), lanes(&v2), lanes(&v3), lanes(&v4)];
@@ -72,8 +67,8 @@ pub(super) fn append_long<const MODE: u8, A: Allocator>(text: &[u8], dst: &mut V
         at += 4 * N;
     }
     'vectors: while 2 * N <= text.len() - at {
-        let (v, (flags, _)) = classify::<V, MODE, N>(text, at, &mut Ticks::new());
-        if !flags.none() {
+        let (v, mask) = classify::<V, MODE, N>(text, at, &mut Ticks::new());
+        if !mask.is_clear() {
             return append_in_place::<MODE, A>(&text[at..], dst);
         }
         push_all(dst, &lanes(&v));

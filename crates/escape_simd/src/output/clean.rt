@@ -1,35 +1,31 @@
 //! Which bytes of a text are flagged, and whether nothing in a text needs an escape.
-ghost use Rattle.std.specs.Prelude.{◌≡◌, ◌+◌, ◌-◌, ◌*◌, ◌<◌, ◌≤◌, ◌↔◌, true, false, length};
+ghost use Rattle.std.specs.Prelude.{◌≡◌, ◌+◌, ◌-◌, ◌*◌, ◌<◌, ◌≤◌, ◌↔◌, true, false, length, take, drop};
 ghost use Rattle.std.specs.List.{count_by};
-ghost use Rattle.escape_lanes.specs.Bits.{bits_of};
+ghost use Rattle.escape_lanes.specs.Masks.{whole_mask};
 ghost use Rattle.escape_lanes.specs.Replacement.{needs_escape};
 ghost use Rattle.escape_simd.specs.Modes.{mode_numbered};
 ghost use Rattle.escape_simd.specs.Output.{inner};
 ghost use Rattle.escape_simd.specs.Parts.{IsFront};
-ghost use Rattle.escape_simd.specs.Stretch.{HoldsFlags};
 
 use crate::output::length::part_len;
 use crate::output::{N, V};
 use crate::simd::LoadLast;
-use escape_lanes::simd::classify::{classify, classify_four};
-use escape_lanes::simd::mode::flags;
+use escape_lanes::simd::escape_mask::{EscapeMask, classify, classify_four, classify_front};
 use escape_lanes::simd::target::Ticks;
-use escape_lanes::simd::{BitMask, Flags};
 
-/// Returns the flags of `count` bytes of the text from `at` on: of a vector, or of the last bytes if they are fewer.
+/// Returns the mask of `count` bytes of the text from `at` on: of a vector, or of the last bytes if they are fewer.
 #[inline(always)]
-pub(super) fn mask_at<const MODE: u8>(src: &[u8], at: usize, count: usize) -> u64
+pub(super) fn mask_at<const MODE: u8>(src: &[u8], at: usize, count: usize) -> EscapeMask<MODE>
     requires few { count ≤ N }
     requires inside { at + count ≤ length src.now }
     requires last { count < N → at + count ≡ length src.now }
-    ensures { HoldsFlags (mode_numbered MODE) src.now at count at (bits_of 64 result) }
+    ensures { result ≡ whole_mask (take count (drop at src.now)) }
 {
     let mut ticks = Ticks::new();
     if count == N {
-        return classify::<V, MODE, N>(src, at, &mut ticks).1.0.bits();
+        return classify::<V, MODE, N>(src, at, &mut ticks).1;
     }
-    let flags = flags::<V, MODE, N>(&V::load_last(src, count), &mut ticks).bits();
-    flags.clear_high_bits(64 - count)
+    classify_front::<V, MODE, N>(&V::load_last(src, count), &src[at..], &mut ticks)
 }
 
 /// Returns where the clean bytes of the text from `at` on end, as far as whole vectors tell: at a vector with a flagged
@@ -45,7 +41,7 @@ pub(super) fn clean_end<const MODE: u8>(src: &[u8], at: usize) -> usize
     {
         end += 4 * N;
     }
-    'vectors: while 2 * N <= src.len() - end && mask_at::<MODE>(src, end, N).all_zero() {
+    'vectors: while 2 * N <= src.len() - end && mask_at::<MODE>(src, end, N).is_clear() {
         end += N;
     }
     end

@@ -1,15 +1,13 @@
 //! Escaping in place: the vector is filled with zeros ahead of what is written.
 ghost use Rattle.std.specs.Prelude.{◌≡◌, ◌+◌, ◌*◌, ◌<◌, ◌≤◌, ◌++◌, length, take, vec_len, vec_capacity};
-ghost use Rattle.escape_lanes.specs.Bits.{bits_of};
-ghost use Rattle.escape_lanes.specs.Classified.{asked_of};
 ghost use Rattle.escape_simd.specs.Modes.{mode_numbered};
 ghost use Rattle.escape_simd.specs.Output.{inner, quote_of};
-ghost use Rattle.escape_simd.specs.Stretch.{AreTail, HasRoom};
+ghost use Rattle.escape_simd.specs.Stretch.{AreTailMasks, HasRoom};
 
 use crate::output::push::{fill, push_all, push_quote};
 use crate::output::{N, V};
-use crate::simd::{TailFlags, escape_at, escape_chunks, escape_flagged_at};
-use escape_lanes::simd::classify::Classified;
+use crate::simd::{escape_at, escape_chunks, escape_flagged_at};
+use escape_lanes::simd::escape_mask::EscapeMask;
 use escape_lanes::simd::lane_bits::count_flagged;
 use std::alloc::Allocator;
 
@@ -23,86 +21,58 @@ const FEW_ZEROS: usize = 128;
 #[inline(never)]
 pub(super) fn append_flagged<const MODE: u8, A: Allocator>(
     text: &[u8],
-    first: u64,
-    first_classified: Classified<'_>,
-    last: u64,
-    last_classified: Classified<'_>,
+    first: EscapeMask<MODE>,
+    last: EscapeMask<MODE>,
     dst: &mut Vec<u8, A>,
 )
-    requires flagged { AreTail (mode_numbered MODE) N text.now (bits_of 64 first) (bits_of 64 last) (asked_of first_classified) (asked_of last_classified) }
+    requires masks { AreTailMasks N text.now first last }
     requires room { vec_len dst.old + 6 * length text.now + N ≤ vec_capacity dst.old }
     ensures { dst.new.items ≡ dst.old.items
         ++ (inner (mode_numbered MODE) text.now ++ quote_of (mode_numbered MODE)) }
 {
     let old = dst.len();
-    let most = text.len() + 5 * (count_flagged(first) + count_flagged(last)) + N;
+    let most = text.len() + 5 * (count_flagged(first.bits()) + count_flagged(last.bits())) + N;
     if most <= FEW_ZEROS && FEW_ZEROS <= dst.capacity() - old {
         push_all(dst, &[0; FEW_ZEROS]);
-        return append_over::<MODE, A>(
-            text,
-            first,
-            first_classified,
-            last,
-            last_classified,
-            dst,
-            old,
-        );
+        return append_over::<MODE, A>(text, first, last, dst, old);
     }
-    append_dense::<MODE, A>(text, first, first_classified, last, last_classified, dst);
+    append_dense::<MODE, A>(text, first, last, dst);
 }
 
 /// As [`append_flagged`], over as many zeros as the bound. It stands apart, so that few zeros need no frame.
 #[inline(never)]
 fn append_dense<const MODE: u8, A: Allocator>(
     text: &[u8],
-    first: u64,
-    first_classified: Classified<'_>,
-    last: u64,
-    last_classified: Classified<'_>,
+    first: EscapeMask<MODE>,
+    last: EscapeMask<MODE>,
     dst: &mut Vec<u8, A>,
 )
-    requires flagged { AreTail (mode_numbered MODE) N text.now (bits_of 64 first) (bits_of 64 last) (asked_of first_classified) (asked_of last_classified) }
+    requires masks { AreTailMasks N text.now first last }
     requires room { vec_len dst.old + 6 * length text.now + N ≤ vec_capacity dst.old }
     ensures { dst.new.items ≡ dst.old.items
         ++ (inner (mode_numbered MODE) text.now ++ quote_of (mode_numbered MODE)) }
 {
     let old = dst.len();
     fill(dst, old + 6 * text.len() + N);
-    append_over::<MODE, A>(
-        text,
-        first,
-        first_classified,
-        last,
-        last_classified,
-        dst,
-        old,
-    );
+    append_over::<MODE, A>(text, first, last, dst, old);
 }
 
 /// As [`append_flagged`], over the zeros that the vector has from `at` on.
 #[inline(never)]
 fn append_over<const MODE: u8, A: Allocator>(
     text: &[u8],
-    first: u64,
-    first_classified: Classified<'_>,
-    last: u64,
-    last_classified: Classified<'_>,
+    first: EscapeMask<MODE>,
+    last: EscapeMask<MODE>,
     dst: &mut Vec<u8, A>,
     at: usize,
 )
-    requires flagged { AreTail (mode_numbered MODE) N text.now (bits_of 64 first) (bits_of 64 last) (asked_of first_classified) (asked_of last_classified) }
+    requires masks { AreTailMasks N text.now first last }
     requires room { HasRoom (mode_numbered MODE) 32 text.now 0 (length text.now) at (vec_len dst.old) }
     requires capacity { at + 6 * length text.now + N ≤ vec_capacity dst.old }
     ensures { dst.new.items ≡ take at dst.old.items
         ++ (inner (mode_numbered MODE) text.now ++ quote_of (mode_numbered MODE)) }
 {
-    let flags = TailFlags {
-        first,
-        first_classified,
-        last,
-        last_classified,
-    };
-    let end = escape_flagged_at::<V, MODE, N>(text, flags, dst, at);
+    let end = escape_flagged_at::<V, MODE, N>(text, first, last, dst, at);
     dst.truncate(end);
     push_quote::<MODE, A>(dst);
 }

@@ -8,8 +8,6 @@ ghost use Rattle.escape_simd.specs.Stretch.{IsFlaggedAt};
 use crate::output::clean::{clean_end, mask_at};
 use crate::output::{N, quote};
 use crate::simd::separator::is_separator;
-use escape_lanes::simd::BitMask;
-use escape_lanes::simd::lane_bits::clear_first_lane;
 use escape_lanes::simd::mode::entry;
 
 /// Returns how many bytes more than itself stand for the flagged byte at `at`, or for the separator that
@@ -35,10 +33,10 @@ pub(super) fn part_len<const MODE: u8>(src: &[u8], at: usize, count: usize) -> u
     ensures { IsPartLength (mode_numbered MODE) src.now at (at + count) result }
 {
     let mut len = count;
-    let mut rest = mask_at::<MODE>(src, at, count);
-    'flags: while !rest.all_zero() {
-        len += added::<MODE>(src, at + rest.first_offset());
-        rest = clear_first_lane(rest);
+    let mut mask = mask_at::<MODE>(src, at, count);
+    'flags: while !mask.is_clear() {
+        len += added::<MODE>(src, at + mask.first_offset());
+        mask.clear_first();
     }
     len
 }

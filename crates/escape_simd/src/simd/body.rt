@@ -1,18 +1,16 @@
 //! The body of all kernels: a text's bytes by chunks, by vectors, and the last ones.
 ghost use Rattle.std.specs.Prelude.{◌+◌, ◌*◌, ◌/◌, ◌<◌, ◌≤◌, true, length};
-ghost use Rattle.escape_lanes.specs.Bits.{bits_of};
-ghost use Rattle.escape_lanes.specs.Classified.{asked_of};
 ghost use Rattle.escape_lanes.specs.Written.{bytes_of};
 ghost use Rattle.escape_simd.specs.Modes.{mode_numbered};
 ghost use Rattle.escape_simd.specs.Formatted.{IsWrittenAt};
 ghost use Rattle.escape_simd.specs.Output.{inner};
 ghost use Rattle.escape_simd.specs.Parts.{IsPartAt};
-ghost use Rattle.escape_simd.specs.Stretch.{AreTail, Escapes, HasRoom, reach, state};
+ghost use Rattle.escape_simd.specs.Stretch.{AreTailMasks, Escapes, HasRoom, reach, state};
 
 use crate::simd::Vector;
 use crate::simd::chunk::{chunk, vector_from};
-use crate::simd::tail::{TailFlags, escape_flagged_at, escape_tail, store_clean_tail};
-use escape_lanes::simd::classify::{Classified, classify};
+use crate::simd::tail::{escape_flagged_at, escape_tail, store_clean_tail};
+use escape_lanes::simd::escape_mask::{EscapeMask, classify};
 use escape_lanes::simd::target::{Target, Ticks};
 
 /// Escapes the bytes to the target from `to` on, with no quotation marks. Returns the place after them.
@@ -23,8 +21,11 @@ pub(crate) fn escape_bytes<V: Vector<N>, const MODE: u8, const N: usize>(
     to: usize,
     ticks: &mut Ticks,
 ) -> usize
-    requires { HasRoom (mode_numbered MODE) (reach true N) src.now 0 (length src.now) to (length (bytes_of target.old)) }
-    ensures { Escapes (mode_numbered MODE) (reach true N) (length src.now) (length src.now / N + 1) 0 src.now (state target.old 0 to ticks.old) (state target.new (length src.now) result ticks.new) }
+    requires { HasRoom (mode_numbered MODE) (reach true N)
+        src.now 0 (length src.now) to (length (bytes_of target.old)) }
+    ensures { Escapes (mode_numbered MODE) (reach true N)
+        (length src.now) (length src.now / N + 1) 0 src.now
+        (state target.old 0 to ticks.old) (state target.new (length src.now) result ticks.new) }
 {
     let mut at = 0;
     let mut end = to;
@@ -32,8 +33,8 @@ pub(crate) fn escape_bytes<V: Vector<N>, const MODE: u8, const N: usize>(
         (at, end) = chunk::<V, MODE, N>(src, at, target, end, ticks);
     }
     'vectors: while 2 * N <= src.len() - at {
-        let answer = classify::<V, MODE, N>(src, at, ticks);
-        (at, end) = vector_from::<V, MODE, N>(src, at, at, answer, target, end, ticks);
+        let (_, mask) = classify::<V, MODE, N>(src, at, ticks);
+        (at, end) = vector_from::<V, MODE, N>(src, at, at, mask, target, end, ticks);
     }
     escape_tail::<V, MODE, N>(&src[at..], target, end, ticks)
 }
@@ -77,42 +78,26 @@ pub(crate) fn escape_at<V: Vector<N>, const MODE: u8, const N: usize>(
         let mut target = Target::<N>::new(dst);
         return match store_clean_tail::<V, MODE, N>(src, &mut target, to, &mut Ticks::new()) {
             Ok(end) => end,
-            Err(flags) => escape_short_at::<V, MODE, N>(
-                src,
-                flags.first,
-                flags.first_classified,
-                flags.last,
-                flags.last_classified,
-                dst,
-                to,
-            ),
+            Err(masks) => escape_short_at::<V, MODE, N>(src, masks.first, masks.last, dst, to),
         };
     }
     escape_any_at::<V, MODE, N>(src, dst, to)
 }
 
-/// As [`escape_at`], of a short text for which a classifier answered.
+/// As [`escape_at`], of a short text, by its masks.
 #[inline(never)]
 fn escape_short_at<V: Vector<N>, const MODE: u8, const N: usize>(
     text: &[u8],
-    first: u64,
-    first_classified: Classified<'_>,
-    last: u64,
-    last_classified: Classified<'_>,
+    first: EscapeMask<MODE>,
+    last: EscapeMask<MODE>,
     dst: &mut [u8],
     to: usize,
 ) -> usize
-    requires flagged { AreTail (mode_numbered MODE) N text.now (bits_of 64 first) (bits_of 64 last) (asked_of first_classified) (asked_of last_classified) }
+    requires masks { AreTailMasks N text.now first last }
     requires room { to + 6 * length text.now + 32 ≤ length dst.old }
     ensures { IsWrittenAt (reach true N) (inner (mode_numbered MODE) text.now) dst.old dst.new to result }
 {
-    let flags = TailFlags {
-        first,
-        first_classified,
-        last,
-        last_classified,
-    };
-    escape_flagged_at::<V, MODE, N>(text, flags, dst, to)
+    escape_flagged_at::<V, MODE, N>(text, first, last, dst, to)
 }
 
 /// As [`escape_at`], of any text.

@@ -1,27 +1,27 @@
 //! Vectors of a text, stored as they are.
 ghost use Rattle.std.specs.Prelude.{◌≡◌, ◌+◌, ◌≤◌, length, take, drop};
-ghost use Rattle.escape_lanes.specs.Classified.{asked_of, IsWithin};
+ghost use Rattle.escape_lanes.specs.Masks.{told_by};
 ghost use Rattle.escape_lanes.specs.Written.{bytes_of};
 ghost use Rattle.escape_simd.specs.Stretch.{CanStore, IsStored, reach};
 
 use escape_lanes::simd::LoadStore;
-use escape_lanes::simd::classify::Classified;
+use escape_lanes::simd::escape_mask::EscapeMask;
 use escape_lanes::simd::target::Target;
 
 /// How far a vector's store may reach past a text: kernels of more lanes store a text's last bytes exactly.
 const WIDEST_REACH: usize = 32;
 
-/// Stores a loaded vector at `to`, whose first `left` lanes are the text's bytes from `from` on. A classifier answered for
-/// these. Returns the places after them.
+/// Stores a loaded vector at `to`, whose first `left` lanes are the text's bytes from `from` on. The mask tells of these.
+/// Returns the places after them.
 ///
 /// Where `LAST`, these may be the text's last bytes, and the store reaches at most 32 bytes past them.
 #[inline]
-pub(crate) fn store_lanes<V: LoadStore, const N: usize, const LAST: bool>(
+pub(crate) fn store_lanes<V: LoadStore, const MODE: u8, const N: usize, const LAST: bool>(
     v: V,
     _src: &[u8],
     from: usize,
     left: usize,
-    _classified: Classified<'_>,
+    _mask: &EscapeMask<MODE>,
     target: &mut Target<'_, N>,
     to: usize,
 ) -> (usize, usize)
@@ -29,7 +29,7 @@ pub(crate) fn store_lanes<V: LoadStore, const N: usize, const LAST: bool>(
         × (left ≤ N)
         × (from + left ≤ length _src.now)
         × (take left (V.lanes v) ≡ take left (drop from _src.now))
-        × IsWithin (take left (drop from _src.now)) (asked_of _classified)
+        × (told_by _mask.now ≡ take left (drop from _src.now))
         × (to + left + reach LAST N ≤ length (bytes_of target.old)) }
     ensures stored { IsStored (reach LAST N) _src.now target.old target.new from left to }
     ensures places { (result.0 ≡ from + left) × (result.1 ≡ to + left) }
@@ -44,20 +44,20 @@ pub(crate) fn store_lanes<V: LoadStore, const N: usize, const LAST: bool>(
 
 /// As [`store_lanes`], of the text's vector at `from`.
 #[inline]
-pub(crate) fn store<V: LoadStore, const N: usize, const LAST: bool>(
+pub(crate) fn store<V: LoadStore, const MODE: u8, const N: usize, const LAST: bool>(
     src: &[u8],
     from: usize,
     left: usize,
-    classified: Classified<'_>,
+    mask: &EscapeMask<MODE>,
     target: &mut Target<'_, N>,
     to: usize,
 ) -> (usize, usize)
     requires { (V.LANES ≡ N)
-        × IsWithin (take left (drop from src.now)) (asked_of classified)
+        × (told_by mask.now ≡ take left (drop from src.now))
         × CanStore N (reach LAST N) src.now from left to (length (bytes_of target.old)) }
     ensures stored { IsStored (reach LAST N) src.now target.old target.new from left to }
     ensures places { (result.0 ≡ from + left) × (result.1 ≡ to + left) }
 {
     let v = V::load(&src[from..]);
-    store_lanes::<V, N, LAST>(v, src, from, left, classified, target, to)
+    store_lanes::<V, MODE, N, LAST>(v, src, from, left, mask, target, to)
 }

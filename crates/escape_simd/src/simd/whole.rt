@@ -1,7 +1,5 @@
 //! A whole text: its bytes between quotation marks.
 ghost use Rattle.std.specs.Prelude.{◌<◌, ◌≤◌, length, take, chars};
-ghost use Rattle.escape_lanes.specs.Bits.{bits_of};
-ghost use Rattle.escape_lanes.specs.Classified.{asked_of};
 ghost use Rattle.escape_lanes.specs.Mode.{mode_of};
 ghost use Rattle.escape_lanes.specs.Written.{bytes_of};
 ghost use Rattle.escape_simd.specs.Formatted.{IsFormatted, IsQuoted, IsWritten};
@@ -9,12 +7,12 @@ ghost use Rattle.escape_simd.specs.Headline.{IsOnlyOutput};
 ghost use Rattle.escape_simd.specs.Laws.{IsOfOneText};
 ghost use Rattle.escape_simd.specs.Modes.{mode_numbered};
 ghost use Rattle.escape_simd.specs.Output.{bound};
-ghost use Rattle.escape_simd.specs.Stretch.{AreTail};
+ghost use Rattle.escape_simd.specs.Stretch.{AreTailMasks};
 
 use crate::simd::body::escape_bytes;
-use crate::simd::tail::{TailFlags, escape_flagged_tail, store_clean_tail};
+use crate::simd::tail::{escape_flagged_tail, store_clean_tail};
 use crate::simd::{HTML_MODE, JSON_MODE, Vector};
-use escape_lanes::simd::classify::Classified;
+use escape_lanes::simd::escape_mask::EscapeMask;
 use escape_lanes::simd::mode::is_quoted;
 use escape_lanes::simd::target::{Target, Ticks};
 
@@ -76,33 +74,26 @@ fn format_slice<V: Vector<N>, const MODE: u8, const N: usize>(value: &str, dst: 
     format::<V, MODE, N>(value, &mut target, &mut Ticks::new())
 }
 
-/// As [`format_slice`], of a short text for which a classifier answered.
+/// As [`format_slice`], of a short text, by its masks.
 ///
-/// The parts of [`TailFlags`] are arguments of their own, so that they are passed in registers.
+/// The masks are arguments of their own, so that they are passed in registers.
 #[inline(never)]
 fn format_flagged<V: Vector<N>, const MODE: u8, const N: usize>(
     text: &[u8],
-    first: u64,
-    first_classified: Classified<'_>,
-    last: u64,
-    last_classified: Classified<'_>,
+    first: EscapeMask<MODE>,
+    last: EscapeMask<MODE>,
     dst: &mut [u8],
 ) -> usize
-    requires flagged { AreTail (mode_numbered MODE) N text.now (bits_of 64 first) (bits_of 64 last) (asked_of first_classified) (asked_of last_classified) }
+    requires masks { AreTailMasks N text.now first last }
     requires room { bound (mode_numbered MODE) (length text.now) ≤ length dst.old }
     ensures { IsWritten N (mode_numbered MODE) text.now dst.old dst.new result }
 {
-    let flags = TailFlags {
-        first,
-        first_classified,
-        last,
-        last_classified,
-    };
     let mut target = Target::<N>::new(dst);
     let open = quote::<MODE, N>(&mut target, 0);
     let close = escape_flagged_tail::<V, MODE, N>(
         text,
-        flags,
+        first,
+        last,
         &mut target,
         open,
         &mut Ticks::new(),
@@ -127,14 +118,7 @@ pub(crate) fn format_in_mode<V: Vector<N>, const MODE: u8, const N: usize>(
         let open = quote::<MODE, N>(&mut target, 0);
         return match store_clean_tail::<V, MODE, N>(text, &mut target, open, &mut Ticks::new()) {
             Ok(close) => quote::<MODE, N>(&mut target, close),
-            Err(flags) => format_flagged::<V, MODE, N>(
-                text,
-                flags.first,
-                flags.first_classified,
-                flags.last,
-                flags.last_classified,
-                dst,
-            ),
+            Err(masks) => format_flagged::<V, MODE, N>(text, masks.first, masks.last, dst),
         };
     }
     format_slice::<V, MODE, N>(value, dst)

@@ -1,13 +1,14 @@
-//! How far a run of escapes goes: as its flags tell, or its bytes.
+//! How far a run of escapes goes: as its mask tells, or its bytes.
 ghost use Rattle.std.specs.Prelude.{◌≡◌, ℕ, ◌+◌, ◌<◌, ◌≤◌, true, false, List, length, drop, slice_index_or};
 ghost use Rattle.escape_lanes.specs.Bits.{bits_of};
 ghost use Rattle.escape_simd.specs.Modes.{mode_numbered};
 ghost use Rattle.escape_simd.specs.Output.{passed};
 ghost use Rattle.escape_simd.specs.Stretch.{IsFlaggedAt, IsRunAt, IsRunEnd, run_end};
-ghost use Rattle.escape_simd.specs.RunLaws.{mask-flagged, entry-flagged};
+ghost use Rattle.escape_simd.specs.RunLaws.{entry-flagged};
 
 use escape_lanes::simd::BitMask;
-use escape_lanes::simd::lane_bits::{clear_first_lane, shift_lanes};
+use escape_lanes::simd::escape_mask::EscapeMask;
+use escape_lanes::simd::lane_bits::shift_lanes;
 use escape_lanes::simd::mode::entry;
 
 /// What tells whether a run goes on.
@@ -30,28 +31,28 @@ pub(crate) trait RunEnd<const MODE: u8>: Drop {
     ghost flagged: { (f : Self) (src : List ℕ) (stop at : ℕ) → goes f src stop at → IsFlaggedAt (mode_numbered MODE) src at × (at < stop) × (stop ≤ length src) };
 }
 
-/// Returns whether the lane is flagged. `lane` is below 64.
+/// Returns whether the lane is set. `lane` is below 64.
 #[inline(always)]
-fn is_set(flags: u64, lane: usize) -> bool
+fn is_set(bits: u64, lane: usize) -> bool
     requires { lane < 64 }
-    ensures { result ≡ slice_index_or (bits_of 64 flags) lane false }
+    ensures { result ≡ slice_index_or (bits_of 64 bits) lane false }
 {
-    shift_lanes(flags, lane).first_offset() == 0
+    shift_lanes(bits, lane).first_offset() == 0
 }
 
-impl<const MODE: u8> RunEnd<MODE> for u64 {
-    ghost goes = { λ mask src stop at. IsRunAt (mode_numbered MODE) src stop at (bits_of 64 mask) };
+impl<const MODE: u8> RunEnd<MODE> for EscapeMask<MODE> {
+    ghost goes = { λ mask src stop at. IsRunAt (mode_numbered MODE) src stop at mask };
 
-    ghost ends = { λ mask src stop at. IsRunEnd (mode_numbered MODE) src stop at (bits_of 64 mask) };
+    ghost ends = { λ mask src stop at. IsRunEnd (mode_numbered MODE) src stop at mask };
 
     /// Whether no flag is left is asked first: most vectors have one run, and leave here what goes through their runs too.
     #[inline(always)]
     fn goes_on(&mut self, _: &[u8], _: usize, _: usize, next: usize) -> bool {
-        *self = clear_first_lane(*self);
-        !self.all_zero() && is_set(*self, next)
+        self.clear_first();
+        !self.is_clear() && is_set(self.bits(), next)
     }
 
-    ghost flagged = { λ mask src stop at goes. mask-flagged goes };
+    ghost flagged = { λ _ src stop at goes. (goes.flagged, goes.before, goes.inside) };
 }
 
 /// A text's bytes, looked up one by one.

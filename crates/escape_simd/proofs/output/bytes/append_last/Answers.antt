@@ -1,25 +1,25 @@
-use Rattle.escape_simd.proofs.Words.{◌≡◌, ℕ, ◌+◌, ◌-◌, List, ◌++◌, length, take, drop, sym, ap, ◌∙◌, arith, take_all, mode_numbered}
+use Rattle.escape_simd.proofs.Words.{◌≡◌, ℕ, ◌+◌, ◌-◌, List, ◌++◌, and_parts, length, length-drop, take, drop, sym, ap, ◌∙◌, arith, take_all, mode_numbered}
 use Rattle.escape_simd.proofs.Parts.{marked, tail-itself, vector-front, vector-over}
 use Rattle.escape_simd.proofs.output.bytes.append_last.Goals as goal
 
-pub returns-then-none : goal.returns-then-none
-returns-then-none g c =
+pub returns-then-are_clear : goal.returns-then-are_clear
+returns-then-are_clear g c =
     let mode = mode_numbered g.row.MODE in let text : List ℕ = c.args.text.now in let old : List ℕ = c.args.dst.now.items in let len : ℕ = c.len-len.result in
-    let none = c.none.ensures c.if-none.true in let itself = tail-itself mode 32 text c.classify_short.ensures.flagged none.0 none.1 in
+    let none = and_parts _ _ (sym c.are_clear.ensures ∙ c.if-are_clear.true) in let itself = tail-itself mode 32 text c.classify_short-masks.ensures.masks none.0 none.1 in
     marked mode text old c.truncate.new.self.items c.push_quote.new.dst.items
-    (c.truncate.ensures.items ∙ ap (take (len + length text)) c.push_all.ensures.items ∙ vector-front old text _ 32 len (omega (arith, c.len-len.ensures)) (c.lanes.ensures ∙ c.classify_short.ensures.loaded) ∙ ap (λ xs. old ++ xs) (sym itself))
+    (c.truncate.ensures.items ∙ ap (take (len + length text)) c.push_all.ensures.items ∙ vector-front old text _ 32 len (omega (arith, c.len-len.ensures)) (c.lanes.ensures ∙ c.classify_short-masks.ensures.loaded) ∙ ap (λ xs. old ++ xs) (sym itself))
     c.push_quote.ensures.items
 
-pub returns-then-none-2 : goal.returns-then-none-2
-returns-then-none-2 g c =
+pub returns-then-are_clear-2 : goal.returns-then-are_clear-2
+returns-then-are_clear-2 g c =
     let mode = mode_numbered g.row.MODE in let text : List ℕ = c.args.text.now in let old : List ℕ = c.args.dst.now.items in
     let len : ℕ = c.len-len.result in let last : ℕ = length text - 32 in
     let all : last + 32 ≡ length text = omega (arith, c.if-count-lt-N.false) in
-    let none = c.none-else-count-lt-N.ensures c.if-none-2.true in let itself = tail-itself mode 32 text c.classify_pair.ensures.flagged none.0 none.1 in
-    marked mode text old c.push_all-then-none-2-2.new.dst.items c.push_quote-then-none-2.new.dst.items
-    (c.push_all-then-none-2-2.ensures.items
-    ∙ ap (λ xs. c.truncate-then-none-2.new.self.items ++ xs) (c.lanes-then-none-2-2.ensures ∙ c.classify_pair.ensures.last)
-    ∙ ap (λ xs. xs ++ take 32 (drop last text)) c.truncate-then-none-2.ensures.items
-    ∙ vector-over old text c.push_all-then-none-2.new.dst.items len last 32 32 (omega (arith, c.len-len.ensures)) (omega (arith, c.requires.few)) (c.push_all-then-none-2.ensures.items ∙ ap (λ xs. old ++ xs) (c.lanes-then-none-2.ensures ∙ c.classify_pair.ensures.first))
+    let none = and_parts _ _ (sym c.are_clear-else-count-lt-N.ensures ∙ c.if-are_clear-2.true) in let itself = tail-itself mode 32 text c.classify_pair-masks.ensures.masks none.0 none.1 in
+    marked mode text old c.push_all-then-are_clear-2-2.new.dst.items c.push_quote-then-are_clear-2.new.dst.items
+    (c.push_all-then-are_clear-2-2.ensures.items
+    ∙ ap (λ xs. c.truncate-then-are_clear-2.new.self.items ++ xs) (c.lanes-then-are_clear-2-2.ensures ∙ c.classify_pair-masks.ensures.last ∙ sym (take_all 32 (drop last text) (omega (arith, length-drop last text))))
+    ∙ ap (λ xs. xs ++ take 32 (drop last text)) c.truncate-then-are_clear-2.ensures.items
+    ∙ vector-over old text c.push_all-then-are_clear-2.new.dst.items len last 32 32 (omega (arith, c.len-len.ensures)) (omega (arith, c.requires.few)) (c.push_all-then-are_clear-2.ensures.items ∙ ap (λ xs. old ++ xs) (c.lanes-then-are_clear-2.ensures ∙ c.classify_pair-masks.ensures.first))
     ∙ ap (λ xs. old ++ xs) (take_all (last + 32) text (omega (arith, all)) ∙ sym itself))
-    c.push_quote-then-none-2.ensures.items
+    c.push_quote-then-are_clear-2.ensures.items

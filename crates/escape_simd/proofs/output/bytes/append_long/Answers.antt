@@ -1,8 +1,8 @@
 use Rattle.std.proofs.Common.{arith}
 use Rattle.std.proofs.lemmas.List.{drop-drop}
-use Rattle.escape_simd.proofs.Words.{◌≡◌, ℕ, List, [], ◌+◌, ◌*◌, ◌≤◌, ◌++◌, refl, sym, ◌∙◌, ap, append-nil, length, map, take, take-add, drop, needs_escape, mode_numbered}
-use Rattle.escape_simd.proofs.Parts.{copied-on, front-more, front-rest}
-use Rattle.escape_simd.proofs.Vectors.{flags-clean}
+use Rattle.escape_simd.proofs.Words.{◌≡◌, ℕ, List, [], ◌+◌, ◌*◌, ◌≤◌, ◌++◌, refl, sym, ◌∙◌, ap, append-nil, length, take, take-add, drop, mode_numbered}
+use Rattle.escape_simd.proofs.Lanes.{mask-clean}
+use Rattle.escape_simd.proofs.Parts.{clean-four, copied-on, front-more, front-rest}
 use Rattle.escape_simd.proofs.output.bytes.append_long.Goals as goal
 
 -- four vectors in turn are the bytes of a chunk
@@ -14,9 +14,9 @@ four-taken n at src all a b c d flat is_a is_b is_c is_d =
 
 pub chunks-preserved : goal.chunks-preserved
 chunks-preserved g c =
-    let mode = mode_numbered g.row.MODE in let src : List ℕ = c.args.text.now in let at : ℕ = c.chunks.at in let i = c.chunks.invariant in let four = c.classify_four-answers.ensures in
+    let mode = mode_numbered g.row.MODE in let src : List ℕ = c.args.text.now in let at : ℕ = c.chunks.at in let i = c.chunks.invariant in let four = c.classify_four-clear.ensures in
     let inside : at + 128 ≤ length src = omega (arith, i.front.inside, c.chunks-test.true) in
-    let clean = flags-clean mode 128 src at (map (needs_escape mode) (take 128 (drop at src))) inside refl (sym four.none ∙ c.if-not-none.false) in
+    let clean = clean-four mode 32 src at inside four.first four.second four.third four.fourth four.clear c.if-not-clear.false in
     let rows : c.as_flattened.result.now ≡ take 128 (drop at src) = four-taken 32 at src _ _ _ _ _ c.as_flattened.ensures.value (c.lanes.ensures ∙ four.first.loaded) (c.lanes-in-chunks.ensures ∙ four.second.loaded) (c.lanes-in-chunks-2.ensures ∙ four.third.loaded) (c.lanes-in-chunks-3.ensures ∙ four.fourth.loaded) in
     record {
       front = front-more mode src 0 at 128 i.front inside clean;
@@ -28,15 +28,15 @@ pub vectors-preserved : goal.vectors-preserved
 vectors-preserved g c =
     let mode = mode_numbered g.row.MODE in let src : List ℕ = c.args.text.now in let at : ℕ = c.vectors.at in let i = c.vectors.invariant in
     let inside : at + 32 ≤ length src = omega (arith, i.front.inside, c.vectors-test.true) in
-    let clean = flags-clean mode 32 src at _ inside c.classify.ensures.flagged (sym c.none.ensures ∙ c.if-not-none-2.false) in
+    let clean = mask-clean mode src at 32 _ c.classify-mask.ensures.classified.told inside (sym c.is_clear.ensures ∙ c.if-not-is_clear.false) in
     record {
       front = front-more mode src 0 at 32 i.front (omega (arith, inside)) clean;
-      copied = copied-on src c.args.dst.now.items c.vectors.dst.items c.push_all-in-vectors.new.dst.items at 32 32 i.copied refl (c.push_all-in-vectors.ensures.items ∙ ap (λ xs. c.vectors.dst.items ++ xs) (c.lanes-in-vectors.ensures ∙ c.classify.ensures.loaded));
+      copied = copied-on src c.args.dst.now.items c.vectors.dst.items c.push_all-in-vectors.new.dst.items at 32 32 i.copied refl (c.push_all-in-vectors.ensures.items ∙ ap (λ xs. c.vectors.dst.items ++ xs) (c.lanes-in-vectors.ensures ∙ c.classify-mask.ensures.classified.loaded));
       capacity = omega (arith, i.capacity, c.push_all-in-vectors.ensures.capacity);
     }
 
-pub returns-then-not-none-2 : goal.returns-then-not-none-2
-returns-then-not-none-2 g c =
+pub returns-then-not-is_clear : goal.returns-then-not-is_clear
+returns-then-not-is_clear g c =
     let i = c.vectors.invariant in
     front-rest (mode_numbered g.row.MODE) c.args.text.now c.args.dst.now.items c.vectors.dst.items c.append_in_place.new.dst.items c.vectors.at i.front i.copied c.append_in_place.ensures
 

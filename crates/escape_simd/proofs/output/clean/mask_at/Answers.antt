@@ -1,16 +1,23 @@
-use Rattle.escape_simd.proofs.Words.{◌≡◌, ◌+◌, length, sym, subst, arith, bits_of, mode_numbered, HoldsFlags}
-use Rattle.escape_simd.proofs.Lengths.{last-held}
-use Rattle.escape_simd.proofs.Vectors.{mask-held}
+use Rattle.escape_simd.proofs.Words.{◌≡◌, ◌+◌, ◌-◌, ◌∙◌, ◌++◌, ℕ, List, length, length-drop, take, drop, replicate, ap, arith, take_all, take-append_seam, whole_mask}
 use Rattle.escape_simd.proofs.output.clean.mask_at.Goals as goal
 
 pub returns-then-count-eq-N : goal.returns-then-count-eq-N
 returns-then-count-eq-N g c =
-    let whole : c.args.count ≡ 32 = omega (arith, c.if-count-eq-N.true) in
-    subst (λ n. HoldsFlags (mode_numbered g.row.MODE) c.args.src.now c.args.at n c.args.at (bits_of 64 c.bits.result)) (sym whole)
-    (mask-held (mode_numbered g.row.MODE) 32 c.args.src.now c.args.at _ (bits_of 64 c.bits.result) (omega arith) (omega (arith, c.requires.inside, whole)) c.classify.ensures.flagged c.bits.ensures)
+    let whole : 32 ≡ c.args.count = omega (arith, c.if-count-eq-N.true) in
+    c.classify.ensures.classified.told ∙ ap (λ n. whole_mask (take n (drop c.args.at c.args.src.now))) whole
+
+pub classify_front-requires : goal.classify_front-requires
+classify_front-requires g c =
+    let src : List ℕ = c.args.src.now in let at : ℕ = c.args.at in let count : ℕ = c.args.count in
+    let ends : at + count ≡ length src = c.requires.last (omega (arith, c.requires.few, c.if-count-eq-N.false)) in
+    let here : length src - count ≡ at = omega (arith, ends) in
+    let all : take (length src - at) (drop at src) ≡ drop at src = take_all (length src - at) (drop at src) (omega (arith, length-drop at src)) in
+    let loaded = c.load_last.ensures ∙ ap (λ k. drop k src ++ replicate (32 - count) 0) here in
+    (omega arith, (omega (arith, ap length all, length-drop at src, ends, c.requires.few), rw all (ap (take (length (drop at src))) loaded ∙ take-append_seam (drop at src) (replicate (32 - count) 0))))
 
 pub returns : goal.returns
 returns g c =
-    let ends : c.args.at + c.args.count ≡ length c.args.src.now = c.requires.last (omega (arith, c.requires.few, c.if-count-eq-N.false)) in
-    last-held (mode_numbered g.row.MODE) 32 c.args.src.now _ c.args.at c.args.count _ _ (bits_of 64 c.clear_high_bits.result) (omega arith) ends c.requires.few c.load_last.ensures c.flags.ensures.lanes
-    c.bits-flags.ensures c.clear_high_bits.ensures
+    let src : List ℕ = c.args.src.now in let at : ℕ = c.args.at in let count : ℕ = c.args.count in
+    let ends : at + count ≡ length src = c.requires.last (omega (arith, c.requires.few, c.if-count-eq-N.false)) in
+    let here : length src - at ≡ count = omega (arith, ends) in
+    c.classify_front.ensures.told ∙ ap (λ n. whole_mask (take n (drop at src))) here

@@ -15,14 +15,14 @@ chunks-preserved g c =
 
 pub vector_from-requires : goal.vector_from-requires
 vector_from-requires g c =
-    let i = c.vectors.invariant.stretch.inside in let a = c.classify-answer.ensures in
+    let i = c.vectors.invariant.stretch.inside in let a = c.classify-mask.ensures in
     let room = body-vectors c.vectors.invariant 1 c.requires (omega (arith, c.vectors-test.true, i)) (omega arith) in
-    (omega arith, (record { loaded = a.loaded; flagged = a.flagged; asked = a.asked }, passed-to (mode_numbered g.row.MODE) c.args.src.now c.vectors.at, room))
+    (omega arith, (omega arith, (a.classified.told, passed-to (mode_numbered g.row.MODE) c.args.src.now c.vectors.at, room)))
 
 pub vectors-preserved : goal.vectors-preserved
 vectors-preserved g c =
     let i = c.vectors.invariant.stretch.inside in
-    body-on c.vectors.invariant 1 g.met.V.Vector.several (omega (arith, c.vectors-test.true, i)) (omega arith) (omega arith) (escapes-bordered (omega arith) (escapes-asked c.vectors.ticks 1 c.classify-answer.ensures.tick c.vector_from.ensures))
+    body-on c.vectors.invariant 1 g.met.V.Vector.several (omega (arith, c.vectors-test.true, i)) (omega arith) (omega arith) (escapes-bordered (omega arith) (escapes-asked c.vectors.ticks 1 c.classify-mask.ensures.tick c.vector_from.ensures))
 
 pub escape_tail-requires : goal.escape_tail-requires
 escape_tail-requires g c =

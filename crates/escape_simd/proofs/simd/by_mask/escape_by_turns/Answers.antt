@@ -1,16 +1,15 @@
-use Rattle.std.proofs.Common.{◌∙◌, not, nat_eq, sym, arith}
+use Rattle.escape_simd.proofs.Words.{◌∙◌, not, nat_eq, ap, sym, arith, told_by}
 use denote.Param.{number, value_of}
-use Rattle.escape_simd.proofs.Lanes.{held-tells}
 use Rattle.escape_simd.proofs.Stretches.{reach-bounds}
-use Rattle.escape_simd.proofs.Turns.{turns-begin, turn-place, turn-run, turn-room, turn-end, turn-stores, turn-finished, turn-stored}
+use Rattle.escape_simd.proofs.Turns.{turns-begin, turn-place, turn-run, turn-room, turn-told, turn-end, turn-stores, turn-finished, turn-stored}
 use Rattle.escape_simd.proofs.Vectors.{vector-stores}
 use Rattle.escape_simd.proofs.simd.by_mask.escape_by_turns.Goals as goal
 
 pub store-requires : goal.store-requires
-store-requires g c = (omega arith, (c.requires.0, c.requires.2, vector-stores c.requires.3))
+store-requires g c = (omega arith, (omega arith, (c.requires.0, ap told_by c.requires.3, vector-stores c.requires.5)))
 
 pub turns-init : goal.turns-init
-turns-init g c = turns-begin (omega (arith, reach-bounds (not (nat_eq (value_of (number g.row.LAST)) 0)) g.row.N c.requires.1)) c.requires.3 c.requires.4 c.store.ensures.stored
+turns-init g c = turns-begin (omega (arith, reach-bounds (not (nat_eq (value_of (number g.row.LAST)) 0)) g.row.N c.requires.1)) c.requires.3 c.requires.5 c.requires.4 c.store.ensures.stored
 
 pub overflow_sub-flagged : goal.overflow_sub-flagged
 overflow_sub-flagged g c = omega (arith, turn-place c.turns.invariant c.first_offset-flagged.ensures)
@@ -23,20 +22,25 @@ escape_run-after-requires g c = (omega arith, turn-run c.turns.invariant c.first
 
 pub finish_vector-requires : goal.finish_vector-requires
 finish_vector-requires g c =
-    let e = c.escape_run-after.ensures in
-    (omega arith, (c.requires.0, held-tells _ _ _ _ _ e.ended.flags, turn-end c.turns.invariant c.first_offset-flagged.ensures e.escaped e.some e.ended (sym c.all_zero.ensures ∙ c.if-all_zero.true)))
+    let e = c.escape_run-after.ensures in let clear = sym c.is_clear.ensures ∙ c.if-is_clear.true in
+    (omega arith, (omega arith, (c.requires.0, omega (arith, c.requires.2, c.requires.5.few), e.ended.bytes, e.ended.from, clear, turn-end c.turns.invariant c.first_offset-flagged.ensures e.escaped e.some e.ended clear)))
 
-pub returns-then-all_zero : goal.returns-then-all_zero
-returns-then-all_zero g c = let e = c.escape_run-after.ensures in turn-finished c.turns.invariant c.first_offset-flagged.ensures e.escaped e.some e.ended c.finish_vector.ensures
+pub returns-then-is_clear : goal.returns-then-is_clear
+returns-then-is_clear g c = let e = c.escape_run-after.ensures in turn-finished c.turns.invariant c.first_offset-flagged.ensures e.escaped e.some e.ended c.finish_vector.ensures
 
-pub store_tail-requires : goal.store_tail-requires
-store_tail-requires g c =
-    let e = c.escape_run-after.ensures in let s = turn-stores c.turns.invariant c.first_offset-flagged.ensures e.escaped e.some e.ended (sym c.all_zero.ensures ∙ c.if-all_zero.false) in
-    (omega arith, (c.requires.0, s.0, held-tells _ _ _ _ _ e.ended.flags, s.1))
+pub rest-mask-requires : goal.rest-mask-requires
+rest-mask-requires g c =
+    let e = c.escape_run-after.ensures in let t = turn-told c.turns.invariant c.first_offset-flagged.ensures e.escaped e.some e.ended (sym c.is_clear.ensures ∙ c.if-is_clear.false) in
+    (omega arith, t)
+
+pub store-requires-in-turns : goal.store-requires-in-turns
+store-requires-in-turns g c =
+    let e = c.escape_run-after.ensures in let s = turn-stores c.turns.invariant c.first_offset-flagged.ensures e.escaped e.some e.ended (sym c.is_clear.ensures ∙ c.if-is_clear.false) c.rest-mask.ensures.told in
+    (omega arith, (omega arith, (c.requires.0, s.0, s.1)))
 
 pub turns-smaller : goal.turns-smaller
 turns-smaller g c = omega (arith, turn-place c.turns.invariant c.first_offset-flagged.ensures, c.escape_run-after.ensures.some)
 
 pub turns-preserved : goal.turns-preserved
 turns-preserved g c =
-    let e = c.escape_run-after.ensures in turn-stored c.turns.invariant c.first_offset-flagged.ensures e.escaped e.some e.ended (sym c.all_zero.ensures ∙ c.if-all_zero.false) c.store_tail.ensures.stored c.store_tail.ensures.tick
+    let e = c.escape_run-after.ensures in turn-stored c.turns.invariant c.first_offset-flagged.ensures e.escaped e.some e.ended (sym c.is_clear.ensures ∙ c.if-is_clear.false) c.rest-mask.ensures.told c.rest-mask.ensures.lanes c.store-in-turns.ensures.stored c.rest-mask.ensures.tick

@@ -1,15 +1,24 @@
-use Rattle.escape_simd.proofs.Words.{arith}
+use Rattle.escape_simd.proofs.Words.{◌≡◌, ◌+◌, ◌-◌, ◌∙◌, length, take, drop, ap, arith, drop-take, length-take-le, mode_numbered, told_by}
+use Rattle.escape_simd.proofs.Lanes.{mask-past}
 use Rattle.escape_simd.proofs.Stretches.{room-least}
 use Rattle.escape_simd.proofs.Turns.{finished-over, finished-stored}
 use Rattle.escape_simd.proofs.simd.by_mask.finish_vector.Goals as goal
 
-pub store_tail-requires : goal.store_tail-requires
-store_tail-requires g c =
-    let v = c.requires.2 in let least = room-least (omega (arith, c.if-border-from.false)) (omega (arith, v.inside)) v.room in
-    (omega arith, (c.requires.0, omega (arith, c.if-border-from.false), c.requires.1, record { few = omega (arith, v.near); inside = omega (arith, v.inside, c.if-border-from.false); room = omega (arith, least) }))
+pub rest-rest-requires : goal.rest-rest-requires
+rest-rest-requires g c =
+    let before = c.if-border-from.false in
+    let long = ap length c.requires.2 ∙ length-take-le c.args.border c.args.src.now (omega (arith, c.requires.5.inside)) in
+    (omega arith, (c.requires.3, omega (arith, long, before), mask-past (mode_numbered g.row.MODE) c.args.mask c.args.from c.requires.4 (omega (arith, before, c.requires.1))))
+
+pub store-requires : goal.store-requires
+store-requires g c =
+    let v = c.requires.5 in let least = room-least (omega (arith, c.if-border-from.false)) (omega (arith, v.inside)) v.room in
+    let sum : c.args.border ≡ c.args.from + (c.args.border - c.args.from) = omega (arith, c.if-border-from.false) in
+    let told = ap told_by c.rest-rest.ensures.told ∙ ap (drop c.args.from) c.requires.2 ∙ ap (λ k. drop c.args.from (take k c.args.src.now)) sum ∙ drop-take c.args.from (c.args.border - c.args.from) c.args.src.now in
+    (omega arith, (omega arith, (c.requires.0, told, record { few = omega (arith, v.near); inside = omega (arith, v.inside, c.if-border-from.false); room = omega (arith, least) })))
 
 pub returns-then-border-from : goal.returns-then-border-from
-returns-then-border-from g c = finished-over c.if-border-from.true c.requires.2
+returns-then-border-from g c = finished-over c.if-border-from.true c.requires.5
 
 pub returns : goal.returns
-returns g c = let e = c.store_tail.ensures in rw (e.places.0, e.places.1) (finished-stored (omega (arith, c.if-border-from.false)) c.requires.2 e.stored e.tick)
+returns g c = let e = c.store.ensures in let sum : c.args.from + (c.args.border - c.args.from) ≡ c.args.border = omega (arith, c.if-border-from.false) in rw (e.places.0, e.places.1, sum) (finished-stored (omega (arith, c.if-border-from.false)) c.requires.5 e.stored c.rest-rest.ensures.tick)

@@ -1,36 +1,37 @@
-use Rattle.escape_simd.proofs.Words.{◌≡◌, ◌≤◌, ℕ, take-take, ◌+◌, ◌*◌, ◌∙◌, Bool, List, length, map, take, drop, ap, refl, subst, sym, arith, bytes_of, mode_numbered, needs_escape, Escapes, IsAnswer, IsStored, IsWithin, HasVectors, Mode, Passed, Target, state}
-use Rattle.escape_simd.proofs.Lanes.{CleanFrom, within-all}
+use Rattle.escape_simd.proofs.Words.{◌≡◌, ◌≤◌, ℕ, take-take, ◌+◌, ◌*◌, ◌∙◌, List, length, take, drop, ap, refl, subst, sym, arith, bytes_of, mode_numbered, told_by, Escapes, IsClassified, IsStored, HasVectors, MaskOf, Mode, Passed, Target, state}
+use Rattle.escape_simd.proofs.Lanes.{CleanFrom}
+use Rattle.escape_simd.proofs.Parts.{clean-four}
 use Rattle.escape_simd.proofs.Stretches.{room-least, room-near, room-on}
-use Rattle.escape_simd.proofs.Vectors.{escapes-asked, escapes-bordered, escapes-ended, escapes-onward, flags-clean, passed-to, vector-clean}
+use Rattle.escape_simd.proofs.Vectors.{escapes-asked, escapes-bordered, escapes-ended, escapes-onward, passed-to, vector-clean}
 use Rattle.escape_simd.proofs.simd.chunk.chunk.Goals as goal
 
 -- each of the vectors can be stored
 module _ {N vectors : ℕ} {mode : Mode} {src : List ℕ} {at to size : ℕ} (r : HasVectors mode N vectors src at at to size) where
-  store-at : (k j i p : ℕ) (target : Target N) {width : ℕ} {lanes asked : List ℕ} {truths : List Bool} → width ≡ N → IsAnswer mode N src j lanes truths asked → j ≡ at + k → i ≡ j → p ≡ to + k → k + N ≤ vectors * N → (vectors + 1) * N ≡ vectors * N + N
-      → length (bytes_of target) ≡ size → (width ≡ N) × (N ≤ N) × (i + N ≤ length src) × (take N lanes ≡ take N (drop i src)) × IsWithin (take N (drop i src)) asked × (p + N + N ≤ length (bytes_of target))
-  store-at k j i p target {width} {lanes} {asked} {truths} wide answer starts is ends few more same =
+  store-at : (k j i p : ℕ) (target : Target N) {width : ℕ} {lanes : List ℕ} {mask : MaskOf} → width ≡ N → IsClassified N src j lanes mask → j ≡ at + k → i ≡ j → p ≡ to + k → k + N ≤ vectors * N → (vectors + 1) * N ≡ vectors * N + N
+      → length (bytes_of target) ≡ size → (width ≡ N) × (N ≤ N) × (i + N ≤ length src) × (take N lanes ≡ take N (drop i src)) × (told_by mask ≡ take N (drop i src)) × (p + N + N ≤ length (bytes_of target))
+  store-at k j i p target {width} {lanes} {mask} wide answer starts is ends few more same =
       let least = room-least (omega arith) (omega (arith, r.inside, more)) r.room in
-      let a = subst (λ j. IsAnswer mode N src j lanes truths asked) (sym is) answer in
-      (wide, omega arith, omega (arith, r.inside, starts, is, few, more), ap (take N) a.loaded ∙ take-take N N (drop i src) (omega arith), within-all _ _ a.asked, omega (arith, ends, few, least, same))
+      let a = subst (λ j. IsClassified N src j lanes mask) (sym is) answer in
+      (wide, omega arith, omega (arith, r.inside, starts, is, few, more), ap (take N) a.loaded ∙ take-take N N (drop i src) (omega arith), ap told_by a.told, omega (arith, ends, few, least, same))
 
 pub store_lanes-next-requires : goal.store_lanes-next-requires
 store_lanes-next-requires g c =
-    (omega arith, store-at c.requires 0 c.args.at c.args.at c.args.to c.args.target.now g.met.V.Vector.lane_count c.classify_four-first.ensures.first (omega arith) refl (omega arith) (omega arith) (omega arith) refl)
+    (omega arith, (omega arith, store-at c.requires 0 c.args.at c.args.at c.args.to c.args.target.now g.met.V.Vector.lane_count c.classify_four-v1.ensures.first (omega arith) refl (omega arith) (omega arith) (omega arith) refl))
 
-pub store_lanes-next-requires-then-none : goal.store_lanes-next-requires-then-none
-store_lanes-next-requires-then-none g c =
+pub store_lanes-next-requires-then-clear : goal.store_lanes-next-requires-then-clear
+store_lanes-next-requires-then-clear g c =
     let n : ℕ = g.row.N in let s = c.store_lanes-next in let e = s.ensures in
-    (omega arith, store-at c.requires n (c.args.at + n) s.result.0 s.result.1 s.new.target g.met.V.Vector.lane_count c.classify_four-first.ensures.second refl e.places.0 e.places.1 (omega arith) (omega arith) e.stored.same_slice.len)
+    (omega arith, (omega arith, store-at c.requires n (c.args.at + n) s.result.0 s.result.1 s.new.target g.met.V.Vector.lane_count c.classify_four-v1.ensures.second refl e.places.0 e.places.1 (omega arith) (omega arith) e.stored.same_slice.len))
 
-pub store_lanes-next-requires-then-none-2 : goal.store_lanes-next-requires-then-none-2
-store_lanes-next-requires-then-none-2 g c =
-    let n : ℕ = g.row.N in let e = c.store_lanes-next.ensures in let s = c.store_lanes-next-then-none in let e2 = s.ensures in
-    (omega arith, store-at c.requires (2 * n) (c.args.at + 2 * n) s.result.0 s.result.1 s.new.target g.met.V.Vector.lane_count c.classify_four-first.ensures.third refl (omega (arith, e.places.0, e2.places.0)) (omega (arith, e.places.1, e2.places.1)) (omega arith) (omega arith) (e2.stored.same_slice.len ∙ e.stored.same_slice.len))
+pub store_lanes-next-requires-then-clear-2 : goal.store_lanes-next-requires-then-clear-2
+store_lanes-next-requires-then-clear-2 g c =
+    let n : ℕ = g.row.N in let e = c.store_lanes-next.ensures in let s = c.store_lanes-next-then-clear in let e2 = s.ensures in
+    (omega arith, (omega arith, store-at c.requires (2 * n) (c.args.at + 2 * n) s.result.0 s.result.1 s.new.target g.met.V.Vector.lane_count c.classify_four-v1.ensures.third refl (omega (arith, e.places.0, e2.places.0)) (omega (arith, e.places.1, e2.places.1)) (omega arith) (omega arith) (e2.stored.same_slice.len ∙ e.stored.same_slice.len)))
 
 pub store_lanes-requires : goal.store_lanes-requires
 store_lanes-requires g c =
-    let n : ℕ = g.row.N in let e = c.store_lanes-next.ensures in let e2 = c.store_lanes-next-then-none.ensures in let s = c.store_lanes-next-then-none-2 in let e3 = s.ensures in
-    (omega arith, store-at c.requires (3 * n) (c.args.at + 3 * n) s.result.0 s.result.1 s.new.target g.met.V.Vector.lane_count c.classify_four-first.ensures.fourth refl (omega (arith, e.places.0, e2.places.0, e3.places.0)) (omega (arith, e.places.1, e2.places.1, e3.places.1)) (omega arith) (omega arith) (e3.stored.same_slice.len ∙ e2.stored.same_slice.len ∙ e.stored.same_slice.len))
+    let n : ℕ = g.row.N in let e = c.store_lanes-next.ensures in let e2 = c.store_lanes-next-then-clear.ensures in let s = c.store_lanes-next-then-clear-2 in let e3 = s.ensures in
+    (omega arith, (omega arith, store-at c.requires (3 * n) (c.args.at + 3 * n) s.result.0 s.result.1 s.new.target g.met.V.Vector.lane_count c.classify_four-v1.ensures.fourth refl (omega (arith, e.places.0, e2.places.0, e3.places.0)) (omega (arith, e.places.1, e2.places.1, e3.places.1)) (omega arith) (omega arith) (e3.stored.same_slice.len ∙ e2.stored.same_slice.len ∙ e.stored.same_slice.len)))
 
 -- a vector of a clean chunk was stored
 module _ {N : ℕ} {mode : Mode} {src : List ℕ} {at : ℕ} (inside : at + 4 * N ≤ length src) (clean : CleanFrom mode src at (at + 4 * N)) where
@@ -38,12 +39,12 @@ module _ {N : ℕ} {mode : Mode} {src : List ℕ} {at : ℕ} (inside : at + 4 * 
   stored-on {old} {new} {i} {p} {next} {end} {t} s is ends after before =
       escapes-ended (sym is) (sym is) (sym ends) (vector-clean mode N src old new i N p t (omega (arith, inside, is, before)) (λ q from until. clean q (omega (arith, after, from)) (omega (arith, before, is, until))) s)
 
-pub returns-then-none : goal.returns-then-none
-returns-then-none g c =
-    let mode = mode_numbered g.row.MODE in let n : ℕ = g.row.N in let src : List ℕ = c.args.src.now in let at : ℕ = c.args.at in let four = c.classify_four-first.ensures in
+pub returns-then-clear : goal.returns-then-clear
+returns-then-clear g c =
+    let mode = mode_numbered g.row.MODE in let n : ℕ = g.row.N in let src : List ℕ = c.args.src.now in let at : ℕ = c.args.at in let four = c.classify_four-v1.ensures in
     let inside : at + 4 * n ≤ length src = omega (arith, c.requires.inside) in
-    let clean = flags-clean mode (4 * n) src at (map (needs_escape mode) (take (4 * n) (drop at src))) inside refl (sym four.none ∙ c.if-none.true) in
-    let e1 = c.store_lanes-next.ensures in let e2 = c.store_lanes-next-then-none.ensures in let e3 = c.store_lanes-next-then-none-2.ensures in let e4 = c.store_lanes.ensures in
+    let clean = clean-four mode n src at inside four.first four.second four.third four.fourth four.clear c.if-clear.true in
+    let e1 = c.store_lanes-next.ensures in let e2 = c.store_lanes-next-then-clear.ensures in let e3 = c.store_lanes-next-then-clear-2.ensures in let e4 = c.store_lanes.ensures in
     let p1 = e1.places.0 in let p2 = e2.places.0 in let p3 = e3.places.0 in let p4 = e4.places.0 in
     let s1 = stored-on inside clean e1.stored p1 e1.places.1 (omega arith) (omega (arith, p1)) in
     let s2 = stored-on inside clean e2.stored p2 e2.places.1 (omega (arith, p1)) (omega (arith, p1, p2)) in
@@ -59,24 +60,24 @@ module _ {N vectors : ℕ} {mode : Mode} {src : List ℕ} {at to : ℕ} {old mid
 pub vector_from-next-requires : goal.vector_from-next-requires
 vector_from-next-requires g c =
     let n : ℕ = g.row.N in let i = c.requires.inside in
-    (omega arith, (c.classify_four-first.ensures.first, passed-to (mode_numbered g.row.MODE) c.args.src.now c.args.at, record { inside = omega (arith, i); room = room-near (c.args.at + 1 * n) n (omega arith) (omega (arith, i)) (omega arith) c.requires.room }))
+    (omega arith, (omega arith, (c.classify_four-v1.ensures.first.told, passed-to (mode_numbered g.row.MODE) c.args.src.now c.args.at, record { inside = omega (arith, i); room = room-near (c.args.at + 1 * n) n (omega arith) (omega (arith, i)) (omega arith) c.requires.room })))
 
 pub vector_from-next-requires-2 : goal.vector_from-next-requires-2
 vector_from-next-requires-2 g c =
     let n : ℕ = g.row.N in let e = c.vector_from-next.ensures in
-    (omega arith, (c.classify_four-first.ensures.second, e.passed, next-vector c.requires (c.args.at + n) (omega (arith, c.requires.inside)) (omega arith) e))
+    (omega arith, (omega arith, (c.classify_four-v1.ensures.second.told, e.passed, next-vector c.requires (c.args.at + n) (omega (arith, c.requires.inside)) (omega arith) e)))
 
 pub vector_from-next-requires-3 : goal.vector_from-next-requires-3
 vector_from-next-requires-3 g c =
     let n : ℕ = g.row.N in let e = c.vector_from-next-2.ensures in
-    (omega arith, (c.classify_four-first.ensures.third, subst (λ border. Passed (mode_numbered g.row.MODE) c.args.src.now border c.vector_from-next-2.result.0) (omega arith) e.passed, next-vector c.requires (c.args.at + 2 * n) (omega (arith, c.requires.inside)) (omega arith) (escapes-onward c.vector_from-next.ensures e)))
+    (omega arith, (omega arith, (c.classify_four-v1.ensures.third.told, subst (λ border. Passed (mode_numbered g.row.MODE) c.args.src.now border c.vector_from-next-2.result.0) (omega arith) e.passed, next-vector c.requires (c.args.at + 2 * n) (omega (arith, c.requires.inside)) (omega arith) (escapes-onward c.vector_from-next.ensures e))))
 
 pub vector_from-requires : goal.vector_from-requires
 vector_from-requires g c =
     let n : ℕ = g.row.N in let e = c.vector_from-next-3.ensures in
-    (omega arith, (c.classify_four-first.ensures.fourth, subst (λ border. Passed (mode_numbered g.row.MODE) c.args.src.now border c.vector_from-next-3.result.0) (omega arith) e.passed, next-vector c.requires (c.args.at + 3 * n) (omega (arith, c.requires.inside)) (omega arith) (escapes-onward (escapes-onward c.vector_from-next.ensures c.vector_from-next-2.ensures) e)))
+    (omega arith, (omega arith, (c.classify_four-v1.ensures.fourth.told, subst (λ border. Passed (mode_numbered g.row.MODE) c.args.src.now border c.vector_from-next-3.result.0) (omega arith) e.passed, next-vector c.requires (c.args.at + 3 * n) (omega (arith, c.requires.inside)) (omega arith) (escapes-onward (escapes-onward c.vector_from-next.ensures c.vector_from-next-2.ensures) e))))
 
 pub returns : goal.returns
 returns g c =
     let all = escapes-onward (escapes-onward (escapes-onward c.vector_from-next.ensures c.vector_from-next-2.ensures) c.vector_from-next-3.ensures) c.vector_from.ensures in
-    escapes-asked c.args.ticks.now 4 (omega (arith, c.classify_four-first.ensures.ticks)) (escapes-bordered (omega arith) all)
+    escapes-asked c.args.ticks.now 4 (omega (arith, c.classify_four-v1.ensures.ticks)) (escapes-bordered (omega arith) all)

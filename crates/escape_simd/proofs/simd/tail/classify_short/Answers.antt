@@ -1,13 +1,17 @@
-use Rattle.escape_simd.proofs.Words.{◌++◌, false, replicate, ◌-◌, ◌∙◌, ap, bits_of, mode_numbered}
-use Rattle.escape_simd.proofs.Last.{last-mask, last-short, loaded-short}
+use Rattle.escape_simd.proofs.Words.{◌≡◌, ◌-◌, ◌∙◌, ℕ, List, length, take, drop, replicate, ap, sym, arith, take-append_seam, whole_mask}
+use Rattle.escape_simd.proofs.Last.{loaded-short}
 use Rattle.escape_simd.proofs.simd.tail.classify_short.Goals as goal
+
+pub classify_front-last-requires : goal.classify_front-last-requires
+classify_front-last-requires g c =
+    let text : List ℕ = c.args.text.now in
+    let loaded = loaded-short text (g.V.LoadStore.lanes c.load_last-v.result) g.row.N g.V.LoadStore.LANES g.met.V.Vector.lane_count c.load_last-v.ensures in
+    (omega arith, (omega (arith, c.requires), ap (take (length text)) loaded ∙ take-append_seam text (replicate (g.row.N - length text) 0)))
 
 pub returns-clause-loaded : goal.returns-clause-loaded
 returns-clause-loaded g c = loaded-short c.args.text.now (g.V.LoadStore.lanes c.load_last-v.result) g.row.N g.V.LoadStore.LANES g.met.V.Vector.lane_count c.load_last-v.ensures
 
-pub returns-clause-flagged : goal.returns-clause-flagged
-returns-clause-flagged g c =
-    let t = g.V.Flags.Flags.truths c.classify_loaded-flags.result.0 in
-    let held = last-mask (mode_numbered g.row.MODE) g.row.N c.args.text.now (g.V.LoadStore.lanes c.load_last-v.result) t (bits_of 64 c.bits.result) (bits_of 64 c.clear_high_bits-last.result) g.met.V.Vector.most c.requires
-    (g.met.V.LoadStore.width c.load_last-v.result ∙ g.met.V.Vector.lane_count) (loaded-short c.args.text.now (g.V.LoadStore.lanes c.load_last-v.result) g.row.N g.V.LoadStore.LANES g.met.V.Vector.lane_count c.load_last-v.ensures) c.classify_loaded-flags.ensures.flagged (c.bits.ensures ∙ ap (λ m. t ++ replicate (64 - m) false) g.met.V.Vector.flag_count) c.clear_high_bits-last.ensures in
-    last-short c.requires held c.classify_loaded-flags.ensures.asked
+pub returns-clause-masks : goal.returns-clause-masks
+returns-clause-masks g c =
+    let start : length c.args.text.now - g.row.N ≡ 0 = omega (arith, c.requires) in
+    record { few = omega (arith, c.requires); front = λ some. absurd (omega (arith, some, c.requires)); back = c.classify_front-last.ensures.told ∙ ap (λ k. whole_mask (drop k c.args.text.now)) (sym start) }

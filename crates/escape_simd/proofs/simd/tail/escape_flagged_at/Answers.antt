@@ -4,7 +4,7 @@ use Rattle.escape_simd.proofs.simd.tail.escape_flagged_at.Goals as goal
 
 pub escape_flagged_tail-requires : goal.escape_flagged_tail-requires
 escape_flagged_tail-requires g c =
-    (omega arith, (c.requires.flagged, subst (λ (xs : List ℕ). HasRoom (mode_numbered g.row.MODE) (reach true g.row.N) c.args.text.now 0 (length c.args.text.now) c.args.to (length xs)) (sym c.new-target.ensures.bytes) c.requires.room))
+    (omega arith, (omega arith, (c.requires.masks, subst (λ (xs : List ℕ). HasRoom (mode_numbered g.row.MODE) (reach true g.row.N) c.args.text.now 0 (length c.args.text.now) c.args.to (length xs)) (sym c.new-target.ensures.bytes) c.requires.room)))
 
 pub returns : goal.returns
 returns g c =

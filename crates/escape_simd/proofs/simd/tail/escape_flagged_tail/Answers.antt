@@ -1,30 +1,33 @@
-use Rattle.escape_simd.proofs.Words.{min, ◌≡◌, ◌+◌, ◌-◌, ◌*◌, ◌∙◌, true, ℕ, List, length, drop, take, ap, refl, sym, subst, arith, asked_of, bits_of, bytes_of, mode_numbered, HoldsFlags, IsWithin, reach}
-use Rattle.escape_simd.proofs.Lanes.{held-shifted}
-use Rattle.escape_simd.proofs.Last.{last-all, last-vector, tail-rows, within-tail}
+use Rattle.escape_simd.proofs.Words.{min, ◌≡◌, ◌+◌, ◌-◌, ◌*◌, ◌∙◌, true, ℕ, List, length, length-drop, drop, take, ap, refl, arith, bytes_of, drop-drop, mode_numbered, reach, whole_mask}
+use Rattle.escape_simd.proofs.Last.{last-all, last-told, last-vector, tail-rows}
 use Rattle.escape_simd.proofs.Stretches.{room-on}
 use Rattle.escape_simd.proofs.Vectors.{escapes-onward}
 use Rattle.escape_simd.proofs.simd.tail.escape_flagged_tail.Goals as goal
 
+pub skip-mask-requires : goal.skip-mask-requires
+skip-mask-requires g c =
+    let e = c.escape_before_last-skipped.ensures in let text : List ℕ = c.args.text.now in let back = c.requires.0.back in
+    (omega arith, (ap (λ m. m.from) back, omega (arith, e.passed.near), omega (arith, ap (λ m. length m.bytes) back, length-drop (length text - g.row.N) text, e.stretch.inside)))
+
 pub escape_by_mask-requires : goal.escape_by_mask-requires
 escape_by_mask-requires g c =
-    let mode = mode_numbered g.row.MODE in let text : List ℕ = c.args.text.now in let n : ℕ = g.row.N in let passed : ℕ = c.escape_before_last-passed.result.0 in let rows : List ℕ = c.as_flattened.result.now in
-    let e = c.escape_before_last-passed.ensures in let inside = e.stretch.inside in let few = c.requires.0.few in
-    let border : ℕ = length text - n in let next : ℕ = border + passed in let k : ℕ = 2 * n - min (length text) n in let count : ℕ = c.min.result - passed in
-    let is : c.min.result ≡ min (length text) n = c.min.ensures in let left : count ≡ length text - next = omega (arith, is, inside) in
-    let held = held-shifted mode text border (min (length text) n) border (bits_of 64 c.args.flags.last) c.requires.0.back passed (omega (arith, inside)) (omega arith) in
-    let shown = tail-rows text rows border passed next k (c.as_flattened.ensures.value ∙ c.spill_last-rows.ensures) refl inside in
-    let within = subst (λ m. IsWithin (take m (take (length rows - passed) (drop passed rows))) (asked_of c.args.flags.last_classified)) (sym left) (within-tail text (take (length rows - passed) (drop passed rows)) _ border next k shown c.requires.0.back_asked (omega arith) inside) in
-    let whole = subst (λ v. HoldsFlags mode text next v next (bits_of 64 c.shift_lanes-left.result)) (ap (λ m. m - passed) (sym is)) (subst (λ bs. HoldsFlags mode text next (min (length text) n - passed) next bs) (sym c.shift_lanes-left.ensures) held) in
-    let vector = last-vector mode (reach true n) n text (take (length rows - passed) (drop passed rows)) next count k c.escape_before_last-passed.result.1 inside left shown (length (bytes_of c.escape_before_last-passed.new.target)) (bits_of 64 c.shift_lanes-left.result) (omega (arith, is)) (omega arith) whole (room-on e.stretch c.requires.1) in
-    (omega arith, (within, vector))
+    let mode = mode_numbered g.row.MODE in let text : List ℕ = c.args.text.now in let n : ℕ = g.row.N in let skipped : ℕ = c.escape_before_last-skipped.result.0 in let rows : List ℕ = c.as_flattened.result.now in
+    let e = c.escape_before_last-skipped.ensures in let inside = e.stretch.inside in let end : ℕ = c.escape_before_last-skipped.result.1 in
+    let border : ℕ = length text - n in let next : ℕ = border + skipped in let k : ℕ = 2 * n - min (length text) n in let left : ℕ = c.min.result - skipped in
+    let all : left ≡ length text - next = omega (arith, c.min.ensures, inside) in
+    let held : List ℕ = take (length rows - skipped) (drop skipped rows) in
+    let shown = tail-rows text rows border skipped next k (c.as_flattened.ensures.value ∙ c.spill_last-rows.ensures) refl inside in
+    let told = c.skip-mask.ensures ∙ ap (λ m. whole_mask (drop skipped m.bytes)) c.requires.0.back ∙ ap whole_mask (drop-drop skipped border text) in
+    let vector = last-vector mode (reach true n) n text held next left k end inside all shown (length (bytes_of c.escape_before_last-skipped.new.target)) (omega (arith, c.min.ensures)) (omega arith) (room-on e.stretch c.requires.1) in
+    (omega arith, (omega arith, (last-told mode (reach true n) n text held next left k end inside all shown told, vector)))
 
 pub returns : goal.returns
 returns g c =
-    let mode = mode_numbered g.row.MODE in let text : List ℕ = c.args.text.now in let n : ℕ = g.row.N in let passed : ℕ = c.escape_before_last-passed.result.0 in let rows : List ℕ = c.as_flattened.result.now in
-    let e = c.escape_before_last-passed.ensures in let inside = e.stretch.inside in
-    let border : ℕ = length text - n in let next : ℕ = border + passed in let k : ℕ = 2 * n - min (length text) n in
-    let left : c.min.result - passed ≡ length text - next = omega (arith, c.min.ensures, inside) in
+    let mode = mode_numbered g.row.MODE in let text : List ℕ = c.args.text.now in let n : ℕ = g.row.N in let skipped : ℕ = c.escape_before_last-skipped.result.0 in let rows : List ℕ = c.as_flattened.result.now in
+    let e = c.escape_before_last-skipped.ensures in let inside = e.stretch.inside in
+    let border : ℕ = length text - n in let next : ℕ = border + skipped in let k : ℕ = 2 * n - min (length text) n in
+    let left : c.min.result - skipped ≡ length text - next = omega (arith, c.min.ensures, inside) in
     escapes-onward e
-    (last-all mode (reach true n) n text (take (length rows - passed) (drop passed rows)) next (c.min.result - passed) k c.escape_before_last-passed.result.1 inside left
-    (tail-rows text rows border passed next k (c.as_flattened.ensures.value ∙ c.spill_last-rows.ensures) refl inside)
-    c.escape_before_last-passed.new.target c.escape_by_mask.new.target c.escape_by_mask.result.0 c.escape_by_mask.result.1 c.escape_before_last-passed.new.ticks c.escape_by_mask.new.ticks c.escape_by_mask.ensures)
+    (last-all mode (reach true n) n text (take (length rows - skipped) (drop skipped rows)) next (c.min.result - skipped) k c.escape_before_last-skipped.result.1 inside left
+    (tail-rows text rows border skipped next k (c.as_flattened.ensures.value ∙ c.spill_last-rows.ensures) refl inside)
+    c.escape_before_last-skipped.new.target c.escape_by_mask.new.target c.escape_by_mask.result.0 c.escape_by_mask.result.1 c.escape_before_last-skipped.new.ticks c.escape_by_mask.new.ticks c.escape_by_mask.ensures)

@@ -1,6 +1,5 @@
-use Rattle.escape_simd.proofs.Words.{◌≡◌, ℕ, List, true, ◌+◌, ◌-◌, ◌∙◌, length, take, length-drop, drop, replicate, ap, sym, subst, arith, mode_numbered, take-append_seam, take_all, take-take, Escapes, reach, state}
+use Rattle.escape_simd.proofs.Words.{◌≡◌, ℕ, List, true, ◌+◌, ◌-◌, ◌∙◌, and_parts, length, take, length-drop, drop, replicate, ap, sym, subst, arith, is_clear, mode_numbered, take-append_seam, take_all, take-take, told_by, Escapes, reach, state}
 use Rattle.escape_simd.proofs.Last.{one-begun, tail-clean_back, tail-clean_front, two-begun, two-clean}
-use Rattle.escape_simd.proofs.Lanes.{within-all}
 use Rattle.escape_simd.proofs.Stretches.{room-least}
 use Rattle.escape_simd.proofs.Vectors.{escapes-asked, escapes-ended, vector-clean}
 use Rattle.escape_simd.proofs.simd.tail.store_clean_tail.Goals as goal
@@ -10,23 +9,24 @@ store_lanes-requires g c =
     let text : List ℕ = c.args.text.now in let count : ℕ = length text in let v = c.classify_short-v.ensures in let least = room-least (omega arith) (omega arith) c.requires.1 in
     let start : count - g.row.N ≡ 0 = omega (arith, c.if-count.true) in let all : take count text ≡ text = take_all count text (omega arith) in
     let loaded = ap (take count) v.loaded ∙ take-append_seam text (replicate (g.row.N - count) 0) ∙ sym all in
-    (omega arith, (g.met.V.Vector.lane_count, omega (arith, c.if-count.true), omega arith, loaded, within-all (take count text) _ (v.flagged.back_asked ∙ ap (λ k. drop k text) start ∙ sym all), omega (arith, least)))
+    (omega arith, (omega arith, (g.met.V.Vector.lane_count, omega (arith, c.if-count.true), omega arith, loaded, ap told_by v.masks.back ∙ ap (λ k. drop k text) start ∙ sym all, omega (arith, least))))
 
 pub store_lanes-requires-2 : goal.store_lanes-requires-2
 store_lanes-requires-2 g c =
     let n : ℕ = g.row.N in let p = c.classify_pair-v1.ensures in let some = c.if-count.false in let least = room-least (omega arith) (omega arith) c.requires.1 in
-    (omega arith, (g.met.V.Vector.lane_count, omega arith, omega (arith, some), ap (take n) p.first ∙ take-take n n c.args.text.now (omega arith), within-all _ _ (p.flagged.front_asked some), omega (arith, least, some)))
+    (omega arith, (omega arith, (g.met.V.Vector.lane_count, omega arith, omega (arith, some), ap (take n) p.first ∙ take-take n n c.args.text.now (omega arith), ap told_by (p.masks.front some), omega (arith, least, some))))
 
 pub store_lanes-requires-3 : goal.store_lanes-requires-3
 store_lanes-requires-3 g c =
     let n : ℕ = g.row.N in let text : List ℕ = c.args.text.now in let p = c.classify_pair-v1.ensures in let some = c.if-count.false in let least = room-least (omega arith) (omega arith) c.requires.1 in
     let all = take_all n (drop (length text - n) text) (omega (arith, length-drop (length text - n) text)) in
-    (omega arith, (g.met.V.Vector.lane_count, omega arith, omega (arith, some), ap (take n) p.last ∙ take-take n n (drop (length text - n) text) (omega arith), within-all _ _ (p.flagged.back_asked ∙ sym all), omega (arith, least, some, c.store_lanes-2.ensures.stored.same_slice.len)))
+    (omega arith, (omega arith, (g.met.V.Vector.lane_count, omega arith, omega (arith, some), ap (take n) p.last, ap told_by p.masks.back ∙ sym all, omega (arith, least, some, c.store_lanes-2.ensures.stored.same_slice.len))))
 
 pub returns-then-count-clause-clean : goal.returns-then-count-clause-clean
 returns-then-count-clause-clean g c =
     let mode = mode_numbered g.row.MODE in let n : ℕ = g.row.N in let text : List ℕ = c.args.text.now in
-    let clean = tail-clean_back c.classify_short-v.ensures.flagged (c.none.ensures c.if-not-none.false).1 in
+    let clear = (and_parts (is_clear mode c.classify_short-v.result.1.first) (is_clear mode c.classify_short-v.result.1.last) (sym c.are_clear.ensures ∙ c.if-not-are_clear.false)).1 in
+    let clean = tail-clean_back mode c.classify_short-v.ensures.masks clear in
     let e = vector-clean mode (reach true n) text c.args.target.now c.store_lanes.new.target 0 (length text) c.args.to c.classify_short-v.new.ticks (omega arith) (λ p late early. clean p (omega (arith, c.if-count.true)) (omega (arith, early))) c.store_lanes.ensures.stored in
     subst (λ v. Escapes mode (reach true n) (length text) v 0 text (state c.args.target.now 0 c.args.to c.args.ticks.now) (state c.store_lanes.new.target (length text) (c.args.to + length text) c.classify_short-v.new.ticks)) (one-begun n (length text) c.if-count.true)
     (escapes-asked c.args.ticks.now 1 c.classify_short-v.ensures.tick (escapes-ended (omega arith) (omega arith) (omega arith) e))
@@ -34,7 +34,8 @@ returns-then-count-clause-clean g c =
 pub returns-clause-clean : goal.returns-clause-clean
 returns-clause-clean g c =
     let mode = mode_numbered g.row.MODE in let n : ℕ = g.row.N in let text : List ℕ = c.args.text.now in let t = c.classify_pair-v1.new.ticks in
-    let some = c.if-count.false in let flags = c.classify_pair-v1.ensures.flagged in let none = c.none-2.ensures c.if-not-none-2.false in
-    let e = two-clean some c.requires.0 (tail-clean_front flags some none.0) (tail-clean_back flags none.1) c.store_lanes-2.ensures.stored c.store_lanes-3.ensures.stored in
+    let some = c.if-count.false in let masks = c.classify_pair-v1.ensures.masks in
+    let clear = and_parts (is_clear mode c.classify_pair-v1.result.2.first) (is_clear mode c.classify_pair-v1.result.2.last) (sym c.are_clear-2.ensures ∙ c.if-not-are_clear-2.false) in
+    let e = two-clean some c.requires.0 (tail-clean_front mode masks some clear.0) (tail-clean_back mode masks clear.1) c.store_lanes-2.ensures.stored c.store_lanes-3.ensures.stored in
     subst (λ v. Escapes mode (reach true n) (length text) v 0 text (state c.args.target.now 0 c.args.to c.args.ticks.now) (state c.store_lanes-3.new.target (length text) (c.args.to + length text) t)) (two-begun n (length text) some c.requires.0)
     (escapes-asked c.args.ticks.now 2 c.classify_pair-v1.ensures.ticks e)

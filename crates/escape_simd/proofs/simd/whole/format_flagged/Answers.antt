@@ -8,9 +8,12 @@ escape_flagged_tail-close-requires g c =
     let mode = mode_numbered g.row.MODE in let text : List ℕ = c.args.text.now in let o = c.quote-open.ensures in (
       omega arith,
       (
-        c.requires.flagged,
-        room-six mode (reach true g.row.N) text 0 (length text) c.quote-open.result (length (bytes_of c.quote-open.new.target)) (omega arith) (omega arith)
-            (omega (arith, bound-quotes mode (length text), quote-short mode, o.quoted.ends, o.same_slice.len, ap length c.new-target.ensures.bytes, c.requires.room)),
+        omega arith,
+        (
+          c.requires.masks,
+          room-six mode (reach true g.row.N) text 0 (length text) c.quote-open.result (length (bytes_of c.quote-open.new.target)) (omega arith) (omega arith)
+              (omega (arith, bound-quotes mode (length text), quote-short mode, o.quoted.ends, o.same_slice.len, ap length c.new-target.ensures.bytes, c.requires.room)),
+        ),
       ),
     )
 

@@ -8,9 +8,12 @@ store_clean_tail-requires g c =
     let mode = mode_numbered g.row.MODE in let text : List ℕ = c.as_bytes-text.result.now in let o = c.quote-open.ensures in let same = ap length c.as_bytes-text.ensures.value in (
       omega arith,
       (
-        omega (arith, same, c.if-value.true),
-        room-six mode (reach true g.row.N) text 0 (length text) c.quote-open.result (length (bytes_of c.quote-open.new.target)) (omega arith) (omega arith)
-            (omega (arith, bound-quotes mode (length c.args.value.now), quote-short mode, same, o.quoted.ends, o.same_slice.len, ap length c.new-target.ensures.bytes, c.requires)),
+        omega arith,
+        (
+          omega (arith, same, c.if-value.true),
+          room-six mode (reach true g.row.N) text 0 (length text) c.quote-open.result (length (bytes_of c.quote-open.new.target)) (omega arith) (omega arith)
+              (omega (arith, bound-quotes mode (length c.args.value.now), quote-short mode, same, o.quoted.ends, o.same_slice.len, ap length c.new-target.ensures.bytes, c.requires)),
+        ),
       ),
     )
 

@@ -8,8 +8,8 @@ pub invariant_of-result : goal.invariant_of-result
 invariant_of-result g c =
     let mode = mode_numbered g.row.MODE in let bytes : List ℕ = c.self.inside.of.bytes in
     let few = mask-few mode bytes c.self.inside.of.from c.self.inside.bits c.self.invariant in
-    let whole : c.self.inside.of.from ≡ 0 = ap (λ m. m.from) c.self.view_is ∙ c.requires.whole in
-    rw (c.shift_lanes.ensures, c.part.ensures.0, c.part.ensures.1) (mask-skipped mode bytes c.args.count c.self.inside.bits (rw (sym c.self.view_is) at c.requires.inside) few (rw whole at c.self.invariant))
+    let whole : c.self.inside.of.from ≡ 0 = ap (λ m. m.from) c.self.view_is ∙ c.requires.0 in
+    rw (c.shift_lanes.ensures, c.part.ensures.0, c.part.ensures.1) (mask-skipped mode bytes c.args.count c.self.inside.bits (rw (sym c.self.view_is) at c.requires.2) few (rw whole at c.self.invariant))
 
 pub returns : goal.returns
 returns g c =

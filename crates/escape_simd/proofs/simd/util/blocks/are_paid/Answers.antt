@@ -16,21 +16,21 @@ first-lt : (f : ℕ) → none_set (bits_of 64 f) ≡ false → first_set (bits_o
 first-lt f some = let here = first_set-here (bits_of 64 f) some in let l = length-bits_of 64 f in grind (arith, get_or_past, here, l)
 
 pub overflow_mul-result-then-blocks-escapes : goal.overflow_mul-result-then-blocks-escapes
-overflow_mul-result-then-blocks-escapes c = record { fits = omega (arith, few-counted c.args.flags c.args.valid c.count_flagged-escapes.result c.count_gaps.result c.requires.few c.count_flagged-escapes.ensures c.count_gaps.ensures) }
+overflow_mul-result-then-blocks-escapes c = record { fits = omega (arith, few-counted c.args.bits c.args.valid c.count_flagged-escapes.result c.count_gaps.result c.requires.few c.count_flagged-escapes.ensures c.count_gaps.ensures) }
 
 pub overflow_add-result : goal.overflow_add-result
-overflow_add-result c = record { fits = omega (arith, few-counted c.args.flags c.args.valid c.count_flagged-escapes.result c.count_gaps.result c.requires.few c.count_flagged-escapes.ensures c.count_gaps.ensures) }
+overflow_add-result c = record { fits = omega (arith, few-counted c.args.bits c.args.valid c.count_flagged-escapes.result c.count_gaps.result c.requires.few c.count_flagged-escapes.ensures c.count_gaps.ensures) }
 
 pub overflow_add-result-then-blocks-escapes : goal.overflow_add-result-then-blocks-escapes
-overflow_add-result-then-blocks-escapes c = record { fits = omega (arith, few-counted c.args.flags c.args.valid c.count_flagged-escapes.result c.count_gaps.result c.requires.few c.count_flagged-escapes.ensures c.count_gaps.ensures) }
+overflow_add-result-then-blocks-escapes c = record { fits = omega (arith, few-counted c.args.bits c.args.valid c.count_flagged-escapes.result c.count_gaps.result c.requires.few c.count_flagged-escapes.ensures c.count_gaps.ensures) }
 
 pub returns-then-blocks-le2 : goal.returns-then-blocks-le2
 returns-then-blocks-le2 c =
-    let bits = bits_of 64 c.args.flags in
-    let some = blocks-some 8 (first_set bits) bits (first-lt c.args.flags c.requires.some) (first_set-here bits c.requires.some) in
+    let bits = bits_of 64 c.args.bits in
+    let some = blocks-some 8 (first_set bits) bits (first-lt c.args.bits c.requires.some) (first_set-here bits c.requires.some) in
     λ paid. omega (arith, c.if-blocks-le2.true, some)
 
 pub returns-then-blocks-escapes : goal.returns-then-blocks-escapes
 returns-then-blocks-escapes c =
-    let most = flags-most 8 (bits_of 64 c.args.flags) (omega (arith, length-bits_of 64 c.args.flags)) in
+    let most = flags-most 8 (bits_of 64 c.args.bits) (omega (arith, length-bits_of 64 c.args.bits)) in
     λ paid. let ends = c.count_gaps.ensures in let escapes = c.count_flagged-escapes.ensures in grind (arith, nat_tests, paid, most, ends, escapes)

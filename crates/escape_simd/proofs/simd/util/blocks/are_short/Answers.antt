@@ -11,4 +11,4 @@ pub returns-then-has_short_escapes : goal.returns-then-has_short_escapes
 returns-then-has_short_escapes g c = λ short k h set needed.
     let here : c.args.at + g.row.N - c.args.at ≡ g.row.N = omega arith in
     let told = rw here at c.has_long.ensures in
-    short-lanes (mode_numbered g.row.MODE) g.row.N c.args.src.now c.args.at (bits_of 64 c.args.flags) c.requires.inside (omega (arith, c.requires.most, length-bits_of 64 c.args.flags)) (twice c.has_long.result _ told short) k h set needed
+    short-lanes (mode_numbered g.row.MODE) g.row.N c.args.src.now c.args.at (bits_of 64 c.args.bits) c.requires.inside (omega (arith, c.requires.most, length-bits_of 64 c.args.bits)) (twice c.has_long.result _ told short) k h set needed

@@ -1,10 +1,11 @@
-use Rattle.escape_simd.proofs.Words.{◌*◌, ◌-◌, ◌<◌, asked_of, bits_of, mode_numbered}
+use Rattle.escape_simd.proofs.Words.{◌≡◌, ◌*◌, ◌-◌, ◌<◌, drop, lanes_of_mask, mode_numbered, whole_mask}
 use Rattle.escape_simd.proofs.Pasted.{BlocksSoFar}
 use Rattle.escape_simd.proofs.simd.util.blocks.escape_blocks.Given as goal
 
 abbrev pub invariant-blocks-2 : goal.invariant-blocks-2
 invariant-blocks-2 g l = record {
-  so_far : BlocksSoFar (mode_numbered g.row.MODE) l.src (bits_of 64 l.mask) l.fn.target l.target l.at l.valid l.to l.end l.block (asked_of l.own) l.used l.fn.ticks l.ticks;
+  so_far : BlocksSoFar (mode_numbered g.row.MODE) l.src (lanes_of_mask (mode_numbered g.row.MODE) l.fn.mask) l.fn.target l.target l.at l.valid l.to l.end l.block l.unused l.fn.ticks l.ticks;
+  left : l.mask ≡ whole_mask (drop (8 * l.block) l.fn.mask.bytes);
   more : 8 * l.block < l.valid;
 }
 

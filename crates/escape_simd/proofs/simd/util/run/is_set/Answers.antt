@@ -18,4 +18,4 @@ moved-down lane bs down below is =
     rw (is, f, s, there) refl
 
 pub returns : goal.returns
-returns c = let m = moved-down c.args.lane (bits_of 64 c.args.flags) (bits_of 64 c.shift_lanes.result) (omega (arith, c.requires, length-bits_of 64 c.args.flags)) c.shift_lanes.ensures in rw c.first_offset.ensures m
+returns c = let m = moved-down c.args.lane (bits_of 64 c.args.bits) (bits_of 64 c.shift_lanes.result) (omega (arith, c.requires, length-bits_of 64 c.args.bits)) c.shift_lanes.ensures in rw c.first_offset.ensures m

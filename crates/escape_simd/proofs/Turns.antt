@@ -64,17 +64,9 @@ turns-begin {mode = mode} {slack = slack} {src = src} {old = old} {new = new} {v
     let held = mask-holds mode src 0 valid 0 mask (ap (λ m. m.bytes) is) (omega (arith, v.inside)) (omega (arith, ap (λ m. m.from) is)) in
     let first = (first-set mode src 0 valid 0 (lanes_of_mask mode mask) held some).0 in let ahead = ahead-front mode src new 0 valid to valid (omega arith) s.ahead in
     let stretch = stored_ahead mode slack src old new 0 valid to s (omega arith) in
-    let border : 0 + valid ≡ valid = omega arith in let none : valid - 0 ≡ valid = omega arith in
+    let border : 0 + valid ≡ valid = omega arith in
     let room : HasRoom mode slack src 0 valid to (length (bytes_of new)) = rw (sym s.same_slice.len) at (subst (λ k. HasRoom mode slack src 0 k to (length (bytes_of old))) border v.room) in
-    record {
-      eight = eight;
-      left = record { told = is; few = v.few; inside = omega (arith, v.inside); before = omega (arith, first); room = room };
-      some = some;
-      stretch = rw none stretch;
-      ahead = ahead;
-      stored = omega (arith, s.stored);
-      classified = omega (arith, s.stored);
-    }
+    grind (arith, is)
 
 -- what is known of the first flagged byte of those that are left
 first-left : {N : ℕ} {mode : Mode} {slack : ℕ} {src : List ℕ} {valid next to size flagged : ℕ} {mask : MaskOf} → IsLeftAt mode N slack src valid next to size mask → is_clear mode mask ≡ false → flagged ≡ first_set (lanes_of_mask mode mask)
@@ -158,15 +150,7 @@ module _ {N : ℕ} {mode : Mode} {slack : ℕ} {src : List ℕ} {old mid : Targe
           let on = onward_to (valid - after + slack) turn-stretch stored (omega arith) (omega arith) in
           let stop = runs_stop-here mode src after (omega (arith, l.before, l.inside)) stops.1 in
           let kept = done.stored in
-          record {
-            eight = so_far.eight;
-            left = record { told = l.told; few = l.few; inside = l.inside; before = l.before; room = rw (sym s.same_slice.len) at l.room };
-            some = some_left;
-            stretch = on;
-            ahead = ahead;
-            stored = omega (arith, so_far.stored, s.stored, kept, runs, stop);
-            classified = omega (arith, so_far.classified, s.stored, kept, tick);
-          }
+          grind arith
 
     -- these were passed: so was the vector
     pub turn-finished : {last : Target N} {past close ticks : ℕ} → IsFinished mode slack src valid (state new after reached ticks_new) (state last past close ticks) → Escapes mode slack valid 1 1 src (state old 0 to ticks_old) (state last past close ticks)

@@ -72,10 +72,8 @@ turns-begin {mode = mode} {slack = slack} {src = src} {old = old} {new = new} {v
 first-left : {N : ℕ} {mode : Mode} {slack : ℕ} {src : List ℕ} {valid next to size flagged : ℕ} {mask : MaskOf} → IsLeftAt mode N slack src valid next to size mask → is_clear mode mask ≡ false → flagged ≡ first_set (lanes_of_mask mode mask)
     → IsFlaggedAt mode src flagged × (next ≤ flagged) × (flagged < valid) × CleanFrom mode src next flagged
 first-left {mode = mode} {src = src} {valid = valid} {next = next} {flagged = flagged} {mask = mask} l some is =
-    let bits : List Bool = lanes_of_mask mode mask in let here : 0 + first_set bits ≡ flagged = omega (arith, is) in
-    let f = first-set mode src 0 valid next bits (left-held l) some in let later = left-later l (first_set bits) (first_set-here bits some) in
-    let clean = subst (λ k. CleanFrom mode src next k) here (held-first mode src 0 valid next bits (left-held l) some (omega arith)) in
-    (record { inside = omega (arith, is, f, l.inside); needed = subst (λ k. needs_escape mode (get_or src k 0) ≡ true) here f.1 }, omega (arith, is, later), omega (arith, is, f), clean)
+    let h = left-held l in let later = left-later l (first_set (lanes_of_mask mode mask)) (first_set-here (lanes_of_mask mode mask) some) in
+    let inside = l.inside in grind (arith, first-set, held-first)
 
 -- one turn: the first byte that is flagged is escaped
 module _ {N : ℕ} {mode : Mode} {slack : ℕ} {src : List ℕ} {old mid : Target N} {valid next to end flagged : ℕ} {mask : MaskOf} {ticks_old ticks_new : ℕ}

@@ -62,7 +62,8 @@ impl<const MODE: u8> Model for EscapeMask<MODE> {
 
     ghost view = { λ m. mask_from m.of.bytes m.of.from };
 
-    ghost invariant = { λ m. bits_of 64 m.bits ≡ lanes_of_mask (mode_numbered MODE) (mask_from m.of.bytes m.of.from) };
+    ghost invariant = { λ m. bits_of 64 m.bits
+        ≡ lanes_of_mask (mode_numbered MODE) (mask_from m.of.bytes m.of.from) };
 }
 
 impl<const MODE: u8> EscapeMask<MODE> {
@@ -105,7 +106,8 @@ impl<const MODE: u8> EscapeMask<MODE> {
     #[inline(always)]
     pub fn clear_first(&mut self)
         requires { is_clear (mode_numbered MODE) self.old ≡ false }
-        ensures { self.new ≡ mask_from self.old.bytes (first_set (lanes_of_mask (mode_numbered MODE) self.old) + 1) }
+        ensures { self.new
+            ≡ mask_from self.old.bytes (first_set (lanes_of_mask (mode_numbered MODE) self.old) + 1) }
     {
         let next = self.first_offset() + 1;
         *self = EscapeMask {
@@ -121,7 +123,8 @@ impl<const MODE: u8> EscapeMask<MODE> {
             × (from < length self.bytes)
             × (from ≤ first_set (lanes_of_mask (mode_numbered MODE) self)) }
         ensures told { result ≡ mask_from self.entry.bytes from }
-        ensures lanes { lanes_of_mask (mode_numbered MODE) result ≡ lanes_of_mask (mode_numbered MODE) self.entry }
+        ensures lanes { lanes_of_mask (mode_numbered MODE) result
+            ≡ lanes_of_mask (mode_numbered MODE) self.entry }
         ensures tick { ticks.new ≡ ticks.old + 1 }
     {
         ticks.tick();

@@ -26,7 +26,8 @@ impl<const MODE: u8> TailMasks<MODE> {
     /// Returns whether no byte is flagged.
     #[inline(always)]
     pub(crate) fn are_clear(&self) -> bool
-        ensures { result ≡ is_clear (mode_numbered MODE) self.now.first && is_clear (mode_numbered MODE) self.now.last }
+        ensures { result
+            ≡ is_clear (mode_numbered MODE) self.now.first && is_clear (mode_numbered MODE) self.now.last }
     {
         // One test, not two: which of the vectors has flags is hard to predict.
         self.first.is_clear() & self.last.is_clear()

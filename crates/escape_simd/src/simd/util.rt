@@ -51,7 +51,8 @@ pub(crate) fn escape_run<F: RunEnd<MODE>, const MODE: u8, const N: usize>(
     target: &mut Target<'_, N>,
     to: usize,
 ) -> (usize, usize)
-    requires { F.goes run.old src.now stop at × HasRunRoom (mode_numbered MODE) src.now at stop to (length (bytes_of target.old)) }
+    requires { F.goes run.old src.now stop at
+        × HasRunRoom (mode_numbered MODE) src.now at stop to (length (bytes_of target.old)) }
     ensures escaped { EscapedRun (mode_numbered MODE) src.now target.old target.new at result.0 to result.1 }
     ensures some { at < result.0 }
     ensures ended { F.ends run.new src.now stop result.0 }

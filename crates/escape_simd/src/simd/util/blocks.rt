@@ -82,7 +82,8 @@ fn put_block<const MODE: u8, const N: usize>(
     requires { (length block ≡ 16)
         × (take 8 block ≡ take 8 (map shortened (take 16 (drop _at _src.now))))
         × (mask.now ≡ whole_mask (take (length mask.now.bytes) (drop _at _src.now)))
-        × HasBlocks (mode_numbered MODE) _src.now _at (length mask.now.bytes) to (length (bytes_of target.old)) }
+        × HasBlocks (mode_numbered MODE)
+        _src.now _at (length mask.now.bytes) to (length (bytes_of target.old)) }
     ensures { IsBlockAt (mode_numbered MODE) mask.now _src.now target.old target.new _at to result }
 {
     target.escape_block(to, block, eight_lanes(mask.bits(), 0))
@@ -107,7 +108,8 @@ pub(crate) fn escape_blocks<const MODE: u8, const N: usize>(
         × (N ≤ 64)
         × (at + N ≤ length src.now)
         × HasBlocks (mode_numbered MODE) src.now at valid to (length (bytes_of target.old)) }
-    ensures stretch { Stretch (mode_numbered MODE) 16 src.now target.old target.new at (at + valid) to result }
+    ensures stretch { Stretch (mode_numbered MODE) 16
+        src.now target.old target.new at (at + valid) to result }
     ensures stored { stored_of target.new + flagged_blocks 8 (lanes_of_mask (mode_numbered MODE) mask.entry)
         ≡ stored_of target.old + (valid + 7) / 8 }
     ensures ticks { ticks.new ≡ ticks.old

@@ -28,7 +28,8 @@ pub(crate) trait RunEnd<const MODE: u8>: Drop {
         ensures ends { result ≡ false → ends self.new src.now stop next };
 
     // Where it goes on, a byte needs an escape.
-    ghost flagged: { (f : Self) (src : List ℕ) (stop at : ℕ) → goes f src stop at → IsFlaggedAt (mode_numbered MODE) src at × (at < stop) × (stop ≤ length src) };
+    ghost flagged: { (f : Self) (src : List ℕ) (stop at : ℕ) → goes f src stop at
+        → IsFlaggedAt (mode_numbered MODE) src at × (at < stop) × (stop ≤ length src) };
 }
 
 /// Returns whether the lane is set. `lane` is below 64.

@@ -1,5 +1,5 @@
 -- What one escape writes, and how far a run of escapes goes.
-use Rattle.escape_simd.proofs.Words.{◌≡◌, ◌≢◌, ℕ, ◌+◌, ◌-◌, ◌<◌, ◌≤◌, true, false, ◌&&◌, ◌||◌, ◌==◌, List, length, length-append, take, drop, replicate, get_or, refl, ap, arith, nat_tests, take-append_seam, get_or-drop, get_or_past, length-replicate, entry_count, entry_bytes, Mode, script, needs_escape, replacement, mode_numbered, begins_separator, passed, first_replacement, IsByteWise, run_reach}
+use Rattle.escape_simd.proofs.Words.{◌≡◌, ◌≢◌, ℕ, ◌+◌, ◌-◌, ◌<◌, ◌≤◌, true, false, ◌&&◌, ◌||◌, ◌==◌, List, length, length-append, take, drop, replicate, get_or, refl, ap, arith, nat_tests, take-append_seam, get_or-drop, get_or_past, length-replicate, entry_count, entry_bytes, Mode, script, needs_escape, replacement, begins_separator, passed, first_replacement, IsByteWise, run_reach}
 use Rattle.escape_simd.proofs.ReplacementLemmas.{length-replacement}
 use Rattle.escape_simd.proofs.Texts.{passed-between}
 
@@ -53,10 +53,6 @@ module _ (mode : Mode) (b : ℕ) (needed : needs_escape mode b ≡ true) where
   -- and has eight bytes
   pub entry-long : length (entry_bytes mode b) ≡ 8
   entry-long = grind (arith, nat_tests, length-replacement, length-append {A = ℕ}, length-replicate)
-
--- the modes below the third one go byte by byte
-pub bytewise-below : (n : ℕ) → n < 2 → IsByteWise (mode_numbered n)
-bytewise-below n h bytes = grind arith
 
 -- and so do all that are not the third one
 pub bytewise-but-script : {mode : Mode} → mode ≢ script → IsByteWise mode

@@ -66,10 +66,6 @@ pub held-by : (mode : Mode) (src : List ℕ) (at valid from : ℕ) (bits : List 
 held-by mode src at valid from bits lane past = record { set = λ k s. grind (arith, lane, past); unset = λ k s after h. grind (arith, lane) }
 
 module _ (mode : Mode) (src : List ℕ) (at valid from : ℕ) (bits : List Bool) (held : HoldsFlags mode src at valid from bits) where
-  -- the lanes, told from further on
-  pub held-further : (next : ℕ) → from ≤ next → HoldsFlags mode src at valid next bits
-  held-further next h = record { set = held.set; unset = λ k s after few. held.unset k s (omega arith) few }
-
   -- bytes before a lane with none set before it are clean
   pub clean_to : at ≤ from → (f : ℕ) → f ≤ valid → ((k : ℕ) → k < f → get_or bits k false ≡ false) → CleanFrom mode src from (at + f)
   clean_to start f few none p after before = let u = held.unset (p - at) in grind (arith, none)

@@ -31,10 +31,6 @@ front-more mode src at end n front inside clean = grind (arith, clean, front.cle
 pub copied-on : (text old items new : List ℕ) (at n m : ℕ) → items ≡ old ++ take at text → m ≡ n → new ≡ items ++ take m (drop at text) → new ≡ old ++ take (at + n) text
 copied-on text old items new at n m so_far is pushed = rw is at pushed ∙ ap (λ xs. xs ++ take n (drop at text)) so_far ∙ append_assoc old (take at text) (take n (drop at text)) ∙ ap (λ xs. old ++ xs) (sym (take-add at n text))
 
--- a vector of a text from a place on
-pub vector-at : (n at : ℕ) (text : List ℕ) → take n (take (length text - at) (drop at text)) ≡ take n (drop at text)
-vector-at n at text = ap (take n) (take_all (length text - at) (drop at text) (omega (arith, length-drop at text)))
-
 -- it was appended as it is, and then what stands for the rest
 pub front-rest : (mode : Mode) (src old new more : List ℕ) (at : ℕ) → IsFront mode src 0 at → new ≡ old ++ take at src → more ≡ new ++ (inner mode (slice_range src at (length src)) ++ quote_of mode) → more ≡ old ++ (inner mode src ++ quote_of mode)
 front-rest mode src old new more at front copied appended =

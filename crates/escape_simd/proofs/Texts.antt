@@ -1,5 +1,5 @@
 -- What a text still needs from a place on: its escaping, its escapes and its runs.
-use Rattle.escape_simd.proofs.Words.{◌≡◌, ℕ, zero, suc, ◌+◌, ◌-◌, ◌<◌, ◌≤◌, Bool, true, false, not, ◌&&◌, if◌then◌else◌, cond, List, [], ◌∷◌, ◌++◌, length, length-append, drop, get_or, length-drop, ◌*◌, refl, ap, ◌∙◌, arith, inl, inr, cases_Bool, get_or_past, nat_tests, drop-drop, drop_all, sum_by-append, prefix_len-drop_yes, prefix_len-drop_no, Mode, script, needs_escape, inner, begins_separator, passed, first_replacement, script_inner_after, escaped_count, runs_after, run_count_after, run_count, script_escapes_after, script_runs_after, run_end}
+use Rattle.escape_simd.proofs.Words.{◌≡◌, ℕ, zero, suc, ◌+◌, ◌-◌, ◌<◌, ◌≤◌, Bool, true, false, not, ◌&&◌, if◌then◌else◌, cond, List, [], ◌∷◌, ◌++◌, length, length-append, drop, get_or, length-drop, ◌*◌, refl, ap, ◌∙◌, arith, inl, inr, cases_Bool, get_or_past, nat_tests, drop-drop, sum_by-append, prefix_len-drop_yes, prefix_len-drop_no, Mode, script, needs_escape, inner, begins_separator, passed, first_replacement, script_inner_after, escaped_count, runs_after, run_count_after, run_count, script_escapes_after, script_runs_after, run_end}
 use Rattle.std.proofs.lemmas.List.{drop_more}
 use Rattle.escape_simd.proofs.ReplacementLemmas.{inner-clean_byte, inner-nil, length-replacement}
 
@@ -137,10 +137,6 @@ module _ (mode : Mode) where
       -- a run ends there
       pub run_end-stop : run_end mode src i ≡ i
       run_end-stop = omega (arith, prefix_len-drop_no (needs_escape mode) src i 0 inside clean)
-
-  -- the end of a text is the end of a run
-  pub run_end-end : (src : List ℕ) (i : ℕ) → length src ≤ i → run_end mode src i ≡ i
-  run_end-end src i over = rw (drop_all i src over) (omega arith)
 
 -- How long what stands for bytes is
 

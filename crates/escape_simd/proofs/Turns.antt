@@ -1,5 +1,5 @@
 -- How far the turns of a vector have come.
-use Rattle.escape_simd.proofs.Words.{◌≡◌, ℕ, ◌+◌, ◌-◌, ◌<◌, ◌≤◌, Bool, true, false, List, length, take, drop, get_or, refl, sym, ap, subst, ◌∙◌, arith, append_assoc, take-take, take-add, length-take-le, bytes_of, first_set, none_set, MaskOf, is_clear, lanes_of_mask, mask_from, told_by, whole_mask, Mode, needs_escape, stored_of, Target, run_count, run_count_after, Stretch, CanStore, EscapedRun, Escapes, HasRunRoom, IsRunEnd, inl, HasRoom, IsFinished, IsFlaggedAt, IsRunAt, IsStored, IsVectorAt, IsVectorEnd, state, drop-take}
+use Rattle.escape_simd.proofs.Words.{◌≡◌, ℕ, ◌+◌, ◌-◌, ◌<◌, ◌≤◌, true, false, List, length, take, drop, get_or, refl, sym, ap, subst, ◌∙◌, arith, append_assoc, take-take, take-add, length-take-le, bytes_of, first_set, none_set, MaskOf, is_clear, lanes_of_mask, mask_from, told_by, whole_mask, Mode, needs_escape, stored_of, Target, run_count, run_count_after, Stretch, CanStore, EscapedRun, Escapes, HasRunRoom, IsRunEnd, inl, HasRoom, IsFinished, IsFlaggedAt, IsRunAt, IsStored, IsVectorAt, IsVectorEnd, state, drop-take}
 use Rattle.escape_simd.proofs.Escapes.{reach-few}
 use Rattle.escape_simd.proofs.Texts.{runs_after-≤, runs_stop-here}
 use Rattle.escape_simd.proofs.Stretches.{onward_to, room-least, room-near, room-on, standing, stored_ahead, stretch-on}

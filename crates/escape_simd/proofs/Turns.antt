@@ -124,10 +124,10 @@ module _ {N : ℕ} {mode : Mode} {slack : ℕ} {src : List ℕ} {old mid : Targe
     -- where it has some
     module _ (some : is_clear mode rest ≡ false) where
       -- the mask tells of the bytes from there on
-      pub turn-told : (rest.from ≤ after) × (after < length rest.bytes) × (after ≤ first_set (lanes_of_mask mode rest))
+      pub turn-told : (after < length rest.bytes) × ((rest.from ≤ after) × (after ≤ first_set (lanes_of_mask mode rest)))
       turn-told =
           let w = so_far.left in let s = over.stops some in
-          (over.from, omega (arith, s.0, ap length over.bytes, length-take-le valid src (omega (arith, w.inside))), over.cleared (first_set (lanes_of_mask mode rest)) (first_set-here (lanes_of_mask mode rest) some))
+          (omega (arith, s.0, ap length over.bytes, length-take-le valid src (omega (arith, w.inside))), (over.from, over.cleared (first_set (lanes_of_mask mode rest)) (first_set-here (lanes_of_mask mode rest) some)))
 
       -- the vector that begins there can be stored
       pub turn-stores : {left : MaskOf} → left ≡ mask_from rest.bytes after → (told_by left ≡ take (valid - after) (drop after src)) × CanStore N slack src after (valid - after) reached (length (bytes_of new))

@@ -119,9 +119,8 @@ impl<const MODE: u8> EscapeMask<MODE> {
     /// Classifies the bytes from `from` on, in front of which none is flagged, by their mask. Ticks once.
     #[inline(always)]
     pub fn rest(self, from: usize, ticks: &mut Ticks) -> Self
-        requires { (self.from ≤ from)
-            × (from < length self.bytes)
-            × (from ≤ first_set (lanes_of_mask (mode_numbered MODE) self)) }
+        requires some { from < length self.bytes }
+        requires later { (self.from ≤ from) × (from ≤ first_set (lanes_of_mask (mode_numbered MODE) self)) }
         ensures told { result ≡ mask_from self.entry.bytes from }
         ensures lanes { lanes_of_mask (mode_numbered MODE) result
             ≡ lanes_of_mask (mode_numbered MODE) self.entry }

@@ -8,7 +8,7 @@ pub rest-rest-requires : goal.rest-rest-requires
 rest-rest-requires g c =
     let before = c.if-border-from.false in
     let long = ap length c.requires.2 ∙ length-take-le c.args.border c.args.src.now (omega (arith, c.requires.5.inside)) in
-    (omega arith, (c.requires.3, omega (arith, long, before), mask-past (mode_numbered g.row.MODE) c.args.mask c.args.from c.requires.4 (omega (arith, before, c.requires.1))))
+    (omega arith, (omega (arith, long, before), (c.requires.3, mask-past (mode_numbered g.row.MODE) c.args.mask c.args.from c.requires.4 (omega (arith, before, c.requires.1)))))
 
 pub store-requires : goal.store-requires
 store-requires g c =

@@ -9,7 +9,7 @@ pub invariant_of-result : goal.invariant_of-result
 invariant_of-result g c =
     let mode = mode_numbered g.row.MODE in let bytes : List ℕ = c.self.inside.of.bytes in
     let all : take 64 bytes ≡ bytes = take_all 64 bytes (mask-few mode bytes c.self.inside.of.from c.self.inside.bits c.self.invariant) in
-    rw (c.part.ensures.0, c.part.ensures.1, all) (mask-later mode bytes c.self.inside.of.from c.self.inside.bits c.self.invariant c.args.from (rw (sym c.self.view_is) at c.requires.0) (rw (sym c.self.view_is) at c.requires.2))
+    rw (c.part.ensures.0, c.part.ensures.1, all) (mask-later mode bytes c.self.inside.of.from c.self.inside.bits c.self.invariant c.args.from (rw (sym c.self.view_is) at c.requires.later.0) (rw (sym c.self.view_is) at c.requires.later.1))
 
 pub returns-clause-told : goal.returns-clause-told
 returns-clause-told g c =

@@ -5,7 +5,6 @@ pub mod avx512;
 pub mod bits;
 mod down;
 pub mod escape_mask;
-pub mod flags;
 mod front;
 mod halves;
 pub mod lane_bits;
@@ -22,8 +21,7 @@ pub mod traits;
 pub mod v128;
 pub mod vector;
 
-pub use flags::Flags;
 pub use last::LoadLast;
 pub use mask::Mask;
 pub use traits::{BitMask, LoadStore, Simd};
-pub use vector::Vector;
+pub use vector::{Classifier, Vector};

@@ -11,16 +11,16 @@ ghost use Rattle.escape_lanes.specs.Replacement.{needs_escape};
 mod mask;
 mod script;
 
-use crate::simd::flags::Flags;
 use crate::simd::lanes;
 use crate::simd::last::{self, LoadLast};
+use crate::simd::mode::{is_quoted, is_script};
 use crate::simd::target::Ticks;
 use crate::simd::traits::{BitMask, Simd};
-use crate::simd::vector::Vector;
+use crate::simd::vector::{Classifier, Vector};
 use crate::tables::HTML_CANDIDATE_TAB;
 pub use mask::Mask256;
 use mask::bits;
-pub use script::{script_flags, script_mask};
+pub use script::script_mask;
 use std::simd::prelude::*;
 
 /// A vector of 32 bytes.
@@ -28,39 +28,6 @@ use std::simd::prelude::*;
 pub struct Simd256u {
     lanes: u8x32,
     ghost are_bytes: { AreBytes 32 lanes },
-}
-
-/// Which lanes of a [`Simd256u`] are flagged.
-#[derive(Debug, Clone, Copy)]
-pub struct Flags256 {
-    // 0x80 or more in a lane that is flagged, and less in the others.
-    lanes: u8x32,
-    ghost are_bytes: { AreBytes 32 lanes },
-}
-
-impl Flags for Flags256 {
-    ghost LANES = { 32 };
-
-    ghost truths = { λ f. flagged_lanes f.lanes };
-
-    ghost width = { λ f. length-map f.lanes (λ b. nat_le 0x80 b) ∙ f.are_bytes.full };
-
-    #[inline(always)]
-    fn join(&self, other: &Flags256) -> Flags256 {
-        Flags256 {
-            lanes: lanes::join(&self.lanes, &other.lanes),
-        }
-    }
-
-    #[inline(always)]
-    fn none(&self) -> bool {
-        lanes::none(&self.lanes)
-    }
-
-    #[inline(always)]
-    fn bits(&self) -> u64 {
-        lanes::flag_bits(&self.lanes)
-    }
 }
 
 impl Simd for Simd256u {
@@ -128,33 +95,27 @@ impl LoadLast for Simd256u {
 }
 
 impl Vector<32> for Simd256u {
-    type Flags = Flags256;
-
     const LOOKS_UP: bool = true;
 
     ghost lane_count = { refl };
-
-    ghost flag_count = { refl };
 
     ghost sixteens = { refl };
 
     ghost several = { lit≤ tt };
 
     ghost most = { lit≤ tt };
+}
 
+impl<const MODE: u8> Classifier<MODE, 32> for Simd256u {
     #[inline]
-    fn json_flags(&self, ticks: &mut Ticks) -> Flags256 {
-        escaped_flags::<false>(self, ticks)
-    }
-
-    #[inline]
-    fn html_flags(&self, ticks: &mut Ticks) -> Flags256 {
-        escaped_flags::<true>(self, ticks)
-    }
-
-    #[inline]
-    fn script_flags(&self, ticks: &mut Ticks) -> Flags256 {
-        script_flags(self, ticks)
+    fn escape_bits(&self, ticks: &mut Ticks) -> u64 {
+        if is_script::<MODE>() {
+            script_mask(self, ticks) as u64
+        } else if is_quoted::<MODE>() {
+            escaped_mask::<false>(self, ticks) as u64
+        } else {
+            escaped_mask::<true>(self, ticks) as u64
+        }
     }
 }
 
@@ -179,26 +140,17 @@ fn by_high_half(v: &u8x32, table: &[u8; 16]) -> u8x32
 /// Returns which lanes of `v` have bytes that need an escape: in HTML if `HTML`, else in JSON. It
 /// ticks once.
 ///
-/// Where `v` begins with the bytes of `a<b`, lane 1 is flagged in HTML, and none of these in JSON.
-#[inline(always)]
-pub fn escaped_flags<const HTML: bool>(v: &Simd256u, ticks: &mut Ticks) -> Flags256
-    ensures lanes { ⟦<Flags256 as Flags>⟧.truths result ≡ map (needs_escape (mode_of HTML)) (⟦<Simd256u as Simd>⟧.lanes v.now) }
-    ensures tick { ticks.new ≡ ticks.old + 1 }
-{
-    ticks.tick();
-    let lanes = if HTML {
-        lanes::html_needs_by_candidates(&v.lanes, &by_low_half(&v.lanes, &HTML_CANDIDATE_TAB))
-    } else {
-        lanes::json_needs(&v.lanes)
-    };
-    Flags256 { lanes }
-}
-
-/// Returns the bit mask of [`escaped_flags`], which is called once, so it ticks once.
+/// Where `v` begins with the bytes of `a<b`, lane 1 is set in HTML, and none of these in JSON.
 #[inline(always)]
 pub fn escaped_mask<const HTML: bool>(v: &Simd256u, ticks: &mut Ticks) -> u32
     ensures lanes { ⟦<u32 as BitMask>⟧.bits result ≡ map (needs_escape (mode_of HTML)) (⟦<Simd256u as Simd>⟧.lanes v.now) }
     ensures tick { ticks.new ≡ ticks.old + 1 }
 {
-    lanes::flag_bits(&escaped_flags::<HTML>(v, ticks).lanes) as u32
+    ticks.tick();
+    let flags = if HTML {
+        lanes::html_needs_by_candidates(&v.lanes, &by_low_half(&v.lanes, &HTML_CANDIDATE_TAB))
+    } else {
+        lanes::json_needs(&v.lanes)
+    };
+    lanes::flag_bits(&flags) as u32
 }

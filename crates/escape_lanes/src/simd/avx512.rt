@@ -11,15 +11,15 @@ ghost use Rattle.escape_lanes.specs.Replacement.{needs_escape};
 mod mask;
 mod script;
 
-use crate::simd::flags::Flags;
 use crate::simd::lanes;
 use crate::simd::last::{self, LoadLast};
+use crate::simd::mode::{is_quoted, is_script};
 use crate::simd::target::Ticks;
 use crate::simd::traits::{BitMask, Simd};
-use crate::simd::vector::Vector;
+use crate::simd::vector::{Classifier, Vector};
 use crate::tables::HTML_CANDIDATE_TAB;
 pub use mask::Mask512;
-pub use script::{script_flags, script_mask};
+pub use script::script_mask;
 use std::simd::prelude::*;
 
 /// A vector of 64 bytes.
@@ -27,41 +27,6 @@ use std::simd::prelude::*;
 pub struct Simd512u {
     lanes: u8x64,
     ghost are_bytes: { AreBytes 64 lanes },
-}
-
-/// Which lanes of a [`Simd512u`] are flagged.
-///
-/// They are bits from the start: four vectors of 64 bytes and their flags as vectors would fill all sixteen
-/// registers of 32 bytes.
-#[derive(Debug, Clone, Copy)]
-pub struct Flags512 {
-    // Bit `i` is set where lane `i` is flagged.
-    flagged: u64,
-}
-
-impl Flags for Flags512 {
-    ghost LANES = { 64 };
-
-    ghost truths = { λ f. bits_of 64 f.flagged };
-
-    ghost width = { λ f. length-bits_of 64 f.flagged };
-
-    #[inline(always)]
-    fn join(&self, other: &Flags512) -> Flags512 {
-        Flags512 {
-            flagged: self.flagged | other.flagged,
-        }
-    }
-
-    #[inline(always)]
-    fn none(&self) -> bool {
-        self.flagged.all_zero()
-    }
-
-    #[inline(always)]
-    fn bits(&self) -> u64 {
-        self.flagged
-    }
 }
 
 impl Simd for Simd512u {
@@ -129,33 +94,27 @@ impl LoadLast for Simd512u {
 }
 
 impl Vector<64> for Simd512u {
-    type Flags = Flags512;
-
     const LOOKS_UP: bool = true;
 
     ghost lane_count = { refl };
-
-    ghost flag_count = { refl };
 
     ghost sixteens = { refl };
 
     ghost several = { lit≤ tt };
 
     ghost most = { lit≤ tt };
+}
 
+impl<const MODE: u8> Classifier<MODE, 64> for Simd512u {
     #[inline]
-    fn json_flags(&self, ticks: &mut Ticks) -> Flags512 {
-        escaped_flags::<false>(self, ticks)
-    }
-
-    #[inline]
-    fn html_flags(&self, ticks: &mut Ticks) -> Flags512 {
-        escaped_flags::<true>(self, ticks)
-    }
-
-    #[inline]
-    fn script_flags(&self, ticks: &mut Ticks) -> Flags512 {
-        script_flags(self, ticks)
+    fn escape_bits(&self, ticks: &mut Ticks) -> u64 {
+        if is_script::<MODE>() {
+            script_mask(self, ticks)
+        } else if is_quoted::<MODE>() {
+            escaped_mask::<false>(self, ticks)
+        } else {
+            escaped_mask::<true>(self, ticks)
+        }
     }
 }
 
@@ -180,28 +139,17 @@ fn by_high_half(v: &u8x64, table: &[u8; 16]) -> u8x64
 /// Returns which lanes of `v` have bytes that need an escape: in HTML if `HTML`, else in JSON. It
 /// ticks once.
 ///
-/// Where `v` begins with the bytes of `a<b`, lane 1 is flagged in HTML, and none of these in JSON.
-#[inline(always)]
-pub fn escaped_flags<const HTML: bool>(v: &Simd512u, ticks: &mut Ticks) -> Flags512
-    ensures lanes { ⟦<Flags512 as Flags>⟧.truths result ≡ map (needs_escape (mode_of HTML)) (⟦<Simd512u as Simd>⟧.lanes v.now) }
-    ensures tick { ticks.new ≡ ticks.old + 1 }
-{
-    ticks.tick();
-    let lanes = if HTML {
-        lanes::html_needs_by_candidates(&v.lanes, &by_low_half(&v.lanes, &HTML_CANDIDATE_TAB))
-    } else {
-        lanes::json_needs(&v.lanes)
-    };
-    Flags512 {
-        flagged: lanes::flag_bits(&lanes),
-    }
-}
-
-/// Returns the bit mask of [`escaped_flags`], which is called once, so it ticks once.
+/// Where `v` begins with the bytes of `a<b`, lane 1 is set in HTML, and none of these in JSON.
 #[inline(always)]
 pub fn escaped_mask<const HTML: bool>(v: &Simd512u, ticks: &mut Ticks) -> u64
     ensures lanes { ⟦<u64 as BitMask>⟧.bits result ≡ map (needs_escape (mode_of HTML)) (⟦<Simd512u as Simd>⟧.lanes v.now) }
     ensures tick { ticks.new ≡ ticks.old + 1 }
 {
-    escaped_flags::<HTML>(v, ticks).bits()
+    ticks.tick();
+    let flags = if HTML {
+        lanes::html_needs_by_candidates(&v.lanes, &by_low_half(&v.lanes, &HTML_CANDIDATE_TAB))
+    } else {
+        lanes::json_needs(&v.lanes)
+    };
+    lanes::flag_bits(&flags)
 }

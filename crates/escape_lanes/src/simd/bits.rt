@@ -1,8 +1,11 @@
 //! Numbers as bit masks, lowest bits first.
 ghost use Rattle.std.specs.Prelude.{◌≡◌};
 ghost use Rattle.escape_lanes.specs.Bits.{bits_of, nibbles_of, length-bits_of, length-lanes_of};
+ghost use Rattle.escape_lanes.specs.Lanes.{AreBytes, flagged_lanes};
 
+use crate::simd::lanes;
 use crate::simd::traits::BitMask;
+use std::simd::prelude::*;
 
 /// Lane `i` is bit `i`.
 impl BitMask for u16 {
@@ -115,6 +118,25 @@ impl NeonBits {
     {
         NeonBits { nibbles }
     }
+
+    /// Returns one bit for each lane, the first lane's lowest.
+    #[inline(always)]
+    pub(crate) fn lane_bits(&self) -> u16
+        ensures { bits_of 16 result ≡ ⟦<NeonBits as BitMask>⟧.bits self.now }
+    {
+        lanes::flag_bits(&flags_of_nibbles(self.nibbles)) as u16
+    }
+}
+
+/// Returns flags where the lanes of four bits each aren't all zero: a sum with 0x7f is then 0x80 or more.
+#[inline(always)]
+fn flags_of_nibbles(nibbles: u64) -> u8x16
+    ensures bytes { AreBytes 16 result }
+    ensures lanes { flagged_lanes result ≡ nibbles_of 16 nibbles }
+{
+    let pairs = u64x1::from_array([nibbles]).to_le_bytes().cast::<u16>();
+    let apart = (pairs | (pairs << u16x8::splat(4))) & u16x8::splat(0x0f0f);
+    (apart + u16x8::splat(0x7f7f)).to_le_bytes()
 }
 
 impl BitMask for NeonBits {

@@ -5,12 +5,10 @@ ghost use Rattle.escape_lanes.specs.Bits.{bits_of, first_set};
 ghost use Rattle.escape_lanes.specs.Masks.{IsClassified, is_clear, lanes_of_mask, mask_from, whole_mask};
 ghost use Rattle.escape_lanes.specs.Mode.{mode_numbered};
 
-use crate::simd::flags::Flags;
 use crate::simd::lane_bits::{clear_first_lane, shift_lanes};
-use crate::simd::mode::flags;
 use crate::simd::ticks::Ticks;
 use crate::simd::traits::BitMask;
-use crate::simd::vector::Vector;
+use crate::simd::vector::Classifier;
 use std::marker::Model;
 
 /// The bytes that a mask is of, and the first of them that it tells of. It takes no memory, and nothing runs to make it.
@@ -160,7 +158,7 @@ impl<const MODE: u8> EscapeMask<MODE> {
 
 /// Loads the text's vector at `at` and classifies it. Ticks once.
 #[inline(always)]
-pub fn classify<V: Vector<N>, const MODE: u8, const N: usize>(
+pub fn classify<V: Classifier<MODE, N>, const MODE: u8, const N: usize>(
     text: &[u8],
     at: usize,
     ticks: &mut Ticks,
@@ -172,7 +170,7 @@ pub fn classify<V: Vector<N>, const MODE: u8, const N: usize>(
     let bytes = &text[at..at + N];
     let v = V::load(bytes);
     let mask = EscapeMask {
-        bits: flags::<V, MODE, N>(&v, ticks).bits(),
+        bits: v.escape_bits(ticks),
         of: Known::of(bytes),
     };
     (v, mask)
@@ -180,7 +178,7 @@ pub fn classify<V: Vector<N>, const MODE: u8, const N: usize>(
 
 /// Classifies the first lanes of a loaded vector that begins with these bytes. Ticks once.
 #[inline(always)]
-pub fn classify_front<V: Vector<N>, const MODE: u8, const N: usize>(
+pub fn classify_front<V: Classifier<MODE, N>, const MODE: u8, const N: usize>(
     v: &V,
     bytes: &[u8],
     ticks: &mut Ticks,
@@ -191,9 +189,7 @@ pub fn classify_front<V: Vector<N>, const MODE: u8, const N: usize>(
     ensures tick { ticks.new ≡ ticks.old + 1 }
 {
     EscapeMask {
-        bits: flags::<V, MODE, N>(v, ticks)
-            .bits()
-            .clear_high_bits(64 - bytes.len()),
+        bits: v.escape_bits(ticks).clear_high_bits(64 - bytes.len()),
         of: Known::of(bytes),
     }
 }
@@ -201,7 +197,7 @@ pub fn classify_front<V: Vector<N>, const MODE: u8, const N: usize>(
 /// Loads and classifies four vectors of the text from `at` on. Returns them with their masks, and whether no byte of them is
 /// flagged. Ticks four times.
 #[inline(always)]
-pub fn classify_four<V: Vector<N>, const MODE: u8, const N: usize>(
+pub fn classify_four<V: Classifier<MODE, N>, const MODE: u8, const N: usize>(
     text: &[u8],
     at: usize,
     ticks: &mut Ticks,

@@ -1,12 +1,9 @@
 //! The modes as numbers, and what depends on the mode: generic code has the number as its constant parameter `MODE`, and asks
 //! here. No other file compares it.
-ghost use Rattle.std.specs.Prelude.{◌≡◌, ◌+◌, ◌↔◌, true, false, map};
+ghost use Rattle.std.specs.Prelude.{◌≡◌, ◌↔◌, true, false};
 ghost use Rattle.escape_lanes.specs.Entry.{entry_count, entry_bytes};
 ghost use Rattle.escape_lanes.specs.Mode.{html, script, mode_numbered};
-ghost use Rattle.escape_lanes.specs.Replacement.{needs_escape};
 
-use crate::simd::ticks::Ticks;
-use crate::simd::vector::Vector;
 use crate::tables::{html_entry, json_entry, script_entry};
 
 /// The number of the mode that writes a JSON string literal.
@@ -17,21 +14,6 @@ pub const HTML_MODE: u8 = 1;
 
 /// The number of the mode that writes a JSON string literal for a script element.
 pub const SCRIPT_MODE: u8 = 2;
-
-/// Returns which lanes of a vector are flagged. Ticks once.
-#[inline(always)]
-pub fn flags<V: Vector<N>, const MODE: u8, const N: usize>(v: &V, ticks: &mut Ticks) -> V::Flags
-    ensures lanes { V.Flags.truths result ≡ map (needs_escape (mode_numbered MODE)) (V.lanes v.now) }
-    ensures tick { ticks.new ≡ ticks.old + 1 }
-{
-    if MODE == JSON_MODE {
-        v.json_flags(ticks)
-    } else if MODE == HTML_MODE {
-        v.html_flags(ticks)
-    } else {
-        v.script_flags(ticks)
-    }
-}
 
 /// Returns how many bytes stand for the byte, 0 where it needs no escape, and these bytes with zeros
 /// after them.

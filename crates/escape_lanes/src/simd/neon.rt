@@ -11,18 +11,17 @@ mod mask;
 mod script;
 
 use crate::simd::bits::NeonBits;
-use crate::simd::flags::Flags;
 use crate::simd::lanes;
 use crate::simd::last::{self, LoadLast};
+use crate::simd::mode::{is_quoted, is_script};
 use crate::simd::mask::Mask;
-pub use crate::simd::sse2::Flags128;
 use crate::simd::target::Ticks;
 use crate::simd::traits::{BitMask, Simd};
-use crate::simd::vector::Vector;
+use crate::simd::vector::{Classifier, Vector};
 use crate::tables::{HTML_HI_NIBBLE_TAB, HTML_LO_NIBBLE_TAB};
 pub use mask::Mask128;
 pub(crate) use script::script_needs;
-pub use script::{script_flags, script_mask};
+pub use script::script_mask;
 use std::simd::prelude::*;
 
 /// A vector of 16 bytes.
@@ -97,33 +96,27 @@ impl LoadLast for Simd128u {
 }
 
 impl Vector<16> for Simd128u {
-    type Flags = Flags128;
-
     const LOOKS_UP: bool = true;
 
     ghost lane_count = { refl };
-
-    ghost flag_count = { refl };
 
     ghost sixteens = { refl };
 
     ghost several = { lit≤ tt };
 
     ghost most = { lit≤ tt };
+}
 
+impl<const MODE: u8> Classifier<MODE, 16> for Simd128u {
     #[inline]
-    fn json_flags(&self, ticks: &mut Ticks) -> Flags128 {
-        escaped_flags::<false>(self, ticks)
-    }
-
-    #[inline]
-    fn html_flags(&self, ticks: &mut Ticks) -> Flags128 {
-        escaped_flags::<true>(self, ticks)
-    }
-
-    #[inline]
-    fn script_flags(&self, ticks: &mut Ticks) -> Flags128 {
-        script_flags(self, ticks)
+    fn escape_bits(&self, ticks: &mut Ticks) -> u64 {
+        if is_script::<MODE>() {
+            script_mask(self, ticks).lane_bits() as u64
+        } else if is_quoted::<MODE>() {
+            escaped_mask::<false>(self, ticks).lane_bits() as u64
+        } else {
+            escaped_mask::<true>(self, ticks).lane_bits() as u64
+        }
     }
 }
 
@@ -157,29 +150,20 @@ fn nibble_flags(v: &u8x16) -> u8x16
 /// Returns which lanes of `v` have bytes that need an escape: in HTML if `HTML`, else in JSON. It
 /// ticks once.
 ///
-/// Where `v` begins with the bytes of `a<b`, lane 1 is flagged in HTML, and none of these in JSON.
-#[inline(always)]
-pub fn escaped_flags<const HTML: bool>(v: &Simd128u, ticks: &mut Ticks) -> Flags128
-    ensures lanes { ⟦<Flags128 as Flags>⟧.truths result ≡ map (needs_escape (mode_of HTML)) (⟦<Simd128u as Simd>⟧.lanes v.now) }
-    ensures tick { ticks.new ≡ ticks.old + 1 }
-{
-    ticks.tick();
-    let lanes = if HTML {
-        lanes::html_needs(&v.lanes, &nibble_flags(&v.lanes))
-    } else {
-        lanes::json_needs(&v.lanes)
-    };
-    Flags128 { lanes }
-}
-
-/// Returns the mask of [`escaped_flags`], which is called once, so it ticks once.
+/// Where `v` begins with the bytes of `a<b`, lane 1 is set in HTML, and none of these in JSON.
 #[inline(always)]
 pub fn escaped_mask_vec<const HTML: bool>(v: &Simd128u, ticks: &mut Ticks) -> Mask128
     ensures lanes { ⟦<Mask128 as Mask>⟧.truths result ≡ map (needs_escape (mode_of HTML)) (⟦<Simd128u as Simd>⟧.lanes v.now) }
     ensures tick { ticks.new ≡ ticks.old + 1 }
 {
+    ticks.tick();
+    let flags = if HTML {
+        lanes::html_needs(&v.lanes, &nibble_flags(&v.lanes))
+    } else {
+        lanes::json_needs(&v.lanes)
+    };
     Mask128 {
-        lanes: lanes::flag_mask(&escaped_flags::<HTML>(v, ticks).lanes),
+        lanes: lanes::flag_mask(&flags),
     }
 }
 

@@ -9,14 +9,14 @@ ghost use Rattle.escape_lanes.specs.Replacement.{needs_escape};
 mod mask;
 mod script;
 
-use crate::simd::flags::Flags;
 use crate::simd::lanes;
 use crate::simd::last::{self, LoadLast};
+use crate::simd::mode::{is_quoted, is_script};
 use crate::simd::target::Ticks;
 use crate::simd::traits::{BitMask, Simd};
-use crate::simd::vector::Vector;
+use crate::simd::vector::{Classifier, Vector};
 pub use mask::Mask128;
-pub use script::{script_flags, script_mask};
+pub use script::script_mask;
 use std::simd::prelude::*;
 
 /// A vector of 16 bytes.
@@ -24,39 +24,6 @@ use std::simd::prelude::*;
 pub struct Simd128u {
     lanes: u8x16,
     ghost are_bytes: { AreBytes 16 lanes },
-}
-
-/// Which lanes of a [`Simd128u`] are flagged, here and in `neon`.
-#[derive(Debug, Clone, Copy)]
-pub struct Flags128 {
-    // 0x80 or more in a lane that is flagged, and less in the others.
-    pub(super) lanes: u8x16,
-    ghost are_bytes: { AreBytes 16 lanes },
-}
-
-impl Flags for Flags128 {
-    ghost LANES = { 16 };
-
-    ghost truths = { λ f. flagged_lanes f.lanes };
-
-    ghost width = { λ f. length-map f.lanes (λ b. nat_le 0x80 b) ∙ f.are_bytes.full };
-
-    #[inline(always)]
-    fn join(&self, other: &Flags128) -> Flags128 {
-        Flags128 {
-            lanes: lanes::join(&self.lanes, &other.lanes),
-        }
-    }
-
-    #[inline(always)]
-    fn none(&self) -> bool {
-        lanes::none(&self.lanes)
-    }
-
-    #[inline(always)]
-    fn bits(&self) -> u64 {
-        lanes::flag_bits(&self.lanes)
-    }
 }
 
 impl Simd for Simd128u {
@@ -124,33 +91,27 @@ impl LoadLast for Simd128u {
 }
 
 impl Vector<16> for Simd128u {
-    type Flags = Flags128;
-
     const LOOKS_UP: bool = false;
 
     ghost lane_count = { refl };
-
-    ghost flag_count = { refl };
 
     ghost sixteens = { refl };
 
     ghost several = { lit≤ tt };
 
     ghost most = { lit≤ tt };
+}
 
+impl<const MODE: u8> Classifier<MODE, 16> for Simd128u {
     #[inline]
-    fn json_flags(&self, ticks: &mut Ticks) -> Flags128 {
-        escaped_flags::<false>(self, ticks)
-    }
-
-    #[inline]
-    fn html_flags(&self, ticks: &mut Ticks) -> Flags128 {
-        escaped_flags::<true>(self, ticks)
-    }
-
-    #[inline]
-    fn script_flags(&self, ticks: &mut Ticks) -> Flags128 {
-        script_flags(self, ticks)
+    fn escape_bits(&self, ticks: &mut Ticks) -> u64 {
+        if is_script::<MODE>() {
+            script_mask(self, ticks) as u64
+        } else if is_quoted::<MODE>() {
+            escaped_mask::<false>(self, ticks) as u64
+        } else {
+            escaped_mask::<true>(self, ticks) as u64
+        }
     }
 }
 
@@ -175,26 +136,17 @@ fn html_needs(v: &u8x16) -> u8x16
 /// Returns which lanes of `v` have bytes that need an escape: in HTML if `HTML`, else in JSON. It
 /// ticks once.
 ///
-/// Where `v` begins with the bytes of `a<b`, lane 1 is flagged in HTML, and none of these in JSON.
-#[inline(always)]
-pub fn escaped_flags<const HTML: bool>(v: &Simd128u, ticks: &mut Ticks) -> Flags128
-    ensures lanes { ⟦<Flags128 as Flags>⟧.truths result ≡ map (needs_escape (mode_of HTML)) (⟦<Simd128u as Simd>⟧.lanes v.now) }
-    ensures tick { ticks.new ≡ ticks.old + 1 }
-{
-    ticks.tick();
-    let lanes = if HTML {
-        html_needs(&v.lanes)
-    } else {
-        lanes::json_needs(&v.lanes)
-    };
-    Flags128 { lanes }
-}
-
-/// Returns the bit mask of [`escaped_flags`], which is called once, so it ticks once.
+/// Where `v` begins with the bytes of `a<b`, lane 1 is set in HTML, and none of these in JSON.
 #[inline(always)]
 pub fn escaped_mask<const HTML: bool>(v: &Simd128u, ticks: &mut Ticks) -> u16
     ensures lanes { ⟦<u16 as BitMask>⟧.bits result ≡ map (needs_escape (mode_of HTML)) (⟦<Simd128u as Simd>⟧.lanes v.now) }
     ensures tick { ticks.new ≡ ticks.old + 1 }
 {
-    lanes::flag_bits(&escaped_flags::<HTML>(v, ticks).lanes) as u16
+    ticks.tick();
+    let flags = if HTML {
+        html_needs(&v.lanes)
+    } else {
+        lanes::json_needs(&v.lanes)
+    };
+    lanes::flag_bits(&flags) as u16
 }

@@ -12,27 +12,19 @@ ghost use Rattle.escape_lanes.specs.Words.{lanes_of_word, lanes_of_words, words-
 mod mask;
 mod script;
 
-use crate::simd::flags::Flags;
 use crate::simd::last::{self, LoadLast};
+use crate::simd::mode::{is_quoted, is_script};
 use crate::simd::target::Ticks;
 use crate::simd::traits::{BitMask, Simd};
-use crate::simd::vector::Vector;
+use crate::simd::vector::{Classifier, Vector};
 pub use mask::Mask128;
 use mask::{bits, eq, le};
-pub use script::{script_flags, script_mask};
+pub use script::script_mask;
 
 /// A vector of 16 bytes.
 #[derive(Debug, Drop)]
 pub struct Simd128u {
     // The first eight lanes, and the others, the first lane lowest.
-    low: u64,
-    high: u64,
-}
-
-/// Which lanes of a [`Simd128u`] are flagged.
-#[derive(Debug, Clone, Copy)]
-pub struct Flags128 {
-    // 0x80 or more in a lane that is flagged, and less in the others. The first lane is lowest.
     low: u64,
     high: u64,
 }
@@ -114,36 +106,10 @@ fn flag_bits(flags: u64) -> u16
 
 /// Returns one bit for each lane of both words that is flagged, the first lane's lowest.
 #[inline(always)]
-fn lane_bits(flags: &Flags128) -> u16
-    ensures { bits_of 16 result ≡ flagged_lanes (lanes_of_words flags.now.low flags.now.high) }
+fn lane_bits(low: u64, high: u64) -> u16
+    ensures { bits_of 16 result ≡ flagged_lanes (lanes_of_words low high) }
 {
-    flag_bits(flags.low) | flag_bits(flags.high) << 8
-}
-
-impl Flags for Flags128 {
-    ghost LANES = { 16 };
-
-    ghost truths = { λ f. flagged_lanes (lanes_of_words f.low f.high) };
-
-    ghost width = { λ f. length-map (lanes_of_words f.low f.high) (λ b. nat_le 0x80 b) ∙ (words-bytes f.low f.high).full };
-
-    #[inline(always)]
-    fn join(&self, other: &Flags128) -> Flags128 {
-        Flags128 {
-            low: self.low | other.low,
-            high: self.high | other.high,
-        }
-    }
-
-    #[inline(always)]
-    fn none(&self) -> bool {
-        none_in(self.low | self.high)
-    }
-
-    #[inline(always)]
-    fn bits(&self) -> u64 {
-        lane_bits(self) as u64
-    }
+    flag_bits(low) | flag_bits(high) << 8
 }
 
 impl Simd for Simd128u {
@@ -213,33 +179,27 @@ impl LoadLast for Simd128u {
 }
 
 impl Vector<16> for Simd128u {
-    type Flags = Flags128;
-
     const LOOKS_UP: bool = false;
 
     ghost lane_count = { refl };
-
-    ghost flag_count = { refl };
 
     ghost sixteens = { refl };
 
     ghost several = { lit≤ tt };
 
     ghost most = { lit≤ tt };
+}
 
+impl<const MODE: u8> Classifier<MODE, 16> for Simd128u {
     #[inline]
-    fn json_flags(&self, ticks: &mut Ticks) -> Flags128 {
-        escaped_flags::<false>(self, ticks)
-    }
-
-    #[inline]
-    fn html_flags(&self, ticks: &mut Ticks) -> Flags128 {
-        escaped_flags::<true>(self, ticks)
-    }
-
-    #[inline]
-    fn script_flags(&self, ticks: &mut Ticks) -> Flags128 {
-        script_flags(self, ticks)
+    fn escape_bits(&self, ticks: &mut Ticks) -> u64 {
+        if is_script::<MODE>() {
+            script_mask(self, ticks) as u64
+        } else if is_quoted::<MODE>() {
+            escaped_mask::<false>(self, ticks) as u64
+        } else {
+            escaped_mask::<true>(self, ticks) as u64
+        }
     }
 }
 
@@ -286,31 +246,16 @@ fn html_needs(lanes: u64) -> u64
 /// Returns which lanes of `v` have bytes that need an escape: in HTML if `HTML`, else in JSON. It
 /// ticks once.
 ///
-/// Where `v` begins with the bytes of `a<b`, lane 1 is flagged in HTML, and none of these in JSON.
-#[inline(always)]
-pub fn escaped_flags<const HTML: bool>(v: &Simd128u, ticks: &mut Ticks) -> Flags128
-    ensures lanes { ⟦<Flags128 as Flags>⟧.truths result ≡ map (needs_escape (mode_of HTML)) (⟦<Simd128u as Simd>⟧.lanes v.now) }
-    ensures tick { ticks.new ≡ ticks.old + 1 }
-{
-    ticks.tick();
-    if HTML {
-        Flags128 {
-            low: html_needs(v.low),
-            high: html_needs(v.high),
-        }
-    } else {
-        Flags128 {
-            low: json_needs(v.low),
-            high: json_needs(v.high),
-        }
-    }
-}
-
-/// Returns the bit mask of [`escaped_flags`], which is called once, so it ticks once.
+/// Where `v` begins with the bytes of `a<b`, lane 1 is set in HTML, and none of these in JSON.
 #[inline(always)]
 pub fn escaped_mask<const HTML: bool>(v: &Simd128u, ticks: &mut Ticks) -> u16
     ensures lanes { ⟦<u16 as BitMask>⟧.bits result ≡ map (needs_escape (mode_of HTML)) (⟦<Simd128u as Simd>⟧.lanes v.now) }
     ensures tick { ticks.new ≡ ticks.old + 1 }
 {
-    lane_bits(&escaped_flags::<HTML>(v, ticks))
+    ticks.tick();
+    if HTML {
+        lane_bits(html_needs(v.low), html_needs(v.high))
+    } else {
+        lane_bits(json_needs(v.low), json_needs(v.high))
+    }
 }

@@ -4,8 +4,7 @@ ghost use Rattle.escape_lanes.specs.Lanes.{AreBytes, flagged_lanes};
 ghost use Rattle.escape_lanes.specs.Mode.{script};
 ghost use Rattle.escape_lanes.specs.Replacement.{needs_escape};
 
-use crate::simd::avx2::{Flags256, Simd256u, by_high_half, by_low_half};
-use crate::simd::flags::Flags;
+use crate::simd::avx2::{Simd256u, by_high_half, by_low_half};
 use crate::simd::lanes;
 use crate::simd::target::Ticks;
 use crate::simd::traits::{BitMask, Simd};
@@ -26,23 +25,12 @@ fn script_needs(v: &u8x32) -> u8x32
 
 /// Returns which lanes of `v` have bytes that a script literal has to look at. It ticks once.
 ///
-/// Where `v` begins with the bytes of `a<b`, lane 1 is flagged.
-#[inline(always)]
-pub fn script_flags(v: &Simd256u, ticks: &mut Ticks) -> Flags256
-    ensures lanes { ⟦<Flags256 as Flags>⟧.truths result ≡ map (needs_escape script) (⟦<Simd256u as Simd>⟧.lanes v.now) }
-    ensures tick { ticks.new ≡ ticks.old + 1 }
-{
-    ticks.tick();
-    Flags256 {
-        lanes: script_needs(&v.lanes),
-    }
-}
-
-/// Returns the bit mask of [`script_flags`], which is called once, so it ticks once.
+/// Where `v` begins with the bytes of `a<b`, lane 1 is set.
 #[inline(always)]
 pub fn script_mask(v: &Simd256u, ticks: &mut Ticks) -> u32
     ensures lanes { ⟦<u32 as BitMask>⟧.bits result ≡ map (needs_escape script) (⟦<Simd256u as Simd>⟧.lanes v.now) }
     ensures tick { ticks.new ≡ ticks.old + 1 }
 {
-    lanes::flag_bits(&script_flags(v, ticks).lanes) as u32
+    ticks.tick();
+    lanes::flag_bits(&script_needs(&v.lanes)) as u32
 }

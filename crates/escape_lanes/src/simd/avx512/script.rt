@@ -4,8 +4,7 @@ ghost use Rattle.escape_lanes.specs.Lanes.{AreBytes, flagged_lanes};
 ghost use Rattle.escape_lanes.specs.Mode.{script};
 ghost use Rattle.escape_lanes.specs.Replacement.{needs_escape};
 
-use crate::simd::avx512::{Flags512, Simd512u, by_high_half, by_low_half};
-use crate::simd::flags::Flags;
+use crate::simd::avx512::{Simd512u, by_high_half, by_low_half};
 use crate::simd::lanes;
 use crate::simd::target::Ticks;
 use crate::simd::traits::{BitMask, Simd};
@@ -26,23 +25,12 @@ fn script_needs(v: &u8x64) -> u8x64
 
 /// Returns which lanes of `v` have bytes that a script literal has to look at. It ticks once.
 ///
-/// Where `v` begins with the bytes of `a<b`, lane 1 is flagged.
-#[inline(always)]
-pub fn script_flags(v: &Simd512u, ticks: &mut Ticks) -> Flags512
-    ensures lanes { ⟦<Flags512 as Flags>⟧.truths result ≡ map (needs_escape script) (⟦<Simd512u as Simd>⟧.lanes v.now) }
-    ensures tick { ticks.new ≡ ticks.old + 1 }
-{
-    ticks.tick();
-    Flags512 {
-        flagged: lanes::flag_bits(&script_needs(&v.lanes)),
-    }
-}
-
-/// Returns the bit mask of [`script_flags`], which is called once, so it ticks once.
+/// Where `v` begins with the bytes of `a<b`, lane 1 is set.
 #[inline(always)]
 pub fn script_mask(v: &Simd512u, ticks: &mut Ticks) -> u64
     ensures lanes { ⟦<u64 as BitMask>⟧.bits result ≡ map (needs_escape script) (⟦<Simd512u as Simd>⟧.lanes v.now) }
     ensures tick { ticks.new ≡ ticks.old + 1 }
 {
-    script_flags(v, ticks).bits()
+    ticks.tick();
+    lanes::flag_bits(&script_needs(&v.lanes))
 }

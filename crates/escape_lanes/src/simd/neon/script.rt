@@ -5,10 +5,9 @@ ghost use Rattle.escape_lanes.specs.Mode.{script};
 ghost use Rattle.escape_lanes.specs.Replacement.{needs_escape};
 
 use crate::simd::bits::NeonBits;
-use crate::simd::flags::Flags;
 use crate::simd::lanes;
 use crate::simd::neon::mask::bits;
-use crate::simd::neon::{Flags128, Simd128u, by_high_half, by_low_half};
+use crate::simd::neon::{Simd128u, by_high_half, by_low_half};
 use crate::simd::target::Ticks;
 use crate::simd::traits::{BitMask, Simd};
 use crate::tables::{SCRIPT_HI_NIBBLE_TAB, SCRIPT_LO_NIBBLE_TAB};
@@ -28,23 +27,12 @@ pub(crate) fn script_needs(v: &u8x16) -> u8x16
 
 /// Returns which lanes of `v` have bytes that a script literal has to look at. It ticks once.
 ///
-/// Where `v` begins with the bytes of `a<b`, lane 1 is flagged.
-#[inline(always)]
-pub fn script_flags(v: &Simd128u, ticks: &mut Ticks) -> Flags128
-    ensures lanes { ⟦<Flags128 as Flags>⟧.truths result ≡ map (needs_escape script) (⟦<Simd128u as Simd>⟧.lanes v.now) }
-    ensures tick { ticks.new ≡ ticks.old + 1 }
-{
-    ticks.tick();
-    Flags128 {
-        lanes: script_needs(&v.lanes),
-    }
-}
-
-/// Returns the bit mask of [`script_flags`], which is called once, so it ticks once.
+/// Where `v` begins with the bytes of `a<b`, lane 1 is set.
 #[inline(always)]
 pub fn script_mask(v: &Simd128u, ticks: &mut Ticks) -> NeonBits
     ensures lanes { ⟦<NeonBits as BitMask>⟧.bits result ≡ map (needs_escape script) (⟦<Simd128u as Simd>⟧.lanes v.now) }
     ensures tick { ticks.new ≡ ticks.old + 1 }
 {
-    bits(&lanes::flag_mask(&script_flags(v, ticks).lanes))
+    ticks.tick();
+    bits(&lanes::flag_mask(&script_needs(&v.lanes)))
 }

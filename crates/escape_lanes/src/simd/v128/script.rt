@@ -5,10 +5,9 @@ ghost use Rattle.escape_lanes.specs.Mode.{script};
 ghost use Rattle.escape_lanes.specs.Replacement.{needs_escape};
 ghost use Rattle.escape_lanes.specs.Words.{lanes_of_word};
 
-use crate::simd::flags::Flags;
 use crate::simd::target::Ticks;
 use crate::simd::traits::{BitMask, Simd};
-use crate::simd::v128::{Flags128, Simd128u, lane_bits, sums};
+use crate::simd::v128::{Simd128u, lane_bits, sums};
 
 /// Returns flags where a script literal has to look at the byte, in one word.
 ///
@@ -28,24 +27,12 @@ fn script_needs(lanes: u64) -> u64
 
 /// Returns which lanes of `v` have bytes that a script literal has to look at. It ticks once.
 ///
-/// Where `v` begins with the bytes of `a<b`, lane 1 is flagged.
-#[inline(always)]
-pub fn script_flags(v: &Simd128u, ticks: &mut Ticks) -> Flags128
-    ensures lanes { ⟦<Flags128 as Flags>⟧.truths result ≡ map (needs_escape script) (⟦<Simd128u as Simd>⟧.lanes v.now) }
-    ensures tick { ticks.new ≡ ticks.old + 1 }
-{
-    ticks.tick();
-    Flags128 {
-        low: script_needs(v.low),
-        high: script_needs(v.high),
-    }
-}
-
-/// Returns the bit mask of [`script_flags`], which is called once, so it ticks once.
+/// Where `v` begins with the bytes of `a<b`, lane 1 is set.
 #[inline(always)]
 pub fn script_mask(v: &Simd128u, ticks: &mut Ticks) -> u16
     ensures lanes { ⟦<u16 as BitMask>⟧.bits result ≡ map (needs_escape script) (⟦<Simd128u as Simd>⟧.lanes v.now) }
     ensures tick { ticks.new ≡ ticks.old + 1 }
 {
-    lane_bits(&script_flags(v, ticks))
+    ticks.tick();
+    lane_bits(script_needs(v.low), script_needs(v.high))
 }

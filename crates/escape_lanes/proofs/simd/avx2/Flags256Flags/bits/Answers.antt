@@ -1,6 +1,0 @@
-use Rattle.std.proofs.Common.{◌++◌, replicate, false, ap, ◌∙◌}
-use Rattle.escape_lanes.proofs.BitLemmas.{bits-wide}
-use Rattle.escape_lanes.proofs.simd.avx2.Flags256Flags.bits.Goals as goal
-
-pub returns : goal.returns
-returns c = let of_flags = c.flag_bits.ensures in bits-wide 32 32 c.flag_bits.result of_flags.below ∙ ap (λ bs. bs ++ replicate 32 false) of_flags.bits

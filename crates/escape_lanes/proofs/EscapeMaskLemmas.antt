@@ -1,11 +1,12 @@
 -- The lanes of a mask that knows its bytes: of fewer of them, and with some taken off.
-use Rattle.std.proofs.Common.{◌≡◌, ℕ, zero, suc, ◌+◌, ◌-◌, ◌≤◌, Bool, true, false, List, [], ◌∷◌, ◌++◌, length, map, take, drop, replicate, refl, sym, ap, ◌∙◌, arith, append_assoc, length-append}
+use Rattle.std.proofs.Common.{◌≡◌, ℕ, zero, suc, ◌+◌, ◌-◌, ◌<◌, ◌^◌, ◌≤◌, Bool, true, false, true≢false, List, [], ◌∷◌, ◌++◌, length, map, take, drop, replicate, refl, sym, ap, ◌∙◌, arith, append_assoc, length-append}
 use Rattle.std.proofs.Math.Seq.{drop-append-add}
 use Rattle.std.proofs.lemmas.List.{drop-append-le, drop-drop, drop-map, length-drop, length-map, length-replicate, length-take-le, replicate-append-replicate, take-append-le, take-map, take_all}
 use Rattle.escape_lanes.specs.Bits.{bits_of, first_set, clear_first, clear_last, length-bits_of}
 use Rattle.escape_lanes.specs.Masks.{lanes_of_mask, mask_from, whole_mask}
-use Rattle.escape_lanes.specs.Mode.{Mode}
+use Rattle.escape_lanes.specs.Mode.{Mode, json, html, script}
 use Rattle.escape_lanes.specs.Replacement.{needs_escape}
+use Rattle.escape_lanes.proofs.BitLemmas.{bits-wide}
 
 -- Lanes that are cleared
 
@@ -90,3 +91,13 @@ mask-cut mode bytes k n le few is =
     let count : length (take k bytes) ≡ k = length-take-le k bytes le in
     let f = mask-front mode bytes (take k bytes) n (64 - length bytes) (ap (λ j. take j bytes) count) (omega (arith, count, le)) (omega (arith, few)) is in
     ap (λ j. clear_last (64 - j) (bits_of 64 n)) (sym count) ∙ f
+
+-- the bit mask of a vector's lanes, as 64
+pub mask-wide : {mode wanted : Mode} {bits : List Bool} (n j x : ℕ) (lanes : List ℕ) → x < 2 ^ n → wanted ≡ mode → bits_of n x ≡ bits → bits ≡ map (needs_escape mode) lanes → bits_of (n + j) x ≡ map (needs_escape wanted) lanes ++ replicate j false
+mask-wide n j x lanes small same is told = rw same (bits-wide n j x small ∙ ap (λ bs. bs ++ replicate j false) (is ∙ told))
+
+-- a mode that is neither HTML nor script
+pub is-json : (mode : Mode) (of_script quoted : Bool) → (mode ≡ script → of_script ≡ true) → (mode ≡ html → quoted ≡ false) → of_script ≡ false → quoted ≡ true → mode ≡ json
+is-json json a b s q off on = refl
+is-json html a b s q off on = absurd (true≢false (sym on ∙ q refl))
+is-json script a b s q off on = absurd (true≢false (sym (s refl) ∙ off))

@@ -3,6 +3,7 @@
 pub mod avx2;
 pub mod avx512;
 pub mod bits;
+pub mod classifier;
 mod down;
 pub mod escape_mask;
 mod front;
@@ -19,9 +20,8 @@ pub mod target;
 mod ticks;
 pub mod traits;
 pub mod v128;
-pub mod vector;
 
+pub use classifier::Classifier;
 pub use last::LoadLast;
 pub use mask::Mask;
 pub use traits::{BitMask, LoadStore, Simd};
-pub use vector::{Classifier, Vector};

@@ -16,7 +16,7 @@ ghost use Rattle.escape_simd.specs.Script.{IsOnlyScript};
 use crate::kernel::Kernel;
 use crate::mode::Mode;
 use crate::simd::{
-    HTML_MODE, JSON_MODE, SCRIPT_MODE, Vector, avx2, avx512, escape_at, neon, sse2, v128, whole,
+    Classifier, HTML_MODE, JSON_MODE, SCRIPT_MODE, avx2, avx512, escape_at, neon, sse2, v128, whole,
 };
 
 /// Writes the output of a text in the mode `mode` to the front of `dst`, with the kernel `kernel`. Returns the length
@@ -302,7 +302,10 @@ fn inner_by_other<const MODE: u8>(kernel: Kernel, value: &str, dst: &mut [u8]) -
 
 /// As [`inner_by`], by the kernel of a vector.
 #[inline(always)]
-fn inner_at<V: Vector<N>, const MODE: u8, const N: usize>(value: &str, dst: &mut [u8]) -> usize
+fn inner_at<V: Classifier<MODE, N>, const MODE: u8, const N: usize>(
+    value: &str,
+    dst: &mut [u8],
+) -> usize
     requires { 6 * length value.now + 32 ≤ length dst.old }
     ensures { IsInnerWritten N (mode_numbered MODE) value.now dst.old dst.new result }
 {

@@ -16,5 +16,6 @@ pub(crate) mod whole;
 
 pub(crate) use body::{escape_at, escape_chunks};
 pub use escape_lanes::simd::mode::{HTML_MODE, JSON_MODE, SCRIPT_MODE};
-pub use escape_lanes::simd::{BitMask, Flags, LoadLast, Mask, Simd, Vector, bits, target};
+pub use escape_lanes::simd::{BitMask, Mask, Simd, bits, target};
+pub(crate) use escape_lanes::simd::{Classifier, LoadLast};
 pub(crate) use tail::{classify_pair, classify_short, escape_flagged_at};

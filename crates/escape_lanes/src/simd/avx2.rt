@@ -11,12 +11,12 @@ ghost use Rattle.escape_lanes.specs.Replacement.{needs_escape};
 mod mask;
 mod script;
 
+use crate::simd::classifier::Classifier;
 use crate::simd::lanes;
 use crate::simd::last::{self, LoadLast};
 use crate::simd::mode::{is_quoted, is_script};
 use crate::simd::target::Ticks;
 use crate::simd::traits::{BitMask, Simd};
-use crate::simd::vector::{Classifier, Vector};
 use crate::tables::HTML_CANDIDATE_TAB;
 pub use mask::Mask256;
 use mask::bits;
@@ -94,7 +94,7 @@ impl LoadLast for Simd256u {
     }
 }
 
-impl Vector<32> for Simd256u {
+impl<const MODE: u8> Classifier<MODE, 32> for Simd256u {
     const LOOKS_UP: bool = true;
 
     ghost lane_count = { refl };
@@ -104,9 +104,7 @@ impl Vector<32> for Simd256u {
     ghost several = { lit≤ tt };
 
     ghost most = { lit≤ tt };
-}
 
-impl<const MODE: u8> Classifier<MODE, 32> for Simd256u {
     #[inline]
     fn escape_bits(&self, ticks: &mut Ticks) -> u64 {
         if is_script::<MODE>() {

@@ -11,12 +11,12 @@ ghost use Rattle.escape_lanes.specs.Replacement.{needs_escape};
 mod mask;
 mod script;
 
+use crate::simd::classifier::Classifier;
 use crate::simd::lanes;
 use crate::simd::last::{self, LoadLast};
 use crate::simd::mode::{is_quoted, is_script};
 use crate::simd::target::Ticks;
 use crate::simd::traits::{BitMask, Simd};
-use crate::simd::vector::{Classifier, Vector};
 use crate::tables::HTML_CANDIDATE_TAB;
 pub use mask::Mask512;
 pub use script::script_mask;
@@ -93,7 +93,7 @@ impl LoadLast for Simd512u {
     }
 }
 
-impl Vector<64> for Simd512u {
+impl<const MODE: u8> Classifier<MODE, 64> for Simd512u {
     const LOOKS_UP: bool = true;
 
     ghost lane_count = { refl };
@@ -103,9 +103,7 @@ impl Vector<64> for Simd512u {
     ghost several = { lit≤ tt };
 
     ghost most = { lit≤ tt };
-}
 
-impl<const MODE: u8> Classifier<MODE, 64> for Simd512u {
     #[inline]
     fn escape_bits(&self, ticks: &mut Ticks) -> u64 {
         if is_script::<MODE>() {

@@ -5,10 +5,10 @@ ghost use Rattle.escape_lanes.specs.Bits.{bits_of, first_set};
 ghost use Rattle.escape_lanes.specs.Masks.{IsClassified, is_clear, lanes_of_mask, mask_from, whole_mask};
 ghost use Rattle.escape_lanes.specs.Mode.{mode_numbered};
 
+use crate::simd::classifier::Classifier;
 use crate::simd::lane_bits::{clear_first_lane, shift_lanes};
 use crate::simd::ticks::Ticks;
 use crate::simd::traits::BitMask;
-use crate::simd::vector::Classifier;
 use std::marker::Model;
 
 /// The bytes that a mask is of, and the first of them that it tells of. It takes no memory, and nothing runs to make it.

@@ -11,17 +11,17 @@ mod mask;
 mod script;
 
 use crate::simd::bits::NeonBits;
+use crate::simd::classifier::Classifier;
 use crate::simd::lanes;
 use crate::simd::last::{self, LoadLast};
-use crate::simd::mode::{is_quoted, is_script};
 use crate::simd::mask::Mask;
+use crate::simd::mode::{is_quoted, is_script};
 use crate::simd::target::Ticks;
 use crate::simd::traits::{BitMask, Simd};
-use crate::simd::vector::{Classifier, Vector};
 use crate::tables::{HTML_HI_NIBBLE_TAB, HTML_LO_NIBBLE_TAB};
 pub use mask::Mask128;
-pub(crate) use script::script_needs;
 pub use script::script_mask;
+pub(crate) use script::script_needs;
 use std::simd::prelude::*;
 
 /// A vector of 16 bytes.
@@ -95,7 +95,7 @@ impl LoadLast for Simd128u {
     }
 }
 
-impl Vector<16> for Simd128u {
+impl<const MODE: u8> Classifier<MODE, 16> for Simd128u {
     const LOOKS_UP: bool = true;
 
     ghost lane_count = { refl };
@@ -105,9 +105,7 @@ impl Vector<16> for Simd128u {
     ghost several = { lit≤ tt };
 
     ghost most = { lit≤ tt };
-}
 
-impl<const MODE: u8> Classifier<MODE, 16> for Simd128u {
     #[inline]
     fn escape_bits(&self, ticks: &mut Ticks) -> u64 {
         if is_script::<MODE>() {

@@ -9,12 +9,12 @@ ghost use Rattle.escape_lanes.specs.Replacement.{needs_escape};
 mod mask;
 mod script;
 
+use crate::simd::classifier::Classifier;
 use crate::simd::lanes;
 use crate::simd::last::{self, LoadLast};
 use crate::simd::mode::{is_quoted, is_script};
 use crate::simd::target::Ticks;
 use crate::simd::traits::{BitMask, Simd};
-use crate::simd::vector::{Classifier, Vector};
 pub use mask::Mask128;
 pub use script::script_mask;
 use std::simd::prelude::*;
@@ -90,7 +90,7 @@ impl LoadLast for Simd128u {
     }
 }
 
-impl Vector<16> for Simd128u {
+impl<const MODE: u8> Classifier<MODE, 16> for Simd128u {
     const LOOKS_UP: bool = false;
 
     ghost lane_count = { refl };
@@ -100,9 +100,7 @@ impl Vector<16> for Simd128u {
     ghost several = { lit≤ tt };
 
     ghost most = { lit≤ tt };
-}
 
-impl<const MODE: u8> Classifier<MODE, 16> for Simd128u {
     #[inline]
     fn escape_bits(&self, ticks: &mut Ticks) -> u64 {
         if is_script::<MODE>() {

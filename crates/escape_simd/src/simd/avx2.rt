@@ -8,9 +8,7 @@ ghost use Rattle.escape_simd.specs.Headline.{IsOnlyOutput};
 ghost use Rattle.escape_simd.specs.Laws.{IsOfOneText};
 
 use crate::simd::{HTML_MODE, JSON_MODE, SCRIPT_MODE, whole};
-pub use escape_lanes::simd::avx2::{
-    Flags256, Mask256, Simd256u, escaped_flags, escaped_mask, script_flags, script_mask,
-};
+pub use escape_lanes::simd::avx2::{Mask256, Simd256u, escaped_mask, script_mask};
 use escape_lanes::simd::target::{Target, Ticks};
 
 /// Escapes the text to the front of the target, as HTML if `HTML`, else as a JSON string literal,
@@ -28,7 +26,10 @@ pub fn format_target<const HTML: bool>(
     ensures { IsFormatted (mode_of HTML) value.now
         target.old target.new result ticks.old ticks.new }
 {
-    whole::format_target::<Simd256u, HTML, 32>(value, target, ticks)
+    if HTML {
+        return whole::format::<Simd256u, { HTML_MODE }, 32>(value, target, ticks);
+    }
+    whole::format::<Simd256u, { JSON_MODE }, 32>(value, target, ticks)
 }
 
 /// As [`format_target`], with the target made over `dst`.

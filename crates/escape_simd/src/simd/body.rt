@@ -7,7 +7,7 @@ ghost use Rattle.escape_simd.specs.Output.{inner};
 ghost use Rattle.escape_simd.specs.Parts.{IsPartAt};
 ghost use Rattle.escape_simd.specs.Stretch.{AreTailMasks, Escapes, HasRoom, reach, state};
 
-use crate::simd::Vector;
+use crate::simd::Classifier;
 use crate::simd::chunk::{chunk, vector_from};
 use crate::simd::tail::{escape_flagged_at, escape_tail, store_clean_tail};
 use escape_lanes::simd::escape_mask::{EscapeMask, classify};
@@ -15,7 +15,7 @@ use escape_lanes::simd::target::{Target, Ticks};
 
 /// Escapes the bytes to the target from `to` on, with no quotation marks. Returns the place after them.
 #[inline(always)]
-pub(crate) fn escape_bytes<V: Vector<N>, const MODE: u8, const N: usize>(
+pub(crate) fn escape_bytes<V: Classifier<MODE, N>, const MODE: u8, const N: usize>(
     src: &[u8],
     target: &mut Target<'_, N>,
     to: usize,
@@ -43,7 +43,7 @@ pub(crate) fn escape_bytes<V: Vector<N>, const MODE: u8, const N: usize>(
 ///
 /// The target is made here: so the compiler keeps it in registers.
 #[inline(never)]
-pub(crate) fn escape_chunks<V: Vector<N>, const MODE: u8, const N: usize>(
+pub(crate) fn escape_chunks<V: Classifier<MODE, N>, const MODE: u8, const N: usize>(
     src: &[u8],
     dst: &mut [u8],
     to: usize,
@@ -66,7 +66,7 @@ pub(crate) fn escape_chunks<V: Vector<N>, const MODE: u8, const N: usize>(
 
 /// As [`escape_bytes`], to `dst`, and with no count. A clean short text needs no frame.
 #[inline(never)]
-pub(crate) fn escape_at<V: Vector<N>, const MODE: u8, const N: usize>(
+pub(crate) fn escape_at<V: Classifier<MODE, N>, const MODE: u8, const N: usize>(
     src: &[u8],
     dst: &mut [u8],
     to: usize,
@@ -86,7 +86,7 @@ pub(crate) fn escape_at<V: Vector<N>, const MODE: u8, const N: usize>(
 
 /// As [`escape_at`], of a short text, by its masks.
 #[inline(never)]
-fn escape_short_at<V: Vector<N>, const MODE: u8, const N: usize>(
+fn escape_short_at<V: Classifier<MODE, N>, const MODE: u8, const N: usize>(
     text: &[u8],
     first: EscapeMask<MODE>,
     last: EscapeMask<MODE>,
@@ -102,7 +102,7 @@ fn escape_short_at<V: Vector<N>, const MODE: u8, const N: usize>(
 
 /// As [`escape_at`], of any text.
 #[inline(never)]
-fn escape_any_at<V: Vector<N>, const MODE: u8, const N: usize>(
+fn escape_any_at<V: Classifier<MODE, N>, const MODE: u8, const N: usize>(
     src: &[u8],
     dst: &mut [u8],
     to: usize,

@@ -5,7 +5,7 @@ ghost use Rattle.escape_lanes.specs.Written.{bytes_of};
 ghost use Rattle.escape_simd.specs.Modes.{mode_numbered};
 ghost use Rattle.escape_simd.specs.Stretch.{Escapes, IsFinished, IsVectorAt, IsVectorEnd, reach, state};
 
-use crate::simd::Vector;
+use crate::simd::Classifier;
 use crate::simd::store::store;
 use crate::simd::util::{are_paid, are_short, escape_blocks, escape_run};
 use escape_lanes::simd::LoadStore;
@@ -96,7 +96,12 @@ pub(crate) fn escape_by_turns<V: LoadStore, const MODE: u8, const N: usize, cons
 ///
 /// Where `LAST`, these may be the text's last bytes.
 #[inline(always)]
-pub(crate) fn escape_by_mask<V: Vector<N>, const MODE: u8, const N: usize, const LAST: bool>(
+pub(crate) fn escape_by_mask<
+    V: Classifier<MODE, N>,
+    const MODE: u8,
+    const N: usize,
+    const LAST: bool,
+>(
     src: &[u8],
     at: usize,
     valid: usize,

@@ -5,7 +5,7 @@ ghost use Rattle.escape_lanes.specs.Written.{bytes_of};
 ghost use Rattle.escape_simd.specs.Modes.{mode_numbered};
 ghost use Rattle.escape_simd.specs.Stretch.{Escapes, HasVectors, Passed, state};
 
-use crate::simd::Vector;
+use crate::simd::Classifier;
 use crate::simd::by_mask::escape_by_mask;
 use crate::simd::store::store_lanes;
 use escape_lanes::simd::escape_mask::{EscapeMask, classify_four};
@@ -14,7 +14,7 @@ use escape_lanes::simd::target::{Target, Ticks};
 /// Escapes the text's vector at `at` from `from` on, by its mask: the vector before may have passed the rest of a
 /// separator. Returns the places after it.
 #[inline(always)]
-pub(crate) fn vector_from<V: Vector<N>, const MODE: u8, const N: usize>(
+pub(crate) fn vector_from<V: Classifier<MODE, N>, const MODE: u8, const N: usize>(
     src: &[u8],
     at: usize,
     from: usize,
@@ -37,7 +37,7 @@ pub(crate) fn vector_from<V: Vector<N>, const MODE: u8, const N: usize>(
 /// Escapes four vectors of the text. They are classified at once, since most are clean. Returns the places after
 /// them.
 #[inline(always)]
-pub(crate) fn chunk<V: Vector<N>, const MODE: u8, const N: usize>(
+pub(crate) fn chunk<V: Classifier<MODE, N>, const MODE: u8, const N: usize>(
     src: &[u8],
     at: usize,
     target: &mut Target<'_, N>,

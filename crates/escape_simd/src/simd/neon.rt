@@ -9,8 +9,7 @@ ghost use Rattle.escape_simd.specs.Laws.{IsOfOneText};
 
 use crate::simd::{HTML_MODE, JSON_MODE, SCRIPT_MODE, whole};
 pub use escape_lanes::simd::neon::{
-    Flags128, Mask128, Simd128u, escaped_flags, escaped_mask, escaped_mask_vec, script_flags,
-    script_mask,
+    Mask128, Simd128u, escaped_mask, escaped_mask_vec, script_mask,
 };
 use escape_lanes::simd::target::{Target, Ticks};
 
@@ -29,7 +28,10 @@ pub fn format_target<const HTML: bool>(
     ensures { IsFormatted (mode_of HTML) value.now
         target.old target.new result ticks.old ticks.new }
 {
-    whole::format_target::<Simd128u, HTML, 16>(value, target, ticks)
+    if HTML {
+        return whole::format::<Simd128u, { HTML_MODE }, 16>(value, target, ticks);
+    }
+    whole::format::<Simd128u, { JSON_MODE }, 16>(value, target, ticks)
 }
 
 /// As [`format_target`], with the target made over `dst`.

@@ -8,7 +8,7 @@ ghost use Rattle.escape_simd.specs.Modes.{mode_numbered};
 ghost use Rattle.escape_simd.specs.Output.{inner};
 ghost use Rattle.escape_simd.specs.Stretch.{AreTailMasks, Escapes, HasRoom, reach, state};
 
-use crate::simd::Vector;
+use crate::simd::Classifier;
 use crate::simd::by_mask::escape_by_mask;
 use crate::simd::store::store_lanes;
 use escape_lanes::simd::escape_mask::{EscapeMask, classify, classify_front};
@@ -36,7 +36,7 @@ impl<const MODE: u8> TailMasks<MODE> {
 
 /// Loads a text of fewer bytes than a vector has, and classifies it.
 #[inline(always)]
-pub(crate) fn classify_short<V: Vector<N>, const MODE: u8, const N: usize>(
+pub(crate) fn classify_short<V: Classifier<MODE, N>, const MODE: u8, const N: usize>(
     text: &[u8],
     ticks: &mut Ticks,
 ) -> (V, TailMasks<MODE>)
@@ -54,7 +54,7 @@ pub(crate) fn classify_short<V: Vector<N>, const MODE: u8, const N: usize>(
 /// Loads and classifies the first and the last vector of a text of as many bytes as a vector has or more, and of fewer than
 /// two have.
 #[inline(always)]
-pub(crate) fn classify_pair<V: Vector<N>, const MODE: u8, const N: usize>(
+pub(crate) fn classify_pair<V: Classifier<MODE, N>, const MODE: u8, const N: usize>(
     text: &[u8],
     ticks: &mut Ticks,
 ) -> (V, V, TailMasks<MODE>)
@@ -72,7 +72,7 @@ pub(crate) fn classify_pair<V: Vector<N>, const MODE: u8, const N: usize>(
 
 /// Returns the last vector of a text, with zeros after it, so that a vector can be loaded from each of its bytes on.
 #[inline(always)]
-fn spill_last<V: Vector<N>, const N: usize>(text: &[u8]) -> [[u8; N]; 2]
+fn spill_last<V: Classifier<MODE, N>, const MODE: u8, const N: usize>(text: &[u8]) -> [[u8; N]; 2]
     ensures { flat_map (λ row. row) result
         ≡ drop (length text.now - N) text.now ++ replicate (2 * N - min (length text.now) N) 0 }
 {
@@ -88,7 +88,7 @@ fn spill_last<V: Vector<N>, const N: usize>(text: &[u8]) -> [[u8; N]; 2]
 /// Escapes the bytes before the last vector of a text shorter than two vectors, by the mask of its first one.
 /// Returns how many bytes of the last vector it passed (the rest of a separator, in script mode), and the place after them.
 #[inline(always)]
-fn escape_before_last<V: Vector<N>, const MODE: u8, const N: usize>(
+fn escape_before_last<V: Classifier<MODE, N>, const MODE: u8, const N: usize>(
     text: &[u8],
     first: EscapeMask<MODE>,
     target: &mut Target<'_, N>,
@@ -115,7 +115,7 @@ fn escape_before_last<V: Vector<N>, const MODE: u8, const N: usize>(
 
 /// Escapes a text shorter than two vectors, by its masks. Returns the place after it.
 #[inline(always)]
-pub(crate) fn escape_flagged_tail<V: Vector<N>, const MODE: u8, const N: usize>(
+pub(crate) fn escape_flagged_tail<V: Classifier<MODE, N>, const MODE: u8, const N: usize>(
     text: &[u8],
     first: EscapeMask<MODE>,
     last: EscapeMask<MODE>,
@@ -131,7 +131,7 @@ pub(crate) fn escape_flagged_tail<V: Vector<N>, const MODE: u8, const N: usize>(
         (state target.old 0 to ticks.old) (state target.new (length text.now) result ticks.new) }
 {
     let (skipped, end) = escape_before_last::<V, MODE, N>(text, first, target, to, ticks);
-    let rows = spill_last::<V, N>(text);
+    let rows = spill_last::<V, MODE, N>(text);
     let left = text.len().min(N) - skipped;
     let mask = last.skip(skipped);
     let held = &rows.as_flattened()[skipped..];
@@ -141,7 +141,7 @@ pub(crate) fn escape_flagged_tail<V: Vector<N>, const MODE: u8, const N: usize>(
 /// Stores a text shorter than two vectors, if none of its bytes is flagged. Returns the place after it, or else its
 /// masks.
 #[inline(always)]
-pub(crate) fn store_clean_tail<V: Vector<N>, const MODE: u8, const N: usize>(
+pub(crate) fn store_clean_tail<V: Classifier<MODE, N>, const MODE: u8, const N: usize>(
     text: &[u8],
     target: &mut Target<'_, N>,
     to: usize,
@@ -179,7 +179,7 @@ pub(crate) fn store_clean_tail<V: Vector<N>, const MODE: u8, const N: usize>(
 
 /// Escapes a text shorter than two vectors. Returns the place after it.
 #[inline(always)]
-pub(crate) fn escape_tail<V: Vector<N>, const MODE: u8, const N: usize>(
+pub(crate) fn escape_tail<V: Classifier<MODE, N>, const MODE: u8, const N: usize>(
     text: &[u8],
     target: &mut Target<'_, N>,
     to: usize,
@@ -202,7 +202,7 @@ pub(crate) fn escape_tail<V: Vector<N>, const MODE: u8, const N: usize>(
 
 /// As [`escape_flagged_tail`], to `dst`, and with no count.
 #[inline(always)]
-pub(crate) fn escape_flagged_at<V: Vector<N>, const MODE: u8, const N: usize>(
+pub(crate) fn escape_flagged_at<V: Classifier<MODE, N>, const MODE: u8, const N: usize>(
     text: &[u8],
     first: EscapeMask<MODE>,
     last: EscapeMask<MODE>,

@@ -9,9 +9,7 @@ ghost use Rattle.escape_simd.specs.Laws.{IsOfOneText};
 
 use crate::simd::{HTML_MODE, JSON_MODE, SCRIPT_MODE, whole};
 use escape_lanes::simd::target::{Target, Ticks};
-pub use escape_lanes::simd::v128::{
-    Flags128, Mask128, Simd128u, escaped_flags, escaped_mask, script_flags, script_mask,
-};
+pub use escape_lanes::simd::v128::{Mask128, Simd128u, escaped_mask, script_mask};
 
 /// Escapes the text to the front of the target, as HTML if `HTML`, else as a JSON string literal,
 /// and returns how many bytes it became.
@@ -28,7 +26,10 @@ pub fn format_target<const HTML: bool>(
     ensures { IsFormatted (mode_of HTML) value.now
         target.old target.new result ticks.old ticks.new }
 {
-    whole::format_target::<Simd128u, HTML, 16>(value, target, ticks)
+    if HTML {
+        return whole::format::<Simd128u, { HTML_MODE }, 16>(value, target, ticks);
+    }
+    whole::format::<Simd128u, { JSON_MODE }, 16>(value, target, ticks)
 }
 
 /// As [`format_target`], with the target made over `dst`.

@@ -1,6 +1,5 @@
 //! A whole text: its bytes between quotation marks.
 ghost use Rattle.std.specs.Prelude.{◌<◌, ◌≤◌, length, take, chars};
-ghost use Rattle.escape_lanes.specs.Mode.{mode_of};
 ghost use Rattle.escape_lanes.specs.Written.{bytes_of};
 ghost use Rattle.escape_simd.specs.Formatted.{IsFormatted, IsQuoted, IsWritten};
 ghost use Rattle.escape_simd.specs.Headline.{IsOnlyOutput};
@@ -9,9 +8,9 @@ ghost use Rattle.escape_simd.specs.Modes.{mode_numbered};
 ghost use Rattle.escape_simd.specs.Output.{bound};
 ghost use Rattle.escape_simd.specs.Stretch.{AreTailMasks};
 
+use crate::simd::Classifier;
 use crate::simd::body::escape_bytes;
 use crate::simd::tail::{escape_flagged_tail, store_clean_tail};
-use crate::simd::{HTML_MODE, JSON_MODE, Vector};
 use escape_lanes::simd::escape_mask::EscapeMask;
 use escape_lanes::simd::mode::is_quoted;
 use escape_lanes::simd::target::{Target, Ticks};
@@ -31,7 +30,7 @@ fn quote<const MODE: u8, const N: usize>(target: &mut Target<'_, N>, to: usize) 
 
 /// Escapes the text to the front of the target. Returns how many bytes it became.
 #[inline(always)]
-pub(crate) fn format<V: Vector<N>, const MODE: u8, const N: usize>(
+pub(crate) fn format<V: Classifier<MODE, N>, const MODE: u8, const N: usize>(
     value: &str,
     target: &mut Target<'_, N>,
     ticks: &mut Ticks,
@@ -45,28 +44,14 @@ pub(crate) fn format<V: Vector<N>, const MODE: u8, const N: usize>(
     quote::<MODE, N>(target, close)
 }
 
-/// As [`format`], as HTML if `HTML`, else as JSON.
-#[inline(always)]
-pub(crate) fn format_target<V: Vector<N>, const HTML: bool, const N: usize>(
-    value: &str,
-    target: &mut Target<'_, N>,
-    ticks: &mut Ticks,
-) -> usize
-    requires { bound (mode_of HTML) (length value.now) ≤ length (bytes_of target.old) }
-    ensures { IsFormatted (mode_of HTML) value.now
-        target.old target.new result ticks.old ticks.new }
-{
-    if HTML {
-        return format::<V, { HTML_MODE }, N>(value, target, ticks);
-    }
-    format::<V, { JSON_MODE }, N>(value, target, ticks)
-}
-
 /// As [`format`], to `dst`, and with no count.
 ///
 /// The target is made here: so the compiler keeps it in registers.
 #[inline(never)]
-fn format_slice<V: Vector<N>, const MODE: u8, const N: usize>(value: &str, dst: &mut [u8]) -> usize
+fn format_slice<V: Classifier<MODE, N>, const MODE: u8, const N: usize>(
+    value: &str,
+    dst: &mut [u8],
+) -> usize
     requires { bound (mode_numbered MODE) (length value.now) ≤ length dst.old }
     ensures { IsWritten N (mode_numbered MODE) value.now dst.old dst.new result }
 {
@@ -78,7 +63,7 @@ fn format_slice<V: Vector<N>, const MODE: u8, const N: usize>(value: &str, dst: 
 ///
 /// The masks are arguments of their own, so that they are passed in registers.
 #[inline(never)]
-fn format_flagged<V: Vector<N>, const MODE: u8, const N: usize>(
+fn format_flagged<V: Classifier<MODE, N>, const MODE: u8, const N: usize>(
     text: &[u8],
     first: EscapeMask<MODE>,
     last: EscapeMask<MODE>,
@@ -103,7 +88,7 @@ fn format_flagged<V: Vector<N>, const MODE: u8, const N: usize>(
 
 /// As [`format`], with the target made over `dst`. A clean short text needs no frame.
 #[inline(never)]
-pub(crate) fn format_in_mode<V: Vector<N>, const MODE: u8, const N: usize>(
+pub(crate) fn format_in_mode<V: Classifier<MODE, N>, const MODE: u8, const N: usize>(
     value: &str,
     dst: &mut [u8],
 ) -> usize

@@ -6,7 +6,7 @@ ghost use Rattle.escape_lanes.specs.Replacement.{needs_escape};
 
 use crate::simd::lanes;
 use crate::simd::neon::script_needs;
-use crate::simd::sse2::{Simd128u};
+use crate::simd::sse2::Simd128u;
 use crate::simd::target::Ticks;
 use crate::simd::traits::{BitMask, Simd};
 

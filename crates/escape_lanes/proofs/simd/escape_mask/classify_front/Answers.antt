@@ -5,6 +5,5 @@ use Rattle.escape_lanes.proofs.simd.escape_mask.classify_front.Goals as goal
 
 pub invariant_of-result : goal.invariant_of-result
 invariant_of-result g c =
-    let met = g.met.V.Vector in let wide = g.met.V.LoadStore.width c.args.v.now ∙ met.lane_count in let lanes = g.V.LoadStore.lanes c.args.v.now in
-    let whole = c.bits.ensures ∙ ap (λ m. g.V.Flags.Flags.truths c.flags.result ++ replicate (64 - m) false) met.flag_count ∙ ap (λ t. t ++ replicate (64 - g.row.N) false) c.flags.ensures.lanes in
-    rw (c.clear_high_bits.ensures, c.of.ensures.0, c.of.ensures.1) (mask-front (mode_numbered g.row.MODE) lanes c.args.bytes.now c.bits.result (64 - g.row.N) c.requires.begun (omega (arith, wide, c.requires.few)) (omega (arith, wide, met.most)) whole)
+    let met = g.met.V.Classifier in let wide = g.met.V.LoadStore.width c.args.v.now ∙ met.lane_count in let lanes = g.V.LoadStore.lanes c.args.v.now in
+    rw (c.clear_high_bits.ensures, c.of.ensures.0, c.of.ensures.1) (mask-front (mode_numbered g.row.MODE) lanes c.args.bytes.now c.escape_bits.result (64 - g.row.N) c.requires.begun (omega (arith, wide, c.requires.few)) (omega (arith, wide, met.most)) c.escape_bits.ensures.lanes)

@@ -6,4 +6,4 @@ pub returns : goal.returns
 returns c =
     let low = c.flag_bits.ensures in let high = c.flag_bits-2.ensures in
     bits-both c.flag_bits.result c.flag_bits-2.result _ _ low.below high.below low.bits high.bits
-    ∙ sym (flagged-words c.args.flags.now.low c.args.flags.now.high)
+    ∙ sym (flagged-words c.args.low c.args.high)

@@ -11,7 +11,7 @@ chunk-requires g c =
 pub chunks-preserved : goal.chunks-preserved
 chunks-preserved g c =
     let i = c.chunks.invariant.stretch.inside in
-    body-on c.chunks.invariant 4 g.met.V.Vector.several (omega (arith, c.chunks-test.true, i)) (omega arith) (omega arith) c.chunk.ensures
+    body-on c.chunks.invariant 4 g.met.V.Classifier.several (omega (arith, c.chunks-test.true, i)) (omega arith) (omega arith) c.chunk.ensures
 
 pub vector_from-requires : goal.vector_from-requires
 vector_from-requires g c =
@@ -22,7 +22,7 @@ vector_from-requires g c =
 pub vectors-preserved : goal.vectors-preserved
 vectors-preserved g c =
     let i = c.vectors.invariant.stretch.inside in
-    body-on c.vectors.invariant 1 g.met.V.Vector.several (omega (arith, c.vectors-test.true, i)) (omega arith) (omega arith) (escapes-bordered (omega arith) (escapes-asked c.vectors.ticks 1 c.classify-mask.ensures.tick c.vector_from.ensures))
+    body-on c.vectors.invariant 1 g.met.V.Classifier.several (omega (arith, c.vectors-test.true, i)) (omega arith) (omega arith) (escapes-bordered (omega arith) (escapes-asked c.vectors.ticks 1 c.classify-mask.ensures.tick c.vector_from.ensures))
 
 pub escape_tail-requires : goal.escape_tail-requires
 escape_tail-requires g c =
@@ -30,4 +30,4 @@ escape_tail-requires g c =
     (omega arith, body-rest c.vectors.invariant c.requires (omega (arith, c.vectors-test.false, i)))
 
 pub returns : goal.returns
-returns g c = body-all c.vectors.invariant g.met.V.Vector.several c.escape_tail.ensures
+returns g c = body-all c.vectors.invariant g.met.V.Classifier.several c.escape_tail.ensures

@@ -7,7 +7,7 @@ use Rattle.escape_simd.proofs.Vectors.{escapes-ended, escapes-later, vector-bloc
 use Rattle.escape_simd.proofs.simd.by_mask.escape_by_mask.Goals as goal
 
 pub store-requires : goal.store-requires
-store-requires g c = (omega arith, (omega arith, (g.met.V.Vector.lane_count, ap told_by c.requires.0, vector-stores c.requires.1)))
+store-requires g c = (omega arith, (omega arith, (g.met.V.Classifier.lane_count, ap told_by c.requires.0, vector-stores c.requires.1)))
 
 pub returns-then-is_clear : goal.returns-then-is_clear
 returns-then-is_clear g c =
@@ -20,13 +20,13 @@ are_paid-requires-clause-some g c = rw c.bits-bits.ensures (sym c.is_clear.ensur
 
 pub escape_blocks-end-requires : goal.escape_blocks-end-requires
 escape_blocks-end-requires g c =
-    let v = c.requires.1 in let met = g.met.V.Vector in let far = reach-bounds (not (nat_eq (value_of (number g.row.LAST)) 0)) g.row.N met.several in
+    let v = c.requires.1 in let met = g.met.V.Classifier in let far = reach-bounds (not (nat_eq (value_of (number g.row.LAST)) 0)) g.row.N met.several in
     let short = rw c.bits-bits.ensures at (c.are_short.ensures c.if-are_short.true) in
     (omega arith, (omega arith, (c.requires.0, v.few, met.sixteens, met.most, omega (arith, v.inside), vector-has_blocks c.requires.0 v (omega (arith, far)) met.several met.most short (sym c.is_clear.ensures ∙ c.if-is_clear.false))))
 
 pub returns-then-are_short : goal.returns-then-are_short
 returns-then-are_short g c =
-    let met = g.met.V.Vector in let far = reach-bounds (not (nat_eq (value_of (number g.row.LAST)) 0)) g.row.N met.several in
+    let met = g.met.V.Classifier in let far = reach-bounds (not (nat_eq (value_of (number g.row.LAST)) 0)) g.row.N met.several in
     let short = rw c.bits-bits.ensures at (c.are_short.ensures c.if-are_short.true) in let paid = rw c.bits-bits.ensures at (c.are_paid.ensures c.if-are_paid.true) in
     let e = c.escape_blocks-end.ensures in
     vector-blocks c.requires.0 c.requires.1 (omega (arith, far)) met.several met.most short c.bits-bits.result c.bits-bits.ensures paid e.stretch e.stored e.ticks
@@ -39,9 +39,9 @@ escape_by_turns-next-requires g c =
       (
         omega arith,
         (
-          g.met.V.Vector.lane_count,
-          g.met.V.Vector.several,
-          g.met.V.Vector.most,
+          g.met.V.Classifier.lane_count,
+          g.met.V.Classifier.several,
+          g.met.V.Classifier.most,
           c.requires.0 ∙ ap (λ xs. whole_mask (take c.args.valid xs)) (sym is),
           sym c.is_clear.ensures ∙ c.if-is_clear.false,
           vector-later (mode_numbered g.row.MODE) g.row.N (reach (not (nat_eq (value_of (number g.row.LAST)) 0)) g.row.N) src (take (length src - at) (drop at src)) at c.args.valid c.args.to (length (bytes_of c.args.target.now)) is c.requires.1,

@@ -16,22 +16,22 @@ module _ {N vectors : ℕ} {mode : Mode} {src : List ℕ} {at to size : ℕ} (r 
 
 pub store_lanes-next-requires : goal.store_lanes-next-requires
 store_lanes-next-requires g c =
-    (omega arith, (omega arith, store-at c.requires 0 c.args.at c.args.at c.args.to c.args.target.now g.met.V.Vector.lane_count c.classify_four-v1.ensures.first (omega arith) refl (omega arith) (omega arith) (omega arith) refl))
+    (omega arith, (omega arith, store-at c.requires 0 c.args.at c.args.at c.args.to c.args.target.now g.met.V.Classifier.lane_count c.classify_four-v1.ensures.first (omega arith) refl (omega arith) (omega arith) (omega arith) refl))
 
 pub store_lanes-next-requires-then-clear : goal.store_lanes-next-requires-then-clear
 store_lanes-next-requires-then-clear g c =
     let n : ℕ = g.row.N in let s = c.store_lanes-next in let e = s.ensures in
-    (omega arith, (omega arith, store-at c.requires n (c.args.at + n) s.result.0 s.result.1 s.new.target g.met.V.Vector.lane_count c.classify_four-v1.ensures.second refl e.places.0 e.places.1 (omega arith) (omega arith) e.stored.same_slice.len))
+    (omega arith, (omega arith, store-at c.requires n (c.args.at + n) s.result.0 s.result.1 s.new.target g.met.V.Classifier.lane_count c.classify_four-v1.ensures.second refl e.places.0 e.places.1 (omega arith) (omega arith) e.stored.same_slice.len))
 
 pub store_lanes-next-requires-then-clear-2 : goal.store_lanes-next-requires-then-clear-2
 store_lanes-next-requires-then-clear-2 g c =
     let n : ℕ = g.row.N in let e = c.store_lanes-next.ensures in let s = c.store_lanes-next-then-clear in let e2 = s.ensures in
-    (omega arith, (omega arith, store-at c.requires (2 * n) (c.args.at + 2 * n) s.result.0 s.result.1 s.new.target g.met.V.Vector.lane_count c.classify_four-v1.ensures.third refl (omega (arith, e.places.0, e2.places.0)) (omega (arith, e.places.1, e2.places.1)) (omega arith) (omega arith) (e2.stored.same_slice.len ∙ e.stored.same_slice.len)))
+    (omega arith, (omega arith, store-at c.requires (2 * n) (c.args.at + 2 * n) s.result.0 s.result.1 s.new.target g.met.V.Classifier.lane_count c.classify_four-v1.ensures.third refl (omega (arith, e.places.0, e2.places.0)) (omega (arith, e.places.1, e2.places.1)) (omega arith) (omega arith) (e2.stored.same_slice.len ∙ e.stored.same_slice.len)))
 
 pub store_lanes-requires : goal.store_lanes-requires
 store_lanes-requires g c =
     let n : ℕ = g.row.N in let e = c.store_lanes-next.ensures in let e2 = c.store_lanes-next-then-clear.ensures in let s = c.store_lanes-next-then-clear-2 in let e3 = s.ensures in
-    (omega arith, (omega arith, store-at c.requires (3 * n) (c.args.at + 3 * n) s.result.0 s.result.1 s.new.target g.met.V.Vector.lane_count c.classify_four-v1.ensures.fourth refl (omega (arith, e.places.0, e2.places.0, e3.places.0)) (omega (arith, e.places.1, e2.places.1, e3.places.1)) (omega arith) (omega arith) (e3.stored.same_slice.len ∙ e2.stored.same_slice.len ∙ e.stored.same_slice.len)))
+    (omega arith, (omega arith, store-at c.requires (3 * n) (c.args.at + 3 * n) s.result.0 s.result.1 s.new.target g.met.V.Classifier.lane_count c.classify_four-v1.ensures.fourth refl (omega (arith, e.places.0, e2.places.0, e3.places.0)) (omega (arith, e.places.1, e2.places.1, e3.places.1)) (omega arith) (omega arith) (e3.stored.same_slice.len ∙ e2.stored.same_slice.len ∙ e.stored.same_slice.len)))
 
 -- a vector of a clean chunk was stored
 module _ {N : ℕ} {mode : Mode} {src : List ℕ} {at : ℕ} (inside : at + 4 * N ≤ length src) (clean : CleanFrom mode src at (at + 4 * N)) where

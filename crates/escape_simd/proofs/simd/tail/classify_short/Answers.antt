@@ -5,11 +5,11 @@ use Rattle.escape_simd.proofs.simd.tail.classify_short.Goals as goal
 pub classify_front-last-requires : goal.classify_front-last-requires
 classify_front-last-requires g c =
     let text : List ℕ = c.args.text.now in
-    let loaded = loaded-short text (g.V.LoadStore.lanes c.load_last-v.result) g.row.N g.V.LoadStore.LANES g.met.V.Vector.lane_count c.load_last-v.ensures in
+    let loaded = loaded-short text (g.V.LoadStore.lanes c.load_last-v.result) g.row.N g.V.LoadStore.LANES g.met.V.Classifier.lane_count c.load_last-v.ensures in
     (omega arith, (omega (arith, c.requires), ap (take (length text)) loaded ∙ take-append_seam text (replicate (g.row.N - length text) 0)))
 
 pub returns-clause-loaded : goal.returns-clause-loaded
-returns-clause-loaded g c = loaded-short c.args.text.now (g.V.LoadStore.lanes c.load_last-v.result) g.row.N g.V.LoadStore.LANES g.met.V.Vector.lane_count c.load_last-v.ensures
+returns-clause-loaded g c = loaded-short c.args.text.now (g.V.LoadStore.lanes c.load_last-v.result) g.row.N g.V.LoadStore.LANES g.met.V.Classifier.lane_count c.load_last-v.ensures
 
 pub returns-clause-masks : goal.returns-clause-masks
 returns-clause-masks g c =

@@ -39,5 +39,5 @@ returns-in-Err g c =
     let mode = mode_numbered g.row.MODE in let opened : ℕ = c.quote-open.result in
     let q = subst (λ (xs : List ℕ). IsWrittenAt 0 (quote_of mode) xs (bytes_of c.quote-open.new.target) 0 opened) c.new-target.ensures.bytes c.quote-open.ensures.quoted in
     let kept = subst (λ t. IsWrittenAt 0 (quote_of mode) c.args.dst.now (bytes_of t) 0 opened) (sym c.in-Err.ensures.unchanged) q in
-    let w = quoted-before {opened = opened} g.met.V.Vector.several c.format_flagged.ensures (search (rules, kept)) in
+    let w = quoted-before {opened = opened} g.met.V.Classifier.several c.format_flagged.ensures (search (rules, kept)) in
     written-laws (subst (λ (xs : List ℕ). IsWritten g.row.N mode xs c.args.dst.now c.format_flagged.new.dst c.format_flagged.result) c.as_bytes-text.ensures.value w) c.utf8.value

@@ -132,16 +132,6 @@ pub(crate) fn one_of<const N: usize>(one: &Simd<u8, N>, other: &Simd<u8, N>) -> 
     *one ^ *other
 }
 
-/// Returns whether no lane is flagged.
-#[inline(always)]
-pub(crate) fn none<const N: usize>(flags: &Simd<u8, N>) -> bool
-    requires bytes { AreBytes N flags.now }
-    requires few { N ≤ 64 }
-    ensures { result ≡ none_set (flagged_lanes flags.now) }
-{
-    flag_bits(flags) == 0
-}
-
 /// A mask that is set where a lane is flagged.
 #[inline(always)]
 pub(crate) fn flag_mask<const N: usize>(flags: &Simd<u8, N>) -> Simd<u8, N>

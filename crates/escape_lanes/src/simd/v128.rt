@@ -84,14 +84,6 @@ fn lanes_of(v: &Simd128u) -> [u8; 16]
 /// The top bit of each lane of a word.
 const TOPS: u64 = 0x8080_8080_8080_8080;
 
-/// Returns whether no lane of a word is flagged.
-#[inline(always)]
-fn none_in(flags: u64) -> bool
-    ensures { result ≡ none_set (flagged_lanes (lanes_of_word flags)) }
-{
-    flags & TOPS == 0
-}
-
 /// Returns one bit for each lane of a word that is flagged, the first lane's lowest.
 ///
 /// The product has the top bit of lane `i` at `56 + i`, since lane `i` of the word meets one bit of

@@ -1,4 +1,4 @@
-use Rattle.std.proofs.Common.{◌-◌, ◌++◌, ◌∙◌, replicate, false, ap, arith}
+use Rattle.std.proofs.Common.{◌-◌, ◌∙◌, arith}
 use Rattle.escape_lanes.proofs.EscapeMaskLemmas.{mask-front}
 use Rattle.escape_lanes.specs.Mode.{mode_numbered}
 use Rattle.escape_lanes.proofs.simd.escape_mask.classify_front.Goals as goal

@@ -1,4 +1,3 @@
-use Rattle.std.proofs.Common.{refl}
 use Rattle.escape_lanes.specs.Mode.{mode_numbered}
 use Rattle.escape_lanes.proofs.EscapeMaskLemmas.{is-json, mask-wide}
 use Rattle.escape_lanes.proofs.simd.neon.Simd128uClassifier16.escape_bits.Goals as goal

@@ -176,15 +176,16 @@ pub fn classify<V: Classifier<MODE, N>, const MODE: u8, const N: usize>(
     (v, mask)
 }
 
-/// Classifies the first lanes of a loaded vector that begins with these bytes. Ticks once.
+/// Classifies the first lanes of a loaded vector that begins with these bytes, of which there are some. Ticks once.
 #[inline(always)]
 pub fn classify_front<V: Classifier<MODE, N>, const MODE: u8, const N: usize>(
     v: &V,
     bytes: &[u8],
     ticks: &mut Ticks,
 ) -> EscapeMask<MODE>
-    requires few { length bytes.now ≤ N }
-    requires begun { take (length bytes.now) (V.lanes v.now) ≡ bytes.now }
+    requires { (0 < length bytes.now)
+        × (length bytes.now ≤ N)
+        × (take (length bytes.now) (V.lanes v.now) ≡ bytes.now) }
     ensures told { result ≡ whole_mask bytes.now }
     ensures tick { ticks.new ≡ ticks.old + 1 }
 {

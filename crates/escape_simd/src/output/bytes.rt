@@ -23,6 +23,9 @@ pub(super) fn append_last<const MODE: u8, A: Allocator>(text: &[u8], dst: &mut V
 {
     let (count, len) = (text.len(), dst.len());
     let masks = if count < N {
+        if count == 0 {
+            return push_quote::<MODE, A>(dst);
+        }
         let (v, masks) = classify_short::<V, MODE, N>(text, &mut Ticks::new());
         if masks.are_clear() {
             push_all(dst, &lanes(&v));

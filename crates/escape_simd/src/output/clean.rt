@@ -25,6 +25,9 @@ pub(super) fn mask_at<const MODE: u8>(src: &[u8], at: usize, count: usize) -> Es
     if count == N {
         return classify::<V, MODE, N>(src, at, &mut ticks).1;
     }
+    if count == 0 {
+        return EscapeMask::empty();
+    }
     classify_front::<V, MODE, N>(&V::load_last(src, count), &src[at..], &mut ticks)
 }
 

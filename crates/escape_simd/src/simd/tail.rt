@@ -34,13 +34,13 @@ impl<const MODE: u8> TailMasks<MODE> {
     }
 }
 
-/// Loads a text of fewer bytes than a vector has, and classifies it.
+/// Loads a text of fewer bytes than a vector has, and some, and classifies it.
 #[inline(always)]
 pub(crate) fn classify_short<V: Classifier<MODE, N>, const MODE: u8, const N: usize>(
     text: &[u8],
     ticks: &mut Ticks,
 ) -> (V, TailMasks<MODE>)
-    requires { length text.now < N }
+    requires { (0 < length text.now) × (length text.now < N) }
     ensures loaded { V.lanes result.0 ≡ text.now ++ replicate (N - length text.now) 0 }
     ensures masks { AreTailMasks N text.now result.1.first result.1.last }
     ensures tick { ticks.new ≡ ticks.old + 1 }
@@ -159,6 +159,10 @@ pub(crate) fn store_clean_tail<V: Classifier<MODE, N>, const MODE: u8, const N: 
 {
     let count = text.len();
     if count < N {
+        // No byte, so none is classified or stored.
+        if count == 0 {
+            return Ok(to);
+        }
         let (v, masks) = classify_short::<V, MODE, N>(text, ticks);
         if !masks.are_clear() {
             return Err(masks);

@@ -13,7 +13,7 @@ classify_front-requires g c =
     let here : length src - count ≡ at = omega (arith, ends) in
     let all : take (length src - at) (drop at src) ≡ drop at src = take_all (length src - at) (drop at src) (omega (arith, length-drop at src)) in
     let loaded = c.load_last.ensures ∙ ap (λ k. drop k src ++ replicate (32 - count) 0) here in
-    (omega arith, (omega (arith, ap length all, length-drop at src, ends, c.requires.few), rw all (ap (take (length (drop at src))) loaded ∙ take-append_seam (drop at src) (replicate (32 - count) 0))))
+    (omega arith, (omega (arith, ap length all, length-drop at src, ends, c.if-count-eq0.false), omega (arith, ap length all, length-drop at src, ends, c.requires.few), rw all (ap (take (length (drop at src))) loaded ∙ take-append_seam (drop at src) (replicate (32 - count) 0))))
 
 pub returns : goal.returns
 returns g c =

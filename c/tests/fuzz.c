@@ -1,10 +1,9 @@
 /* Calls the library with made-up texts and compares all that each call leaves with a model, which says what
  * docs/FORMATS.md says, character by character. The model has tables of its own.
  *
- *     fuzz [SEED [SECONDS]]     SECONDS of the processor's time: 20 if not given
+ *     fuzz [SEED [SECONDS]]     at most SECONDS of the processor's time: 20 if not given
  *
- * Prints `passed NAME` or `failed NAME` for each part, and how many calls it made. A part may take a sixth of the time,
- * and the last one what the others leave. */
+ * Prints `passed NAME` or `failed NAME` for each part, and how many calls it made. It ends at the first that failed. */
 #include "escape.h"
 
 #include <signal.h>
@@ -395,7 +394,7 @@ static void each_place(void) {
     size_t length, place, c;
     for (length = 1; length <= 330; length += length < 200 ? 1 : 13)
         for (place = 0; place < length; place++)
-            for (c = place % 2; c < CHARACTER_COUNT; c += 2) {
+            for (c = (length + place) % 3; c < CHARACTER_COUNT; c += 3) {
                 size_t size = strlen(CHARACTERS[c]);
                 if (place + size > length) continue;
                 text_length = 0;
@@ -528,33 +527,34 @@ static size_t random_length(void) {
 static void random_texts(void) {
     while (!is_over()) {
         struct place place;
-        size_t times;
         random_text(random_length());
         /* One byte may be another: mostly that is no text. */
         if (below(16) == 0 && text_length) text[below(text_length)] = (byte)below(256);
-        for (times = 0; times < 8; times++) {
-            place.at_end = (int)below(2);
-            place.text_shift = below(2) * below(64);
-            place.buffer_shift = below(2) * below(64);
-            each_call(text, text_length, &place);
-            if (text_length > 200) break;
-        }
+        place.at_end = (int)below(2);
+        place.text_shift = below(2) * below(64);
+        place.buffer_shift = below(2) * below(64);
+        each_call(text, text_length, &place);
     }
 }
 
 /* --- the parts ------------------------------------------------------------------------------------ */
 
-static int failed_parts;
-
-/* A part that ends at that second of the processor's time. */
-static void part(const char *name, void (*body)(void), double end) {
+/* Calls of one kind, for at most so long: whether they were right. */
+static int passes(const char *name, void (*body)(void), double seconds) {
     uint64_t before = calls;
-    part_end = (clock_t)(end * CLOCKS_PER_SEC);
-    is_cut = faults = 0;
+    part_end = clock() + (clock_t)(seconds * CLOCKS_PER_SEC);
+    is_cut = 0;
     body();
     printf("%s fuzz: %s: %llu calls%s\n", faults ? "failed" : "passed", name, (unsigned long long)(calls - before), is_cut ? ", until its time was up" : "");
     fflush(stdout);
-    failed_parts += faults != 0;
+    return !faults;
+}
+
+/* Half of the time is for random texts. */
+static int all_pass(double seconds) {
+    return passes("random texts", random_texts, seconds / 2) && passes("each length", each_length, seconds / 10)
+        && passes("a character at each place", each_place, seconds / 10) && passes("runs beside gaps", runs_and_gaps, seconds / 10)
+        && passes("separators at borders", separators_at_borders, seconds / 10) && passes("long texts", long_texts, seconds / 10);
 }
 
 static void set_blocks(void) {
@@ -565,28 +565,16 @@ static void set_blocks(void) {
 }
 
 int main(int words, char **word) {
-    static struct {
-        const char *name;
-        void (*body)(void);
-    } const parts[] = {
-        {"each length", each_length},
-        {"a character at each place", each_place},
-        {"runs beside gaps", runs_and_gaps},
-        {"separators at borders", separators_at_borders},
-        {"long texts", long_texts},
-        {"random texts", random_texts},
-    };
-    enum { PARTS = sizeof parts / sizeof parts[0] };
     uint64_t seed = words > 1 ? strtoull(word[1], NULL, 0) : 88172645463325252u;
-    double seconds = words > 2 ? strtod(word[2], NULL) : 20;
-    size_t p;
+    int passed, is_enough;
     state = seed ? seed : 1;
     set_blocks();
     signal(SIGSEGV, on_crash);
     signal(SIGBUS, on_crash);
     signal(SIGILL, on_crash);
-    for (p = 0; p < PARTS; p++) part(parts[p].name, parts[p].body, seconds * (double)(p + 1) / PARTS);
+    passed = all_pass(words > 2 ? strtod(word[2], NULL) : 20);
     printf("  %llu calls in %.1f seconds, by seed %llu\n", (unsigned long long)calls, (double)clock() / CLOCKS_PER_SEC, (unsigned long long)seed);
-    if (seconds >= 20) printf("%s fuzz: five million calls\n", calls >= CALLS_WANTED ? "passed" : "failed");
-    return failed_parts != 0 || (seconds >= 20 && calls < CALLS_WANTED);
+    is_enough = words > 2 || !passed || calls >= CALLS_WANTED;
+    if (!is_enough) puts("failed fuzz: fewer than five million calls");
+    return !passed || !is_enough;
 }

@@ -19,7 +19,7 @@ fn front_of<M: BitMask>(mask: &M, n: usize) -> Front {
 }
 
 /// The mask has these fronts, for each `n`.
-pub fn has_fronts<M: BitMask>(rt: &impl Abort, mask: &M, fronts: &[(usize, Front)]) {
+fn has_fronts<M: BitMask>(rt: &impl Abort, mask: &M, fronts: &[(usize, Front)]) {
     for (n, front) in fronts {
         assert!(rt; front_of(mask, *n) == *front, "{n}");
     }

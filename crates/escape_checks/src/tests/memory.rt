@@ -1,7 +1,6 @@
 //! Memory that is refused: each request of a call in turn, until it is `Ok`, and what was asked for.
 
 use crate::routes::KERNELS;
-use crate::tests::pieces::ZEROS;
 use crate::tests::rationed::{Rationed, Requests};
 use crate::tests::texts::{all_are, holds, repeated};
 use escape_simd::html::{
@@ -121,6 +120,9 @@ fn appending_asks_once_for_the_bound(rt: HostRuntime) {
         asks_once(&rt, *row, 5, 12);
     }
 }
+
+/// How many zeros the calls that append add to a vector at a time.
+const ZEROS: usize = 448;
 
 #[test]
 fn a_long_text_asks_once_for_the_bound(rt: HostRuntime) {

@@ -1,10 +1,9 @@
-//! What the errors and the faults print.
+//! What the faults print, and the errors as an `io::Error`, of which no clause tells the words.
 
 use escape_simd::Refusal;
-use escape_simd::html::{EscapeHtmlError, InputTooLarge};
+use escape_simd::html::EscapeHtmlError;
 use escape_simd::json::EscapeError;
 use escape_stream::ToolFault;
-use escape_text::ListError;
 use std::fmt::Display;
 use std::io;
 use std::process::Abort;
@@ -12,25 +11,6 @@ use std::process::Abort;
 fn prints<E: Display>(rt: &(impl Abort + AllocGlobal), error: &E, text: &str) {
     let printed = error.to_string(rt.alloc()).expect(rt, "no memory");
     assert!(rt; printed.as_str() == text, "{printed}");
-}
-
-#[test]
-fn messages_of_refusals(rt: HostRuntime) {
-    prints(
-        &rt,
-        &EscapeError::TooLarge,
-        "input is too large to JSON-escape",
-    );
-    prints(&rt, &EscapeError::OutOfMemory, "out of memory");
-    prints(&rt, &InputTooLarge, "input is too large to HTML-escape");
-    prints(
-        &rt,
-        &EscapeHtmlError::TooLarge(InputTooLarge),
-        "input is too large to HTML-escape",
-    );
-    prints(&rt, &EscapeHtmlError::OutOfMemory, "out of memory");
-    prints(&rt, &Refusal::TooLarge, "input is too large to escape");
-    prints(&rt, &Refusal::OutOfMemory, "out of memory");
 }
 
 #[test]
@@ -43,15 +23,6 @@ fn messages_of_refusals_among_errors_of_io(rt: HostRuntime) {
         &io::Error::from(EscapeHtmlError::OutOfMemory),
         "out of memory",
     );
-}
-
-#[test]
-fn a_stopped_list_tells_how_far_it_came(rt: HostRuntime) {
-    let error = ListError {
-        written: 3,
-        reason: EscapeError::OutOfMemory,
-    };
-    prints(&rt, &error, "out of memory, after 3 texts");
 }
 
 #[test]

@@ -59,7 +59,7 @@ fn always_out_of_memory(rt: HostRuntime) {
 }
 
 /// A run by each kernel writes what stands for a text of these parts, in each mode.
-pub fn runs_are_right(rt: &(impl Abort + AllocGlobal), parts: &[(usize, &str)]) {
+fn runs_are_right(rt: &(impl Abort + AllocGlobal), parts: &[(usize, &str)]) {
     let text = repeated(rt, parts);
     for mode in MODES {
         each_run_writes(rt, mode, &text, &plain(rt, mode, &text));

@@ -10,7 +10,7 @@ use escape_lanes::tables::{
 use escape_stream::Mode;
 
 /// Whether the byte needs an escape in this mode, or begins with what may need one.
-pub fn is_flagged(mode: Mode, byte: u8) -> bool {
+fn is_flagged(mode: Mode, byte: u8) -> bool {
     match mode {
         Mode::Json => matches!(byte, 0..=0x1f | b'"' | b'\\'),
         Mode::Html => matches!(byte, b'"' | b'&' | b'\'' | b'/' | b'<' | b'>'),

@@ -1,10 +1,8 @@
 //! The calls of a target, at each width.
 ghost use Rattle.std.specs.Prelude.{◌≡◌, ◌≤◌};
 
-use crate::tests::whole_targets::{UNTOUCHED, is_written};
 use escape_lanes::simd::target::{Target, Ticks};
 use escape_lanes::simd::{Simd, avx2, avx512, neon, sse2, v128};
-use std::process::Abort;
 use std::simd::prelude::*;
 
 #[test]
@@ -52,31 +50,4 @@ fn each_call_at_each_width(rt: HostRuntime) {
     assert!(rt; written_to::<16, neon::Simd128u>() == expected(16));
     assert!(rt; written_to::<32, avx2::Simd256u>() == expected(32));
     assert!(rt; written_to::<64, avx512::Simd512u>() == expected(64));
-}
-
-/// Whether exactly the first `count` lanes are written, between bytes that stay.
-fn writes_front<const N: usize, S: Simd>(src: &[u8; 64], count: usize) -> bool
-    requires lanes { S.LANES ≡ N }
-    requires front { count ≤ N }
-{
-    let mut bytes = [UNTOUCHED; 66];
-    Target::<N>::new(&mut bytes).store_front(1, &S::loadu(src), count);
-    bytes[0] == UNTOUCHED && is_written(&bytes[1..], count, count, &src[..count])
-}
-
-fn writes_each_front<const N: usize, S: Simd>(rt: &impl Abort)
-    requires { S.LANES ≡ N }
-{
-    for count in 0..=N {
-        assert!(rt; writes_front::<N, S>(LANES, count), "{count} of {N}");
-    }
-}
-
-#[test]
-fn fronts_of_every_count(rt: HostRuntime) {
-    writes_each_front::<16, v128::Simd128u>(&rt);
-    writes_each_front::<16, sse2::Simd128u>(&rt);
-    writes_each_front::<16, neon::Simd128u>(&rt);
-    writes_each_front::<32, avx2::Simd256u>(&rt);
-    writes_each_front::<64, avx512::Simd512u>(&rt);
 }

@@ -21,9 +21,8 @@ use escape_text::json::{
 use std::alloc::{AllocError, Global};
 use std::process::Abort;
 
-/// Parts of a text that ends near each place where its output is made in another way, with a character of
-/// three bytes across it. `pieces` has the longer texts.
-const LENGTHS: [usize; 11] = [0, 1, 84, 85, 86, 87, 255, 256, 767, 768, 1009];
+/// Parts of a text whose output is made at once, in pieces, and in pieces of three fronts.
+const LENGTHS: [usize; 5] = [0, 1, 87, 1009, 4200];
 
 fn into_string(mode: Mode, text: &str, dst: &mut String) -> bool {
     match mode {
@@ -68,7 +67,7 @@ fn display_is(alloc: Global, mode: Mode, text: &str, wanted: &str) -> bool {
 
 /// The calls of each mode hand on what stands for a text of these parts character by character: to a string, a
 /// writer and a formatter.
-pub fn targets_are_right(rt: &(impl Abort + AllocGlobal), parts: &[(usize, &str)]) {
+fn targets_are_right(rt: &(impl Abort + AllocGlobal), parts: &[(usize, &str)]) {
     let text = repeated(rt, parts);
     for mode in MODES {
         each_target_has(rt, mode, &text, &plain(rt, mode, &text));

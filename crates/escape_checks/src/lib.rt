@@ -2,6 +2,7 @@
 //! and the replacement written out.
 #![tactic(auto)]
 
+pub mod appends;
 #[cfg(test)]
 mod plain;
 pub mod routes;

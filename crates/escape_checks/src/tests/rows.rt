@@ -1,8 +1,9 @@
 //! Texts with what stands for them, written out.
 
+use crate::appends::differing_call;
 use crate::tests::texts::repeated;
 use crate::tests::whole_targets::{UNTOUCHED, is_written};
-use crate::writers::{Writer, differing, differing_call};
+use crate::writers::{Writer, differing};
 use escape_simd::html::escape_html_each;
 use escape_simd::simd::target::Target;
 use escape_simd::simd::util::escape_unchecked;
@@ -93,10 +94,10 @@ pub fn all_write(rt: &(impl Abort + AllocGlobal), mode: Mode, text: &str, output
     is_none(rt, writer, mode, text);
 }
 
-/// The calls of this mode that allocate write the output for the text.
+/// The calls of this mode that append, or return a string, write the output for the text.
 pub fn calls_write(rt: &(impl Abort + AllocGlobal), mode: Mode, text: &str, output: &str) {
-    let writer = differing_call(rt.alloc(), mode, text, output.as_bytes());
-    is_none(rt, writer, mode, text);
+    let call = differing_call(rt.alloc(), mode, text, output.as_bytes(), 0);
+    is_none(rt, call.map(Writer::Call), mode, text);
 }
 
 /// Stops the test at a writer, and tells which it is, and of which text.

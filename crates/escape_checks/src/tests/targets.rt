@@ -5,79 +5,26 @@ use crate::plain::plain;
 use crate::routes::MODES;
 use crate::tests::memory::{Heap, vector_of};
 use crate::tests::rationed::Rationed;
-use crate::tests::texts::{holds, repeated};
+use crate::tests::rows::calls_write;
+use crate::tests::texts::repeated;
 use escape_simd::html::EscapeHtmlError;
 use escape_simd::json::EscapeError;
 use escape_simd::{Kernel, format_html_str, format_json_str, format_script_str};
-use escape_stream::Mode;
 use escape_text::ListError;
-use escape_text::html::{
-    self, escape_html_into_string, escape_html_joined_into, escape_html_to_writer,
-};
-use escape_text::json::{
-    self, escape_array_into, escape_into_string, escape_joined_into, escape_script_array_into,
-    escape_script_into_string, escape_script_to_writer, escape_to_writer,
-};
+use escape_text::html::escape_html_joined_into;
+use escape_text::json::{self, escape_array_into, escape_joined_into, escape_script_array_into};
 use std::alloc::{AllocError, Global};
 use std::process::Abort;
 
 /// Parts of a text whose output is made at once, in pieces, and in pieces of three fronts.
 const LENGTHS: [usize; 5] = [0, 1, 87, 1009, 4200];
 
-fn into_string(mode: Mode, text: &str, dst: &mut String) -> bool {
-    match mode {
-        Mode::Json => escape_into_string(text, dst).is_ok(),
-        Mode::Html => escape_html_into_string(text, dst).is_ok(),
-        Mode::Script => escape_script_into_string(text, dst).is_ok(),
-    }
-}
-
-fn to_writer(mode: Mode, text: &str, dst: &mut Vec<u8>) -> bool {
-    match mode {
-        Mode::Json => escape_to_writer(text, dst).is_ok(),
-        Mode::Html => escape_html_to_writer(text, dst).is_ok(),
-        Mode::Script => escape_script_to_writer(text, dst).is_ok(),
-    }
-}
-
-fn displayed(alloc: Global, mode: Mode, text: &str) -> Result<String, AllocError> {
-    match mode {
-        Mode::Json => format!(in alloc; "{}", json::Escaped(text)),
-        Mode::Html => format!(in alloc; "{}", html::Escaped(text)),
-        Mode::Script => format!(in alloc; "{}", json::EscapedScript(text)),
-    }
-}
-
-fn string_is(alloc: Global, mode: Mode, text: &str, wanted: &str) -> bool {
-    let mut string = String::new(alloc);
-    into_string(mode, text, &mut string) && string.as_str() == wanted
-}
-
-fn bytes_are(alloc: Global, mode: Mode, text: &str, wanted: &str) -> bool {
-    let mut bytes = Vec::new(alloc);
-    to_writer(mode, text, &mut bytes) && bytes.as_slice() == wanted.as_bytes()
-}
-
-fn display_is(alloc: Global, mode: Mode, text: &str, wanted: &str) -> bool {
-    match displayed(alloc, mode, text) {
-        Ok(displayed) => displayed.as_str() == wanted,
-        Err(_) => false,
-    }
-}
-
-/// The calls of each mode hand on what stands for a text of these parts character by character: to a string, a
-/// writer and a formatter.
+/// The calls of each mode hand on what stands for a text of these parts character by character.
 fn targets_are_right(rt: &(impl Abort + AllocGlobal), parts: &[(usize, &str)]) {
     let text = repeated(rt, parts);
     for mode in MODES {
-        each_target_has(rt, mode, &text, &plain(rt, mode, &text));
+        calls_write(rt, mode, &text, &plain(rt, mode, &text));
     }
-}
-
-fn each_target_has(rt: &(impl Abort + AllocGlobal), mode: Mode, text: &str, wanted: &str) {
-    holds(rt, string_is(rt.alloc(), mode, text, wanted), mode, text);
-    holds(rt, bytes_are(rt.alloc(), mode, text, wanted), mode, text);
-    holds(rt, display_is(rt.alloc(), mode, text, wanted), mode, text);
 }
 
 const PARTS: [&str; 3] = ["\u{2028}<", "aé\"", "\u{1}"];

@@ -24,8 +24,8 @@ static void appends(const byte *text, size_t length, size_t spare) {
         wrong = first_wrong_append(mode, text, length, output.bytes, output.size, spare);
         calls += CALLS_OF_MODE;
         if (wrong == 0) continue;
-        faults++;
         printf("  %s, call %u of a text of %zu bytes, spare capacity %zu\n", MODES[mode].name, (unsigned)wrong, length, spare);
+        count_fault();
     }
 }
 

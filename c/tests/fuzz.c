@@ -90,7 +90,6 @@ static struct {
 static void fault(const char *form, ...) {
     va_list words;
     size_t at;
-    faults++;
     printf("  %s %s, kernel %u, %zu bytes, a buffer of %zu: ", call.mode->name, call.name, (unsigned)call.kernel, call.length, call.room);
     va_start(words, form);
     vprintf(form, words);
@@ -98,6 +97,7 @@ static void fault(const char *form, ...) {
     printf(", of ");
     for (at = 0; at < call.length && at < 400; at++) printf("%02x", call.text[at]);
     puts(at < call.length ? ".." : "");
+    count_fault();
 }
 
 /* A byte behind the block's end or before its start was touched, or the call failed otherwise. */
@@ -122,14 +122,14 @@ static int are_canaries(const byte *from, const byte *to) { return !memcmp(from,
 static void compare(escape_status status, size_t count, const struct outcome *wanted) {
     size_t before = (size_t)(call.buffer - buffer_block.start), behind = (size_t)(buffer_block.end - call.buffer) - call.room;
     byte *from = call.buffer - (before < BEFORE ? before : BEFORE), *to = call.buffer + call.room + (behind < PAST ? behind : PAST);
-    int known = faults;
+    int known = part.faults;
     calls++;
     if (status != wanted->status) fault("status %u and not %u", (unsigned)status, (unsigned)wanted->status);
     else if (count != wanted->count) fault("a count of %zu and not %zu", count, wanted->count);
     else if (memcmp(call.buffer, wanted->bytes, wanted->size)) fault("another output");
     else if (!are_canaries(from, call.buffer)) fault("a byte before the buffer has changed");
     else if (!are_canaries(call.buffer + wanted->kept, to)) fault("a byte has changed that is to stay");
-    if (faults == known) memset(call.buffer, CANARY, wanted->kept);
+    if (part.faults == known) memset(call.buffer, CANARY, wanted->kept);
     else memset(from, CANARY, (size_t)(to - from));
 }
 

@@ -13,21 +13,31 @@ typedef unsigned char byte;
 
 enum { LONGEST = 20000, MOST_OUTPUT = 6 * LONGEST + 2, MOST_FAULTS = 5 };
 
-/* How many calls were made, of how many texts, and how many of them were wrong. */
+/* How many calls were made, and of how many texts. */
 static uint64_t calls, texts;
-static int faults;
 
 /* Makes all calls with the text, and counts. Each file has its own. */
 static void each_call(const byte *text, size_t length);
 
-/* When the part has to end, by `clock`, and whether it was cut short then. */
-static clock_t part_end;
-static int is_cut;
+/* The part, how many of its calls were wrong, when it has to end, by `clock`, and whether it was cut short then. */
+static struct {
+    const char *name;
+    int faults;
+    clock_t end;
+    int is_cut;
+} part;
 
-/* Whether the part is over: at its time, which is looked at once in a few texts, or after some faults. */
+/* Counts a wrong call, of which something was said. A few are enough. */
+static void count_fault(void) {
+    if (++part.faults < MOST_FAULTS) return;
+    printf("failed %s: %s: it ends here\n", NAME, part.name);
+    exit(1);
+}
+
+/* Whether the part's time is up, which is looked at once in a few texts. */
 static int is_over(void) {
-    if (texts % 16 == 0 && clock() >= part_end) is_cut = 1;
-    return is_cut || faults >= MOST_FAULTS;
+    if (texts % 16 == 0 && clock() >= part.end) part.is_cut = 1;
+    return part.is_cut;
 }
 
 /* --- the model ----------------------------------------------------------------------------------- */
@@ -315,12 +325,13 @@ static void random_texts(void) {
 /* Calls of one kind, for at most so long: whether they were right. */
 static int passes(const char *name, void (*body)(void), double seconds) {
     uint64_t before = calls;
-    part_end = clock() + (clock_t)(seconds * CLOCKS_PER_SEC);
-    is_cut = 0;
+    part.name = name;
+    part.end = clock() + (clock_t)(seconds * CLOCKS_PER_SEC);
+    part.is_cut = part.faults = 0;
     body();
-    printf("%s %s: %s: %llu calls%s\n", faults ? "failed" : "passed", NAME, name, (unsigned long long)(calls - before), is_cut ? ", until its time was up" : "");
+    printf("%s %s: %s: %llu calls%s\n", part.faults ? "failed" : "passed", NAME, name, (unsigned long long)(calls - before), part.is_cut ? ", until its time was up" : "");
     fflush(stdout);
-    return !faults;
+    return !part.faults;
 }
 
 /* Half of the time is for random texts. The first part that fails is the last. */

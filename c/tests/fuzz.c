@@ -103,7 +103,7 @@ static void fault(const char *form, ...) {
 /* A byte behind the block's end or before its start was touched, or the call failed otherwise. */
 static void on_crash(int number) {
     fault("signal %d", number);
-    puts("failed: it crashed");
+    printf("failed %s: %s: it crashed\n", NAME, part.name);
     fflush(stdout);
     _exit(1);
 }
@@ -161,6 +161,7 @@ static void by_exact(size_t room, const struct place *place, const struct output
     if (room < output->size) wanted = refused(ESCAPE_TOO_SHORT, output->size);
     if (!output->is_utf8) wanted = refused(ESCAPE_NOT_UTF8, 0);
     call.name = "exact";
+    call.kernel = 0;
     call.room = room;
     call.buffer = placed(&buffer_block, room, place->at_end, place->buffer_shift);
     status = call.of_mode->exact((const char *)call.text, call.length, (char *)call.buffer, room, &count);
@@ -172,6 +173,7 @@ static void by_length(const struct output *output) {
     escape_status status;
     struct outcome wanted = refused(output->is_utf8 ? ESCAPE_OK : ESCAPE_NOT_UTF8, output->is_utf8 ? output->size : 0);
     call.name = "length";
+    call.kernel = 0;
     status = call.of_mode->length((const char *)call.text, call.length, &count);
     compare(status, count, &wanted);
 }

@@ -1,8 +1,7 @@
 //! The operations of each vector.
-ghost use Rattle.std.specs.Prelude.{◌<◌, ◌≤◌, length};
+ghost use Rattle.std.specs.Prelude.{◌≤◌, length};
 
-use crate::tests::texts::all_are;
-use escape_lanes::simd::{BitMask, Mask, Simd, Vector, avx2, avx512, neon, sse2, v128};
+use escape_lanes::simd::{BitMask, Mask, Simd, avx2, avx512, neon, sse2, v128};
 
 fn any_of<M: Mask>(a: M, b: M, c: M) -> M::BitMask {
     let mut mask = a | b;
@@ -70,24 +69,4 @@ fn at_most<S: Simd<Element = u8>>(byte: u8, bound: u8) -> <S::Mask as Mask>::Bit
 fn lanes_that_are_all_the_same(rt: HostRuntime) {
     assert!(rt; at_most::<v128::Simd128u>(0x20, 0x1f) == 0x0000);
     assert!(rt; at_most::<v128::Simd128u>(0xff, 0xff) == 0xffff);
-}
-
-/// Whether a vector of the last bytes has these bytes, and then zeros.
-fn has_last<const N: usize, V: Vector<N>>(src: &[u8], count: usize) -> bool
-    requires few { count < N }
-    requires inside { count ≤ length src.now }
-{
-    let mut lanes = [0xee; 64];
-    V::load_last(src, count).put(&mut lanes);
-    lanes.starts_with(&src[src.len() - count..]) && all_are(&lanes[count..N], 0)
-}
-
-#[test]
-fn the_last_bytes_of_a_text(rt: HostRuntime) {
-    let text = b"0123456789abcdefghijklmnopqrstuvwxyz";
-    assert!(rt; has_last::<16, v128::Simd128u>(text, 15));
-    assert!(rt; has_last::<16, sse2::Simd128u>(text, 15));
-    assert!(rt; has_last::<16, neon::Simd128u>(text, 15));
-    assert!(rt; has_last::<32, avx2::Simd256u>(text, 31));
-    assert!(rt; has_last::<64, avx512::Simd512u>(text, 36));
 }

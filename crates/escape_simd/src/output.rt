@@ -78,10 +78,11 @@ fn append_output<const MODE: u8, A: Allocator>(value: &str, dst: &mut Vec<u8, A>
 {
     push_quote::<MODE, A>(dst);
     let text = value.as_bytes();
-    if text.len() < 2 * N {
-        return append_last::<MODE, A>(text, dst);
+    // The empty text goes this way too, so the short way needs no test for it.
+    if text.is_empty() || 2 * N <= text.len() {
+        return append_long::<MODE, A>(text, dst);
     }
-    append_long::<MODE, A>(text, dst);
+    append_last::<MODE, A>(text, dst);
 }
 
 /// Appends the output of a text in the mode `MODE` to `dst`. The bytes that `dst` has are kept, and may be any bytes.

@@ -74,14 +74,15 @@ pub(crate) fn escape_at<V: Classifier<MODE, N>, const MODE: u8, const N: usize>(
     requires { to + 6 * length src.now + 32 ≤ length dst.old }
     ensures { IsWrittenAt (reach true N) (inner (mode_numbered MODE) src.now) dst.old dst.new to result }
 {
-    if src.len() < 2 * N {
-        let mut target = Target::<N>::new(dst);
-        return match store_clean_tail::<V, MODE, N>(src, &mut target, to, &mut Ticks::new()) {
-            Ok(end) => end,
-            Err(masks) => escape_short_at::<V, MODE, N>(src, masks.first, masks.last, dst, to),
-        };
+    // The empty text goes this way too, so the short way needs no test for it.
+    if src.is_empty() || 2 * N <= src.len() {
+        return escape_any_at::<V, MODE, N>(src, dst, to);
     }
-    escape_any_at::<V, MODE, N>(src, dst, to)
+    let mut target = Target::<N>::new(dst);
+    match store_clean_tail::<V, MODE, N>(src, &mut target, to, &mut Ticks::new()) {
+        Ok(end) => end,
+        Err(masks) => escape_short_at::<V, MODE, N>(src, masks.first, masks.last, dst, to),
+    }
 }
 
 /// As [`escape_at`], of a short text, by its masks.

@@ -97,14 +97,15 @@ pub(crate) fn format_in_mode<V: Classifier<MODE, N>, const MODE: u8, const N: us
     ensures headline { IsOnlyOutput (mode_numbered MODE) (take result dst.new) (chars value.now) }
     ensures equal_texts { IsOfOneText (mode_numbered MODE) value.now (take result dst.new) }
 {
-    if value.len() < 2 * N {
-        let text = value.as_bytes();
-        let mut target = Target::<N>::new(dst);
-        let open = quote::<MODE, N>(&mut target, 0);
-        return match store_clean_tail::<V, MODE, N>(text, &mut target, open, &mut Ticks::new()) {
-            Ok(close) => quote::<MODE, N>(&mut target, close),
-            Err(masks) => format_flagged::<V, MODE, N>(text, masks.first, masks.last, dst),
-        };
+    let text = value.as_bytes();
+    // The empty text goes this way too, so the short way needs no test for it.
+    if text.is_empty() || 2 * N <= text.len() {
+        return format_slice::<V, MODE, N>(value, dst);
     }
-    format_slice::<V, MODE, N>(value, dst)
+    let mut target = Target::<N>::new(dst);
+    let open = quote::<MODE, N>(&mut target, 0);
+    match store_clean_tail::<V, MODE, N>(text, &mut target, open, &mut Ticks::new()) {
+        Ok(close) => quote::<MODE, N>(&mut target, close),
+        Err(masks) => format_flagged::<V, MODE, N>(text, masks.first, masks.last, dst),
+    }
 }

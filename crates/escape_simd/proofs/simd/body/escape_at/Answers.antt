@@ -5,7 +5,7 @@ use Rattle.escape_simd.proofs.simd.body.escape_at.Goals as goal
 
 pub store_clean_tail-requires : goal.store_clean_tail-requires
 store_clean_tail-requires g c =
-    (omega arith, (omega arith, (omega (arith, c.if-src.true), room-six (mode_numbered g.row.MODE) (reach true g.row.N) c.args.src.now 0 (length c.args.src.now) c.args.to (length (bytes_of c.new-target.result)) (omega arith) (omega arith) (omega (arith, c.requires, ap length c.new-target.ensures.bytes)))))
+    (omega arith, (omega arith, (omega (arith, c.if-src.false), room-six (mode_numbered g.row.MODE) (reach true g.row.N) c.args.src.now 0 (length c.args.src.now) c.args.to (length (bytes_of c.new-target.result)) (omega arith) (omega arith) (omega (arith, c.requires, ap length c.new-target.ensures.bytes)))))
 
 pub returns-in-Ok : goal.returns-in-Ok
 returns-in-Ok g c =

@@ -10,7 +10,7 @@ store_clean_tail-requires g c =
       (
         omega arith,
         (
-          omega (arith, same, c.if-value.true),
+          omega (arith, same, c.if-text.false),
           room-six mode (reach true g.row.N) text 0 (length text) c.quote-open.result (length (bytes_of c.quote-open.new.target)) (omega arith) (omega arith)
               (omega (arith, bound-quotes mode (length c.args.value.now), quote-short mode, same, o.quoted.ends, o.same_slice.len, ap length c.new-target.ensures.bytes, c.requires)),
         ),
@@ -23,8 +23,8 @@ quote-requires g c =
     let s = c.in-Ok.ensures.clean.stretch in let on = stretch-on s in
     (omega arith, omega (arith, bound-quotes mode (length c.args.value.now), quote-short mode, ap length c.as_bytes-text.ensures.value, on, o.quoted.ends, o.same_slice.len, s.same_slice.len, c.requires, ap length c.new-target.ensures.bytes))
 
-pub returns : goal.returns
-returns g c = written-laws c.format_slice.ensures c.utf8.value
+pub returns-then-is_empty : goal.returns-then-is_empty
+returns-then-is_empty g c = written-laws c.format_slice.ensures c.utf8.value
 
 pub returns-in-Ok : goal.returns-in-Ok
 returns-in-Ok g c =

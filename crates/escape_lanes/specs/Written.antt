@@ -20,10 +20,6 @@ escaped_of t = t.escaped.count
 abbrev pub quotes_of : {N : ℕ} → Target N → ℕ
 quotes_of t = t.quotes.count
 
--- how often bytes were written
-abbrev pub writes_of : {N : ℕ} → Target N → ℕ
-writes_of t = t.writes.count
-
 -- the target stands over this slice: what it holds when it ends is what the slice holds then
 abbrev pub IsOver : {N : ℕ} → Target N → MutBor (List ℕ) → Type 0
 IsOver t dst = t.slice.ghost_name ≡ dst.ghost_name
@@ -40,4 +36,3 @@ pub record Writes {N : ℕ} (vectors escapes marks : ℕ) (old new : Target N) (
   pub stored : stored_of new ≡ stored_of old + vectors
   pub escaped : escaped_of new ≡ escaped_of old + escapes
   pub quotes : quotes_of new ≡ quotes_of old + marks
-  pub writes : writes_of new ≡ writes_of old + 1

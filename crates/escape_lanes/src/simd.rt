@@ -13,6 +13,7 @@ mod lanes;
 pub mod last;
 pub mod mask;
 pub mod mode;
+mod needs;
 pub mod neon;
 pub mod short;
 pub mod sse2;
@@ -20,6 +21,7 @@ pub mod target;
 mod ticks;
 pub mod traits;
 pub mod v128;
+mod writes;
 
 pub use classifier::Classifier;
 pub use last::LoadLast;

@@ -24,7 +24,6 @@ block-stretch mode clean src old new at k to end flags eight marked some w room 
     let written : bytes_of new ≡ paste (bytes_of old) to (put_apart flags bytes ++ fill) 16 = rw long at w.written.bytes in
     pasted mode 16 src old new at (at + k) to (k + flag_count flags) (put_apart flags bytes ++ fill) 16 w.written.same_slice written room (omega (arith, long)) most (omega arith)
     (omega (arith, marked.few, marked.inside, length-drop at src)) apart.0 (omega arith) (omega (arith, w.written.escaped, apart.1)) (omega (arith, w.written.quotes))
-    (omega (arith, w.written.writes, w.written.stored, w.written.escaped, counted (flag_count flags)))
 
 -- A mask's first block
 

@@ -1,5 +1,5 @@
 -- Stretches of a text: one after another, of clean bytes, and of what one escape stands for.
-use Rattle.escape_simd.proofs.Words.{◌≡◌, ℕ, ◌+◌, ◌-◌, ◌*◌, ◌<◌, ◌≤◌, Bool, true, false, List, ◌++◌, length, take, drop, get_or, sym, ap, ◌∙◌, arith, append_assoc, length-append, length-take-le, length-drop, slice_range, paste, take-append-add, drop-drop, take-append-le, take-take, take_at, drop_at, append_cancel_right, flat_map-append, Mode, json, html, script, mode_of, needs_escape, replacement, bytes_of, stored_of, escaped_of, quotes_of, writes_of, IsSameSlice, Target, inner, passed, first_replacement, escaped_count, HasRoom, Stretch, IsStored, reach, run_reach}
+use Rattle.escape_simd.proofs.Words.{◌≡◌, ℕ, ◌+◌, ◌-◌, ◌*◌, ◌<◌, ◌≤◌, Bool, true, false, List, ◌++◌, length, take, drop, get_or, sym, ap, ◌∙◌, arith, append_assoc, length-append, length-take-le, length-drop, slice_range, paste, take-append-add, drop-drop, take-append-le, take-take, take_at, drop_at, append_cancel_right, flat_map-append, Mode, json, html, script, mode_of, needs_escape, replacement, bytes_of, stored_of, escaped_of, quotes_of, IsSameSlice, Target, inner, passed, first_replacement, escaped_count, HasRoom, Stretch, IsStored, reach, run_reach}
 use Rattle.std.proofs.lemmas.List.Folds.{drop_split}
 use Rattle.std.proofs.lemmas.List.Edits.{take-paste, drop-paste}
 use Rattle.escape_simd.proofs.RestSteps.{rest-is, rest-between}
@@ -79,9 +79,8 @@ pub pasted : {N : ℕ} (mode : Mode) (slack : ℕ) (src : List ℕ) (old new : T
     → take count piece ++ inner mode (drop next src) ≡ inner mode (drop at src) → n ≤ count + slack
     → escaped_of new + escaped_count mode (drop next src) ≡ escaped_of old + escaped_count mode (drop at src)
     → quotes_of new ≡ quotes_of old
-    → writes_of new + (stored_of old + escaped_of old) ≤ writes_of old + (stored_of new + escaped_of new)
     → Stretch mode slack src old new at next to (to + count)
-pasted mode slack src old new at next to count piece n same written room long some forward inside stands low escaped quotes writes =
+pasted mode slack src old new at next to count piece n same written room long some forward inside stands low escaped quotes =
     let l = ap length stands in
     grind (arith, front-paste, drop_further, drop-paste, append_assoc, length-append {A = ℕ}, length-take-le {A = ℕ}, rest-is)
 
@@ -94,12 +93,12 @@ entry-reach mode src i needed = omega (arith, two≤escape mode (get_or src i 0)
 pub escaped_unit : {N : ℕ} (mode : Mode) (src : List ℕ) (old new : Target N) (i to : ℕ) (entry : List ℕ) → i < length src → needs_escape mode (get_or src i 0) ≡ true
     → (count : ℕ) → IsSameSlice old new → bytes_of new ≡ paste (bytes_of old) to entry 8 → to + 8 ≤ length (bytes_of old) → length entry ≡ 8
     → count ≤ 8 → take count entry ≡ first_replacement mode (drop i src)
-    → escaped_of new ≡ escaped_of old + 1 → stored_of new ≡ stored_of old → quotes_of new ≡ quotes_of old → writes_of new ≡ writes_of old + 1
+    → escaped_of new ≡ escaped_of old + 1 → stored_of new ≡ stored_of old → quotes_of new ≡ quotes_of old
     → Stretch mode (run_reach mode) src old new i (i + passed mode (drop i src)) to (to + count)
-escaped_unit mode src old new i to entry inside needed count same written room long six front escaped stored quotes writes =
+escaped_unit mode src old new i to entry inside needed count same written room long six front escaped stored quotes =
     let l = length-drop i src in let fits = passed≤length mode (drop i src) (omega arith) in let c = sym (length-take-le count entry (omega arith)) ∙ ap length front in
     pasted mode (run_reach mode) src old new i (i + passed mode (drop i src)) to count entry 8 same written room (omega arith) six (omega arith) (omega arith)
-    (rw front (sym (inner-here mode src i inside))) (omega (arith, entry-reach mode src i needed, c)) (omega (arith, escaped-here mode src i inside needed)) quotes (omega arith)
+    (rw front (sym (inner-here mode src i inside))) (omega (arith, entry-reach mode src i needed, c)) (omega (arith, escaped-here mode src i inside needed)) quotes
 
 -- a vector that was stored, and passed no byte yet
 pub stored_ahead : {N : ℕ} (mode : Mode) (slack : ℕ) (src : List ℕ) (old new : Target N) (from left to : ℕ) → IsStored slack src old new from left to
@@ -145,8 +144,8 @@ module _ {N : ℕ} (is_html : Bool) {slack : ℕ} {src : List ℕ} {old new : Ta
 
 -- lanes that begin with bytes of a text were pasted in: a vector of it is stored
 pub stored_from_paste : {N slack from left : ℕ} {src : List ℕ} {old new : Target N} {to n : ℕ} (lanes : List ℕ) → IsSameSlice old new → bytes_of new ≡ paste (bytes_of old) to lanes n
-    → stored_of new ≡ stored_of old + 1 → escaped_of new ≡ escaped_of old → quotes_of new ≡ quotes_of old → writes_of new ≡ writes_of old + 1
+    → stored_of new ≡ stored_of old + 1 → escaped_of new ≡ escaped_of old → quotes_of new ≡ quotes_of old
     → left ≤ n → n ≤ length lanes → n ≤ left + slack → to + n ≤ length (bytes_of old) → take left lanes ≡ take left (drop from src) → IsStored slack src old new from left to
-stored_from_paste {left = left} {old = old} {to = to} {n = n} lanes same bytes stored escaped quotes writes some long few room loaded =
+stored_from_paste {left = left} {old = old} {to = to} {n = n} lanes same bytes stored escaped quotes some long few room loaded =
     let is = bytes ∙ append_assoc (take to (bytes_of old)) (take n lanes) (drop (to + n) (bytes_of old)) in
     grind (arith, is, take_at, drop_at, take-append-le, take-take left n lanes some, length-take-le {A = ℕ}, drop_further, drop-paste)

@@ -89,7 +89,6 @@ module _ {N : ℕ} {mode : Mode} {text : List ℕ} {old first second new : Targe
         stored = omega (arith, after.stored, before.stored, c.stored);
         each_stored = omega (arith, after.stored, before.stored, c.covered);
         classified = omega (arith, c.classified, runs);
-        writes = omega (arith, after.writes, after.quotes, after.stored, after.escaped, s.writes, s.quotes, before.writes, before.quotes, before.stored, before.escaped);
       }
 
 -- what stands for a text with no quotation marks, at the front of the bytes

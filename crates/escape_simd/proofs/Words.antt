@@ -27,7 +27,7 @@ unfoldable pub use Rattle.escape_lanes.specs.Short.{shortened}
 pub use Rattle.escape_lanes.specs.Short.{is_long}
 unfoldable pub use Rattle.escape_lanes.specs.Spread.{flagged_blocks, put_apart}
 pub use Rattle.escape_lanes.specs.Spread.{IsBlock, flag_count}
-pub use Rattle.escape_lanes.specs.Written.{IsSameSlice, Writes, bytes_of, escaped_of, quotes_of, stored_of, writes_of}
+pub use Rattle.escape_lanes.specs.Written.{IsSameSlice, Writes, bytes_of, escaped_of, quotes_of, stored_of}
 pub use Rattle.escape_lanes.specs.declared.simd.target.Target.{Target}
 pub use Rattle.escape_simd.specs.Escaping.{IsEscaping, IsHarmless, IsOneLine}
 pub use Rattle.escape_simd.specs.Formatted.{IsFormatted, IsInnerWritten, IsQuoted, IsWritten, IsWrittenAt}

@@ -1,7 +1,7 @@
 -- What a kernel leaves behind.
 use Rattle.std.specs.Prelude.{◌≡◌, ℕ, ◌+◌, ◌*◌, ◌/◌, ◌≤◌, List, ◌++◌, length, take, drop}
 use Rattle.escape_lanes.specs.Mode.{Mode}
-use Rattle.escape_lanes.specs.Written.{bytes_of, stored_of, escaped_of, quotes_of, writes_of, IsSameSlice}
+use Rattle.escape_lanes.specs.Written.{bytes_of, stored_of, escaped_of, quotes_of, IsSameSlice}
 use Rattle.escape_lanes.specs.declared.simd.target.Target.{Target}
 use Rattle.escape_simd.specs.Output.{plain, inner, quote_of, quote_count, bound}
 use Rattle.escape_simd.specs.Runs.{escaped_count, run_count}
@@ -30,10 +30,9 @@ pub record IsQuoted {N : ℕ} (mode : Mode) (old new : Target N) (to end : ℕ) 
   pub stored : stored_of new ≡ stored_of old
   pub escaped : escaped_of new ≡ escaped_of old
   pub quotes : quotes_of new ≡ quotes_of old + length (quote_of mode)
-  pub writes : writes_of new ≡ writes_of old + length (quote_of mode)
 
 -- The same in a target, at a cost of one vector stored, and one classified, for each run of escapes, and
--- one for each vector that the text fills or begins. Each write was counted.
+-- one for each vector that the text fills or begins.
 pub record IsFormatted {N : ℕ} (mode : Mode) (text : List ℕ) (old new : Target N) (count ticks_old ticks_new : ℕ) : Type 0 where
   pub same_slice : IsSameSlice old new
   pub written : IsWritten N mode text (bytes_of old) (bytes_of new) count
@@ -43,8 +42,6 @@ pub record IsFormatted {N : ℕ} (mode : Mode) (text : List ℕ) (old new : Targ
   -- each vector stored was classified
   pub each_stored : ticks_old + stored_of new ≤ ticks_new + stored_of old
   pub classified : ticks_new ≤ ticks_old + (run_count mode text + length text / N + 1)
-  -- no more writes than vectors stored, escapes and quotes together
-  pub writes : writes_of new + (stored_of old + escaped_of old + quotes_of old) ≤ writes_of old + (stored_of new + escaped_of new + quotes_of new)
 
 -- What stands for the text, with no quotation marks, stands at the front of the bytes.
 pub record IsInnerWritten (lanes : ℕ) (mode : Mode) (text old new : List ℕ) (count : ℕ) : Type 0 where

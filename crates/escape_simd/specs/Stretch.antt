@@ -7,7 +7,7 @@ use Rattle.escape_lanes.specs.Mode.{Mode, json, html, script}
 use Rattle.escape_lanes.specs.Replacement.{needs_escape, replacement}
 use Rattle.escape_lanes.specs.Short.{shortened}
 use Rattle.escape_lanes.specs.Spread.{flag_count, flagged_blocks}
-use Rattle.escape_lanes.specs.Written.{bytes_of, stored_of, escaped_of, quotes_of, writes_of, IsSameSlice}
+use Rattle.escape_lanes.specs.Written.{bytes_of, stored_of, escaped_of, quotes_of, IsSameSlice}
 use Rattle.escape_lanes.specs.declared.simd.target.Target.{Target}
 use Rattle.escape_simd.specs.Output.{inner, passed}
 use Rattle.escape_simd.specs.Runs.{escaped_count, run_count, run_count_after}
@@ -26,7 +26,7 @@ pub record HasRoom (mode : Mode) (slack : ℕ) (src : List ℕ) (at stop to size
   pub fits : to + rest_length mode src at + slack ≤ size + rest_length mode src stop
 
 -- The bytes of a text from `at` up to `next` were escaped into a target from `to` up to `end`. No write
--- reached further than `slack` bytes past `end`, and each was counted.
+-- reached further than `slack` bytes past `end`.
 pub record Stretch {N : ℕ} (mode : Mode) (slack : ℕ) (src : List ℕ) (old new : Target N) (at next to end : ℕ) : Type 0 where
   pub same_slice : IsSameSlice old new
   pub forward : at ≤ next
@@ -38,7 +38,6 @@ pub record Stretch {N : ℕ} (mode : Mode) (slack : ℕ) (src : List ℕ) (old n
   pub kept : drop (end + slack) (bytes_of new) ≡ drop (end + slack) (bytes_of old)
   pub escaped : escaped_of new + escaped_count mode (drop next src) ≡ escaped_of old + escaped_count mode (drop at src)
   pub quotes : quotes_of new ≡ quotes_of old
-  pub writes : writes_of new + (stored_of old + escaped_of old) ≤ writes_of old + (stored_of new + escaped_of new)
 
 -- What a stretch of a text from `at` up to `next` may cost: a vector stored for each of its runs, and `vectors` more. As many
 -- vectors are classified as are stored at least, and as may be stored at most. So many of them were classified before: `asked`.
@@ -146,7 +145,6 @@ pub record IsStored {N : ℕ} (slack : ℕ) (src : List ℕ) (old new : Target N
   pub stored : stored_of new ≡ stored_of old + 1
   pub escaped : escaped_of new ≡ escaped_of old
   pub quotes : quotes_of new ≡ quotes_of old
-  pub writes : writes_of new ≡ writes_of old + 1
 
 -- All escapes of a vector that ends at `border` were written: its clean bytes from `from` on are left, or the rest of a separator
 -- went past it. What is written is at `to`.

@@ -12,11 +12,11 @@ mod mask;
 mod script;
 
 use crate::simd::classifier::Classifier;
-use crate::simd::lanes;
 use crate::simd::last::{self, LoadLast};
 use crate::simd::mode::{is_quoted, is_script};
 use crate::simd::target::Ticks;
 use crate::simd::traits::{BitMask, Simd};
+use crate::simd::{lanes, needs};
 use crate::tables::HTML_CANDIDATE_TAB;
 pub use mask::Mask256;
 use mask::bits;
@@ -123,7 +123,7 @@ fn by_low_half(v: &u8x32, table: &[u8; 16]) -> u8x32
     requires { AreBytes 32 v.now }
     ensures { result ≡ map (at_low_half table.now) v.now }
 {
-    lanes::repeated(table).swizzle_dyn_within::<16>(*v & u8x32::splat(15))
+    needs::repeated(table).swizzle_dyn_within::<16>(*v & u8x32::splat(15))
 }
 
 /// Returns what the table has for the high half of each lane.
@@ -132,7 +132,7 @@ fn by_high_half(v: &u8x32, table: &[u8; 16]) -> u8x32
     requires { AreBytes 32 v.now }
     ensures { result ≡ map (at_high_half table.now) v.now }
 {
-    lanes::repeated(table).swizzle_dyn_within::<16>(*v >> u8x32::splat(4))
+    needs::repeated(table).swizzle_dyn_within::<16>(*v >> u8x32::splat(4))
 }
 
 /// Returns which lanes of `v` have bytes that need an escape: in HTML if `HTML`, else in JSON. It
@@ -146,9 +146,9 @@ pub fn escaped_mask<const HTML: bool>(v: &Simd256u, ticks: &mut Ticks) -> u32
 {
     ticks.tick();
     let flags = if HTML {
-        lanes::html_needs_by_candidates(&v.lanes, &by_low_half(&v.lanes, &HTML_CANDIDATE_TAB))
+        needs::html_needs_by_candidates(&v.lanes, &by_low_half(&v.lanes, &HTML_CANDIDATE_TAB))
     } else {
-        lanes::json_needs(&v.lanes)
+        needs::json_needs(&v.lanes)
     };
-    lanes::flag_bits(&flags) as u32
+    needs::flag_bits(&flags) as u32
 }

@@ -3,7 +3,7 @@ ghost use Rattle.std.specs.Prelude.{◌≡◌};
 ghost use Rattle.escape_lanes.specs.Bits.{bits_of, nibbles_of, length-bits_of, length-lanes_of};
 ghost use Rattle.escape_lanes.specs.Lanes.{AreBytes, flagged_lanes};
 
-use crate::simd::lanes;
+use crate::simd::needs;
 use crate::simd::traits::BitMask;
 use std::simd::prelude::*;
 
@@ -124,7 +124,7 @@ impl NeonBits {
     pub(crate) fn lane_bits(&self) -> u16
         ensures { bits_of 16 result ≡ ⟦<NeonBits as BitMask>⟧.bits self.now }
     {
-        lanes::flag_bits(&flags_of_nibbles(self.nibbles)) as u16
+        needs::flag_bits(&flags_of_nibbles(self.nibbles)) as u16
     }
 }
 

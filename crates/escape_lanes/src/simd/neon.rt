@@ -12,12 +12,12 @@ mod script;
 
 use crate::simd::bits::NeonBits;
 use crate::simd::classifier::Classifier;
-use crate::simd::lanes;
 use crate::simd::last::{self, LoadLast};
 use crate::simd::mask::Mask;
 use crate::simd::mode::{is_quoted, is_script};
 use crate::simd::target::Ticks;
 use crate::simd::traits::{BitMask, Simd};
+use crate::simd::{lanes, needs};
 use crate::tables::{HTML_HI_NIBBLE_TAB, HTML_LO_NIBBLE_TAB};
 pub use mask::Mask128;
 pub use script::script_mask;
@@ -124,7 +124,7 @@ fn by_low_half(v: &u8x16, table: &[u8; 16]) -> u8x16
     requires { AreBytes 16 v.now }
     ensures { result ≡ map (at_low_half table.now) v.now }
 {
-    lanes::repeated(table).swizzle_dyn_within::<16>(*v & u8x16::splat(15))
+    needs::repeated(table).swizzle_dyn_within::<16>(*v & u8x16::splat(15))
 }
 
 /// Returns what the table has for the high half of each lane.
@@ -133,7 +133,7 @@ fn by_high_half(v: &u8x16, table: &[u8; 16]) -> u8x16
     requires { AreBytes 16 v.now }
     ensures { result ≡ map (at_high_half table.now) v.now }
 {
-    lanes::repeated(table).swizzle_dyn_within::<16>(*v >> u8x16::splat(4))
+    needs::repeated(table).swizzle_dyn_within::<16>(*v >> u8x16::splat(4))
 }
 
 /// Returns the bits that both nibble tables have for each lane.
@@ -156,12 +156,12 @@ pub fn escaped_mask_vec<const HTML: bool>(v: &Simd128u, ticks: &mut Ticks) -> Ma
 {
     ticks.tick();
     let flags = if HTML {
-        lanes::html_needs(&v.lanes, &nibble_flags(&v.lanes))
+        needs::html_needs(&v.lanes, &nibble_flags(&v.lanes))
     } else {
-        lanes::json_needs(&v.lanes)
+        needs::json_needs(&v.lanes)
     };
     Mask128 {
-        lanes: lanes::flag_mask(&flags),
+        lanes: needs::flag_mask(&flags),
     }
 }
 

@@ -10,11 +10,11 @@ mod mask;
 mod script;
 
 use crate::simd::classifier::Classifier;
-use crate::simd::lanes;
 use crate::simd::last::{self, LoadLast};
 use crate::simd::mode::{is_quoted, is_script};
 use crate::simd::target::Ticks;
 use crate::simd::traits::{BitMask, Simd};
+use crate::simd::{lanes, needs};
 pub use mask::Mask128;
 pub use script::script_mask;
 use std::simd::prelude::*;
@@ -122,11 +122,11 @@ fn html_needs(v: &u8x16) -> u8x16
     ensures bytes { AreBytes 16 result }
     ensures lanes { flagged_lanes result ≡ map (needs_escape html) v.now }
 {
-    let quote_or_ampersand = lanes::is_without(v, 0x04, b'"');
-    let apostrophe_or_slash = lanes::is_without(v, 0x08, b'\'');
-    let angle = lanes::is_without(v, 0x02, b'<');
-    lanes::join(
-        &lanes::join(&quote_or_ampersand, &apostrophe_or_slash),
+    let quote_or_ampersand = needs::is_without(v, 0x04, b'"');
+    let apostrophe_or_slash = needs::is_without(v, 0x08, b'\'');
+    let angle = needs::is_without(v, 0x02, b'<');
+    needs::join(
+        &needs::join(&quote_or_ampersand, &apostrophe_or_slash),
         &angle,
     )
 }
@@ -144,7 +144,7 @@ pub fn escaped_mask<const HTML: bool>(v: &Simd128u, ticks: &mut Ticks) -> u16
     let flags = if HTML {
         html_needs(&v.lanes)
     } else {
-        lanes::json_needs(&v.lanes)
+        needs::json_needs(&v.lanes)
     };
-    lanes::flag_bits(&flags) as u16
+    needs::flag_bits(&flags) as u16
 }

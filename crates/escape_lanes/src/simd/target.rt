@@ -1,26 +1,16 @@
 //! The bytes that a kernel writes to, and how often it did.
-ghost use Rattle.std.specs.Prelude.{◌≡◌, ◌+◌, ◌<◌, ◌≤◌, length, take, max, slice_set};
-ghost use Rattle.std.proofs.Math.Seq.{paste};
-ghost use Rattle.escape_lanes.specs.Bits.{bits_of};
-ghost use Rattle.escape_lanes.specs.Spread.{IsBlock};
-ghost use Rattle.escape_lanes.specs.Written.{bytes_of, stored_of, escaped_of, quotes_of, writes_of, IsOver, IsSameSlice, Writes};
+ghost use Rattle.std.specs.Prelude.{◌≡◌, ◌+◌, ◌<◌, ◌≤◌, length, max};
+ghost use Rattle.escape_lanes.specs.Written.{bytes_of, stored_of, escaped_of, quotes_of, IsOver, Writes};
 
 use crate::simd::front::copy_front;
 use crate::simd::ticks::Tally;
 pub use crate::simd::ticks::Ticks;
-use crate::simd::traits::LoadStore;
-use crate::tables::spread_row;
-use std::simd::prelude::*;
-
-/// The first eight lanes of a vector, and the first eight of another.
-const FIRST_HALVES: [usize; 16] = [0, 1, 2, 3, 4, 5, 6, 7, 16, 17, 18, 19, 20, 21, 22, 23];
 
 /// The one slice that a kernel with vectors of `N` bytes writes to.
 ///
-/// A contract sees its bytes and four counts: the vectors stored, the escapes written, the quotes
-/// written, and the writes. The counts take no bytes, so a target is as large as the reference that
-/// it holds. Each call that writes changes its own range and its own counts, raises the writes by one,
-/// and leaves the rest.
+/// A contract sees its bytes and three counts: of the vectors stored, the escapes and the quotes. The
+/// counts take no bytes, so a target is as large as the reference that it holds. Each call that writes
+/// changes its own range and raises one count, and leaves the rest.
 ///
 /// ```rust
 /// let mut target = Target::<16>::new(&mut dst);
@@ -32,7 +22,6 @@ pub struct Target<'a, const N: usize> {
     stored: Tally,
     escaped: Tally,
     quotes: Tally,
-    writes: Tally,
 }
 
 impl<'a, const N: usize> Target<'a, N> {
@@ -44,14 +33,12 @@ impl<'a, const N: usize> Target<'a, N> {
         ensures stored { stored_of result ≡ 0 }
         ensures escaped { escaped_of result ≡ 0 }
         ensures quotes { quotes_of result ≡ 0 }
-        ensures writes { writes_of result ≡ 0 }
     {
         Target {
             slice: dst,
             stored: Tally::new(),
             escaped: Tally::new(),
             quotes: Tally::new(),
-            writes: Tally::new(),
         }
     }
 
@@ -63,12 +50,21 @@ impl<'a, const N: usize> Target<'a, N> {
         self.slice.len()
     }
 
-    /// Writes the bytes at `at`, at most a vector's `N` or a block's 16. No other function writes to the slice.
+    /// Writes the bytes at `at`, at most a vector's `N` or a block's 16, and counts what they are. Nothing
+    /// else writes to the slice: its field is private to this file.
     #[inline(always)]
-    fn write(&mut self, at: usize, bytes: &[u8])
+    pub(super) fn write(
+        &mut self,
+        at: usize,
+        bytes: &[u8],
+        vectors: usize,
+        escapes: usize,
+        quotes: usize,
+    )
         requires few { length bytes.now ≤ max N 16 }
         requires room { at + length bytes.now ≤ length (bytes_of self.old) }
-        ensures { Writes 0 0 0 self.old self.new at bytes.now }
+        requires counted { 0 < vectors + escapes + quotes }
+        ensures { Writes vectors escapes quotes self.old self.new at bytes.now }
     {
         let place = &mut self.slice[at..at + bytes.len()];
         if N <= 64 {
@@ -76,97 +72,8 @@ impl<'a, const N: usize> Target<'a, N> {
         } else {
             place.copy_from_slice(bytes);
         }
-        self.writes.raise();
-    }
-
-    /// Writes the `N` lanes of `v` at `at`.
-    ///
-    /// The vector has `N` lanes, and the target `N` bytes from `at` on.
-    #[inline(always)]
-    pub fn store<S: LoadStore>(&mut self, at: usize, v: &S)
-        requires lanes { S.LANES ≡ N }
-        requires room { at + N ≤ length (bytes_of self.old) }
-        ensures same_slice { IsSameSlice self.old self.new }
-        ensures bytes { bytes_of self.new ≡ paste (bytes_of self.old) at (S.lanes v.now) N }
-        ensures stored { stored_of self.new ≡ stored_of self.old + 1 }
-        ensures escaped { escaped_of self.new ≡ escaped_of self.old }
-        ensures quotes { quotes_of self.new ≡ quotes_of self.old }
-        ensures writes { writes_of self.new ≡ writes_of self.old + 1 }
-    {
-        self.store_front(at, v, N);
-    }
-
-    /// Writes exactly the first `k` lanes of `v` at `at`.
-    ///
-    /// The vector has `N` lanes, `k` of which are written, and the target `k` bytes from `at` on.
-    #[inline(always)]
-    pub fn store_front<S: LoadStore>(&mut self, at: usize, v: &S, k: usize)
-        requires lanes { S.LANES ≡ N }
-        requires count { k ≤ N }
-        requires room { at + k ≤ length (bytes_of self.old) }
-        ensures same_slice { IsSameSlice self.old self.new }
-        ensures bytes { bytes_of self.new ≡ paste (bytes_of self.old) at (S.lanes v.now) k }
-        ensures stored { stored_of self.new ≡ stored_of self.old + 1 }
-        ensures escaped { escaped_of self.new ≡ escaped_of self.old }
-        ensures quotes { quotes_of self.new ≡ quotes_of self.old }
-        ensures writes { writes_of self.new ≡ writes_of self.old + 1 }
-    {
-        let mut lanes = [0u8; N];
-        v.put(&mut lanes);
-        self.write(at, &lanes[..k]);
-        self.stored.raise();
-    }
-
-    /// Writes the eight bytes of an entry at `at`: one escape.
-    ///
-    /// The target has eight bytes from `at` on.
-    #[inline(always)]
-    pub fn escape(&mut self, at: usize, entry: &[u8; 8])
-        requires { at + 8 ≤ length (bytes_of self.old) }
-        ensures same_slice { IsSameSlice self.old self.new }
-        ensures bytes { bytes_of self.new ≡ paste (bytes_of self.old) at entry.now 8 }
-        ensures stored { stored_of self.new ≡ stored_of self.old }
-        ensures escaped { escaped_of self.new ≡ escaped_of self.old + 1 }
-        ensures quotes { quotes_of self.new ≡ quotes_of self.old }
-        ensures writes { writes_of self.new ≡ writes_of self.old + 1 }
-    {
-        self.write(at, entry);
-        self.escaped.raise();
-    }
-
-    /// Writes the first eight bytes of `block` at `at`, a reverse solidus before each that is flagged, and after them
-    /// reverse solidi up to 16 bytes. The flag of the first byte is the lowest. Returns the place after the eight bytes.
-    ///
-    /// Each flag is an escape. A block with none counts as a vector stored. The target has 16 bytes from `at` on.
-    #[inline(always)]
-    pub fn escape_block(&mut self, at: usize, block: u8x16, flags: u8) -> usize
-        requires whole { length block ≡ 16 }
-        requires room { at + 16 ≤ length (bytes_of self.old) }
-        ensures { IsBlock (bits_of 8 flags) (take 8 block) self.old self.new at result }
-    {
-        let solidi = block.shuffle(u8x16::splat(b'\\'), FIRST_HALVES);
-        let places = u8x16::from_array(*spread_row(flags));
-        let escapes = flags.count_ones() as usize;
-        self.write(at, &solidi.swizzle_dyn(places).to_array());
-        self.stored.raise_by((escapes == 0) as usize);
+        self.stored.raise_by(vectors);
         self.escaped.raise_by(escapes);
-        at + 8 + escapes
-    }
-
-    /// Writes a quotation mark, 0x22, at `at`.
-    ///
-    /// The target has a byte at `at`.
-    #[inline(always)]
-    pub fn quote(&mut self, at: usize)
-        requires { at < length (bytes_of self.old) }
-        ensures same_slice { IsSameSlice self.old self.new }
-        ensures bytes { bytes_of self.new ≡ slice_set (bytes_of self.old) at 0x22 }
-        ensures stored { stored_of self.new ≡ stored_of self.old }
-        ensures escaped { escaped_of self.new ≡ escaped_of self.old }
-        ensures quotes { quotes_of self.new ≡ quotes_of self.old + 1 }
-        ensures writes { writes_of self.new ≡ writes_of self.old + 1 }
-    {
-        self.write(at, b"\"");
-        self.quotes.raise();
+        self.quotes.raise_by(quotes);
     }
 }

@@ -2,7 +2,7 @@
 ghost use Rattle.std.specs.Prelude.{◌≡◌, ◌+◌, ◌-◌, ◌*◌, ◌<◌, ◌≤◌, ◌++◌, IsTrue, length, take, drop, slice_index, slice_range};
 ghost use Rattle.escape_lanes.specs.Mode.{mode_of};
 ghost use Rattle.escape_lanes.specs.Replacement.{needs_escape};
-ghost use Rattle.escape_lanes.specs.Written.{bytes_of, stored_of, escaped_of, quotes_of, writes_of, IsSameSlice};
+ghost use Rattle.escape_lanes.specs.Written.{bytes_of, stored_of, escaped_of, quotes_of, IsSameSlice};
 ghost use Rattle.escape_simd.specs.Modes.{mode_numbered};
 ghost use Rattle.escape_simd.specs.Output.{inner};
 ghost use Rattle.escape_simd.specs.Stretch.{Escaped, EscapedRun, HasRunRoom, IsFlaggedAt, run_end};
@@ -97,7 +97,6 @@ pub fn escape_unchecked<const HTML: bool, const N: usize>(
     ensures escaped { escaped_of target.new ≡ escaped_of target.old + (result.0 - at) }
     ensures stored { stored_of target.new ≡ stored_of target.old }
     ensures quotes { quotes_of target.new ≡ quotes_of target.old }
-    ensures writes { writes_of target.new ≤ writes_of target.old + (result.0 - at) }
 {
     if HTML {
         return escape_run::<Entries, { HTML_MODE }, N>(

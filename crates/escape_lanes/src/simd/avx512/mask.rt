@@ -1,4 +1,4 @@
-//! What a comparison of two vectors returns: for callers and tests. No kernel uses it.
+//! What a comparison of two vectors returns: for callers and tests.
 ghost use Rattle.std.specs.Prelude.{◌≡◌, ◌||◌, ◌&&◌};
 ghost use Rattle.std.specs.Simd.Lanes.{zip2};
 ghost use Rattle.escape_lanes.specs.Bits.{bits_of, length-bits_of};

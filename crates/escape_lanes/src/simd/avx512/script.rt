@@ -5,7 +5,7 @@ ghost use Rattle.escape_lanes.specs.Mode.{script};
 ghost use Rattle.escape_lanes.specs.Replacement.{needs_escape};
 
 use crate::simd::avx512::{Simd512u, by_high_half, by_low_half};
-use crate::simd::lanes;
+use crate::simd::needs;
 use crate::simd::target::Ticks;
 use crate::simd::traits::{BitMask, Simd};
 use crate::tables::{SCRIPT_HI_NIBBLE_TAB, SCRIPT_LO_NIBBLE_TAB};
@@ -20,7 +20,7 @@ fn script_needs(v: &u8x64) -> u8x64
 {
     let low = by_low_half(v, &SCRIPT_LO_NIBBLE_TAB);
     let high = by_high_half(v, &SCRIPT_HI_NIBBLE_TAB);
-    lanes::script_needs(v, &low, &high)
+    needs::script_needs(v, &low, &high)
 }
 
 /// Returns which lanes of `v` have bytes that a script literal has to look at. It ticks once.
@@ -32,5 +32,5 @@ pub fn script_mask(v: &Simd512u, ticks: &mut Ticks) -> u64
     ensures tick { ticks.new ≡ ticks.old + 1 }
 {
     ticks.tick();
-    lanes::flag_bits(&script_needs(&v.lanes))
+    needs::flag_bits(&script_needs(&v.lanes))
 }

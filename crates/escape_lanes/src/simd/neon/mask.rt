@@ -1,4 +1,4 @@
-//! What a comparison of two vectors returns: for callers and tests. No kernel uses it.
+//! What a comparison of two vectors returns, and four bits for each lane of it.
 ghost use Rattle.std.specs.Prelude.{◌≡◌, ◌||◌, ◌&&◌, nat_eq};
 ghost use Rattle.std.specs.Simd.Lanes.{zip2};
 ghost use Rattle.std.proofs.Common.{◌∙◌};

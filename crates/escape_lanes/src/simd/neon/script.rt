@@ -5,7 +5,7 @@ ghost use Rattle.escape_lanes.specs.Mode.{script};
 ghost use Rattle.escape_lanes.specs.Replacement.{needs_escape};
 
 use crate::simd::bits::NeonBits;
-use crate::simd::lanes;
+use crate::simd::needs;
 use crate::simd::neon::mask::bits;
 use crate::simd::neon::{Simd128u, by_high_half, by_low_half};
 use crate::simd::target::Ticks;
@@ -22,7 +22,7 @@ pub(crate) fn script_needs(v: &u8x16) -> u8x16
 {
     let low = by_low_half(v, &SCRIPT_LO_NIBBLE_TAB);
     let high = by_high_half(v, &SCRIPT_HI_NIBBLE_TAB);
-    lanes::script_needs(v, &low, &high)
+    needs::script_needs(v, &low, &high)
 }
 
 /// Returns which lanes of `v` have bytes that a script literal has to look at. It ticks once.
@@ -34,5 +34,5 @@ pub fn script_mask(v: &Simd128u, ticks: &mut Ticks) -> NeonBits
     ensures tick { ticks.new ≡ ticks.old + 1 }
 {
     ticks.tick();
-    bits(&lanes::flag_mask(&script_needs(&v.lanes)))
+    bits(&needs::flag_mask(&script_needs(&v.lanes)))
 }

@@ -4,7 +4,7 @@ ghost use Rattle.std.specs.Prelude.{◌≡◌, ◌+◌, map};
 ghost use Rattle.escape_lanes.specs.Mode.{script};
 ghost use Rattle.escape_lanes.specs.Replacement.{needs_escape};
 
-use crate::simd::lanes;
+use crate::simd::needs;
 use crate::simd::neon::script_needs;
 use crate::simd::sse2::Simd128u;
 use crate::simd::target::Ticks;
@@ -19,5 +19,5 @@ pub fn script_mask(v: &Simd128u, ticks: &mut Ticks) -> u16
     ensures tick { ticks.new ≡ ticks.old + 1 }
 {
     ticks.tick();
-    lanes::flag_bits(&script_needs(&v.lanes)) as u16
+    needs::flag_bits(&script_needs(&v.lanes)) as u16
 }

@@ -1,4 +1,4 @@
-//! What a comparison of two vectors returns: for callers and tests. No kernel uses it.
+//! What a comparison of two vectors returns: for callers and tests.
 //!
 //! The comparisons hold a mask as an array of bytes, 1 in each lane that is set and 0 in the
 //! others, and take its bits once, at the end.

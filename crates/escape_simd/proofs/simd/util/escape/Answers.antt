@@ -23,7 +23,7 @@ returns-then-is_separator g c =
     record {
       stretch =
           ended (escaped_unit mode src c.args.target.now c.escape.new.self at c.args.to c.separator_entry.result.now c.requires.flagged.inside c.requires.flagged.needed 6 e.same_slice e.bytes c.requires.room f.0 (omega arith)
-          (f.1 ∙ sym (ap (λ m. first_replacement m (drop at src)) third)) e.escaped e.stored e.quotes e.writes) step refl;
+          (f.1 ∙ sym (ap (λ m. first_replacement m (drop at src)) third)) e.escaped e.stored e.quotes) step refl;
       place = sym step;
       stored = e.stored;
     }
@@ -38,7 +38,7 @@ returns g c =
     record {
       stretch =
           ended (escaped_unit mode src c.args.target.now c.escape-2.new.self at c.args.to c.entry-entry.result.now.1 c.requires.flagged.inside needed c.entry-entry.result.now.0 e.same_slice e.bytes c.requires.room (ap length entry.bytes ∙ entry-long mode b needed) (omega (arith, count, six))
-          (ap (λ k. take k c.entry-entry.result.now.1) entry.count ∙ ap (take (entry_count mode b)) entry.bytes ∙ entry-front mode b needed ∙ sym (first-alone mode src at none)) e.escaped e.stored e.quotes e.writes) step refl;
+          (ap (λ k. take k c.entry-entry.result.now.1) entry.count ∙ ap (take (entry_count mode b)) entry.bytes ∙ entry-front mode b needed ∙ sym (first-alone mode src at none)) e.escaped e.stored e.quotes) step refl;
       place = sym step;
       stored = e.stored;
     }

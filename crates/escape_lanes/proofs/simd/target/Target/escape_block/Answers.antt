@@ -23,10 +23,9 @@ returns g c =
       written = record {
         same_slice = record { reference = w.same_slice.reference; len = w.same_slice.len };
         bytes = w.bytes;
-        stored = omega (arith, w.stored, c.raise_by.ensures, as_number (nat_eq (count_ones c.args.flags) 0), ap {B = ℕ} (λ n. if nat_eq n 0 then 1 else 0) count);
-        escaped = omega (arith, w.escaped, c.raise_by-2.ensures, count);
+        stored = omega (arith, w.stored, as_number (nat_eq (count_ones c.args.flags) 0), ap {B = ℕ} (λ n. if nat_eq n 0 then 1 else 0) count);
+        escaped = omega (arith, w.escaped, count);
         quotes = w.quotes;
-        writes = w.writes;
       };
       after = omega (arith, count);
     }

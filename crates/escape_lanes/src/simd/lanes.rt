@@ -2,7 +2,7 @@
 //!
 //! A mask is a vector of bytes, 0xff in each lane that is set and 0 in the others, since the masks
 //! of `std::simd` have no `Debug`.
-ghost use Rattle.std.specs.Prelude.{◌≡◌, ◌++◌, ◌<◌, ◌≤◌, ◌^◌, length, take, drop, replicate, nat_eq, nat_le};
+ghost use Rattle.std.specs.Prelude.{◌≡◌, ◌||◌, ◌&&◌, ◌++◌, ◌<◌, ◌≤◌, ◌^◌, length, take, drop, replicate, nat_eq, nat_le};
 ghost use Rattle.std.specs.Simd.Lanes.{zip2};
 ghost use Rattle.escape_lanes.specs.Bits.{bits_of};
 ghost use Rattle.escape_lanes.specs.Lanes.{AreBytes, AreWhole, set_lanes};

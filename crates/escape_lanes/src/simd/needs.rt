@@ -1,7 +1,7 @@
 //! Which lanes need an escape, at every width.
 //!
 //! Of a flag only the lane's top bit counts, so a difference can set it.
-ghost use Rattle.std.specs.Prelude.{◌≡◌, ℕ, ◌<◌, ◌≤◌, ◌^◌, ◌%◌, length, map, nat_eq, nat_le, slice_index, bit_and, bit_xor, ◌-◌};
+ghost use Rattle.std.specs.Prelude.{◌≡◌, ◌||◌, ℕ, ◌<◌, ◌≤◌, ◌^◌, ◌%◌, length, map, nat_eq, nat_le, slice_index, bit_and, bit_xor, ◌-◌};
 ghost use Rattle.std.specs.Simd.Lanes.{zip2};
 ghost use Rattle.escape_lanes.specs.Bits.{bits_of};
 ghost use Rattle.escape_lanes.specs.Lanes.{AreBytes, AreWhole, set_lanes, flagged_lanes, is_one_of};

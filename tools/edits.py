@@ -1,4 +1,4 @@
-"""Wrong bodies, applied to a copy of the checkout: what tools/bite and tools/refusals share."""
+"""Wrong bodies: what tools/bite, tools/promises and tools/refusals share."""
 
 import contextlib
 import shutil
@@ -10,44 +10,45 @@ TOP = Path(__file__).resolve().parent.parent
 
 @contextlib.contextmanager
 def copied():
-    """A copy of the checkout, with what crates/*/out keeps, which is removed at the end."""
+    """A copy of the checkout, without what was made there, which is removed at the end."""
     with tempfile.TemporaryDirectory() as room:
-        yield Path(shutil.copytree(TOP, Path(room) / "copy", symlinks=True, ignore=shutil.ignore_patterns(".git")))
+        made = shutil.ignore_patterns(".git", ".build", "out", "dist")
+        yield Path(shutil.copytree(TOP, Path(room) / "copy", symlinks=True, ignore=made))
 
 
-def path_of(top, edit):
+def path_of(edit):
     """The file of an edit, which is named as CRATE/FUNCTION.NAME: a must-fail edit, or one of tools/bodies."""
     crate, name = edit.split("/")
-    must_fail = top / "crates" / crate / "must-fail" / f"{name}.edit"
-    return must_fail if must_fail.exists() else top / "tools/bodies" / f"{crate}.{name}.edit"
+    must_fail = TOP / "crates" / crate / "must-fail" / f"{name}.edit"
+    return must_fail if must_fail.exists() else TOP / "tools/bodies" / f"{crate}.{name}.edit"
 
 
-def steps(path):
-    """The file, the old text and the new text of each step of an edit."""
-    file = old = None
+def edited(folder, path):
+    """The texts of the crate in the folder that the edit of that path changes, by their files, as it leaves them."""
+    texts = {}
     for line in path.read_text().splitlines():
-        word, _, text = line.partition(":")
-        text = text[1:]
+        word, _, value = line.partition(":")
+        value = value[1:]
         if word == "file":
-            file = text
+            file = folder / value
+            texts.setdefault(file, file.read_text())
         elif word == "old":
-            old = text
+            old = value
+            if texts[file].count(old) != 1:
+                raise ValueError(f"not once in {file.relative_to(folder)}: {old.strip()}")
         elif word == "new":
-            yield file, old, text
+            texts[file] = texts[file].replace(old, value)
+    return texts
 
 
 @contextlib.contextmanager
 def applied(copy, edit):
     """Applies an edit to the copy, and takes it back at the end."""
-    before = {}
+    texts = edited(copy / "crates" / edit.split("/")[0], path_of(edit))
+    before = {path: path.read_text() for path in texts}
     try:
-        for file, old, new in steps(path_of(copy, edit)):
-            path = copy / "crates" / edit.split("/")[0] / file
-            text = path.read_text()
-            before.setdefault(path, text)
-            if text.count(old) != 1:
-                raise ValueError(f"the old text is there {text.count(old)} times: {old}")
-            path.write_text(text.replace(old, new))
+        for path, text in texts.items():
+            path.write_text(text)
         yield
     finally:
         for path, text in before.items():

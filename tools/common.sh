@@ -42,6 +42,21 @@ prints() {
   printf '  it printed %s\n' "$output"
 }
 
+# run COMMAND..: runs it, and keeps its status, and in the room what it writes and what it says on standard error.
+run() {
+  "$@" >"$room/out" 2>"$room/said"
+  status=$?
+}
+
+# leaves NAME STATUS OUTPUT MESSAGE: counts whether the last run left just these.
+leaves() {
+  if [ "$status" = "$2" ] && [ "$(cat "$room/out")" = "$3" ] && [ "$(cat "$room/said")" = "$4" ]; then
+    pass "$1"
+  else
+    fail "$1: status $status, wanted $2; it left: $(head -c 200 "$room/out" "$room/said")"
+  fi
+}
+
 # Prints the counts, and fails where something failed.
 summary() {
   if [ "$skipped" = 0 ]; then

@@ -85,18 +85,21 @@ make_room() {
 # has COMMAND: whether it is there.
 has() { command -v "$1" >/dev/null; }
 
-# makes_wheels PYTHON: whether it is there with its headers, and a C compiler. has_pip PYTHON: whether it has pip.
+# makes_wheels PYTHON: whether it is there with its headers, and a C compiler.
 makes_wheels() {
   has "$(compiler_for C x86-64-v2)" &&
     "$1" -c 'import os, sysconfig; os.stat(sysconfig.get_path("include") + "/Python.h")' 2>/dev/null
 }
-has_pip() { "$1" -m pip --version >/dev/null 2>&1; }
 
-# pip_install PYTHON FOLDER WHAT: installs a wheel, or a package's folder, into the folder alone, with what is on this
-# machine.
-pip_install() {
+# test_package NAME PYTHON FOLDER WHAT EXAMPLE: installs a wheel, or a package's folder, by pip into the folder alone, with
+# what is on this machine, and runs the example there. Fails where it isn't installed.
+test_package() {
+  local installer=("$2" -m pip) user=(env PYTHONPATH="$3" PYTHONUTF8=1 PYTHONDONTWRITEBYTECODE=1 "$2")
+  "${installer[@]}" --version >/dev/null 2>&1 || { skip "$1: there is no pip"; return 1; }
   PIP_NO_INDEX=1 PIP_DISABLE_PIP_VERSION_CHECK=1 PIP_ROOT_USER_ACTION=ignore PYTHONDONTWRITEBYTECODE=1 \
-    "$1" -m pip install --quiet --no-build-isolation --no-deps --target "$2" "$3"
+    "${installer[@]}" install --quiet --no-build-isolation --no-deps --target "$3" "$4" || { fail "$1: installing"; return 1; }
+  prints "$1: its version" "$(version)" "${user[@]}" -c 'import escape_simd; print(escape_simd.__version__)'
+  prints "$1: the example" "$(printf '%s\n' '"<é>"' '&lt;é&gt;' '"\u003cé\u003e"')" "${user[@]}" "$5" '<é>'
 }
 
 # set_crates [NAMES]: sets crates to these crates and those that they stand on, or to all, lowest first. It starts no
@@ -232,7 +235,7 @@ build_anew() {
 }
 
 # tell_progress STARTED: reads what rt prints, and says on standard error at which crate it is, how many of its functions
-# are proved, and how many seconds passed: on a terminal in one line, else a line for each crate and one every half minute.
+# are proved, and how many seconds passed: a line for each crate, and one every half minute.
 tell_progress() {
   local line number crate= functions= told=-30 far='so far: ([0-9]+) of ([0-9]+) functions'
   while IFS= read -r line; do
@@ -242,13 +245,9 @@ tell_progress() {
       fi
     done
     [[ ! $line =~ $far ]] || functions=", ${BASH_REMATCH[1]} of ${BASH_REMATCH[2]} functions"
-    [ -n "$crate" ] || continue
-    if [ -t 2 ]; then
-      printf '\r\033[K%s: %s%s, %s seconds' "${script##*/}" "$crate" "$functions" "$((SECONDS - $1))" >&2
-    elif [ $((SECONDS - told)) -ge 30 ]; then
+    if [ -n "$crate" ] && [ $((SECONDS - told)) -ge 30 ]; then
       say "$crate$functions, $((SECONDS - $1)) seconds"
       told=$SECONDS
     fi
   done
-  [ ! -t 2 ] || printf '\r\033[K' >&2
 }

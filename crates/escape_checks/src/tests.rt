@@ -1,4 +1,4 @@
-//! What no clause says, and each public call and each generic operation once.
+//! What no clause says, and each generic operation once. `tools/examples` runs the examples of doc comments.
 mod arguments;
 mod bit_masks;
 mod borders;

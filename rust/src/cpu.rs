@@ -10,20 +10,22 @@ const V3: u8 = 2;
 /// What was found. All threads find the same, so it does not matter which of them writes it, or in what order.
 static FOUND: AtomicU8 = AtomicU8::new(UNKNOWN);
 
-/// Returns whether the processor has x86-64-v3 and the system keeps its registers. The first call asks the processor.
+/// Returns whether the processor was asked, and has x86-64-v3.
 #[inline]
-pub(crate) fn has_v3() -> bool {
-    match FOUND.load(Relaxed) {
-        UNKNOWN => ask(),
-        found => found == V3,
-    }
+pub(crate) fn is_known_v3() -> bool {
+    FOUND.load(Relaxed) == V3
 }
 
-#[cold]
-fn ask() -> bool {
-    let has_v3 = asked_v3();
-    FOUND.store(if has_v3 { V3 } else { BELOW_V3 }, Relaxed);
-    has_v3
+/// Returns whether the processor has x86-64-v3, and the system keeps its registers. Asks the processor once.
+pub(crate) fn has_v3() -> bool {
+    match FOUND.load(Relaxed) {
+        UNKNOWN => {
+            let has_v3 = asked_v3();
+            FOUND.store(if has_v3 { V3 } else { BELOW_V3 }, Relaxed);
+            has_v3
+        }
+        found => found == V3,
+    }
 }
 
 // From some release of Rust on `__cpuid` is safe.

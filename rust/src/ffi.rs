@@ -70,7 +70,7 @@ build!(
 #[inline]
 pub(crate) fn write<'b>(mode: Mode, text: &str, buffer: &'b mut [MaybeUninit<u8>]) -> &'b str {
     #[cfg(target_arch = "x86_64")]
-    if cpu::has_v3() {
+    if cpu::is_known_v3() || cpu::has_v3() {
         return write_by(V3, mode, text, buffer);
     }
     write_by(LOWEST, mode, text, buffer)

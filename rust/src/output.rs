@@ -30,9 +30,10 @@ impl Mode {
 
     /// Returns the bound, the bytes that a buffer must have for a text of `len` bytes; `None` if it exceeds `usize::MAX`.
     pub(crate) const fn capacity(self, len: usize) -> Option<usize> {
-        match len.checked_mul(CAPACITY_FACTOR) {
-            Some(most) => most.checked_add(self.slack()),
-            None => None,
+        if len <= (usize::MAX - self.slack()) / CAPACITY_FACTOR {
+            Some(CAPACITY_FACTOR * len + self.slack())
+        } else {
+            None
         }
     }
 
@@ -46,21 +47,37 @@ impl Mode {
 }
 
 /// Appends the output. `None` if the bound exceeds `usize::MAX`; `dst` is unchanged then.
-#[inline]
+#[inline(always)]
 pub(crate) fn append(mode: Mode, text: &str, dst: &mut Vec<u8>) -> Option<()> {
-    dst.reserve(mode.capacity(text.len())?);
+    let room = mode.capacity(text.len())?;
+    if dst.capacity() - dst.len() < room {
+        append_growing(mode, text, dst, room);
+    } else {
+        append_reserved(mode, text, dst);
+    }
+    Some(())
+}
+
+#[cold]
+#[inline(never)]
+fn append_growing(mode: Mode, text: &str, dst: &mut Vec<u8>, room: usize) {
+    dst.reserve(room);
+    append_reserved(mode, text, dst);
+}
+
+#[inline(always)]
+fn append_reserved(mode: Mode, text: &str, dst: &mut Vec<u8>) {
     let len = dst.len();
     let count = ffi::write(mode, text, dst.spare_capacity_mut()).len();
     // SAFETY: `write` filled the first `count` bytes of the spare capacity.
     unsafe { dst.set_len(len + count) };
-    Some(())
 }
 
 /// Returns the output. `None` if the bound exceeds `usize::MAX`.
-#[inline]
+#[inline(always)]
 pub(crate) fn escape(mode: Mode, text: &str) -> Option<String> {
     let mut output = Vec::with_capacity(mode.capacity(text.len())?);
-    append(mode, text, &mut output)?;
+    append_reserved(mode, text, &mut output);
     // SAFETY: the vector has what `write` returned as a `&str`, and nothing else.
     Some(unsafe { String::from_utf8_unchecked(output) })
 }

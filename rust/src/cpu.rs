@@ -47,3 +47,17 @@ fn asked_v3() -> bool {
         // SAFETY: the bit OSXSAVE, looked at before, says that the instruction may be used.
         && unsafe { _xgetbv(0) } & SSE_AND_AVX_STATE == SSE_AND_AVX_STATE
 }
+
+#[cfg(test)]
+mod tests {
+    use super::*;
+    extern crate std;
+
+    #[test]
+    fn agrees_with_std() {
+        use std::is_x86_feature_detected as has;
+        let wanted = has!("avx2") && has!("bmi1") && has!("bmi2") && has!("f16c") && has!("fma") && has!("lzcnt");
+        assert_eq!(has_v3(), wanted);
+        assert_eq!(is_known_v3(), wanted);
+    }
+}

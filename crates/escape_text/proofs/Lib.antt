@@ -2,3 +2,4 @@ pub mod WriterLemmas
 pub mod SinkLemmas
 pub mod QuoteLemmas
 pub mod ScriptLists
+pub mod Many

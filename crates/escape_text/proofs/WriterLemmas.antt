@@ -1,5 +1,5 @@
 -- What a writer's bytes grow by, write after write.
-use Rattle.std.proofs.Common.{◌≡◌, ℕ, ◌+◌, List, ◌++◌, Option, Result, Ok, Err, OnErr, take, drop, subst, sym, ap, ◌∙◌, take-add, take-append-drop, append_assoc}
+use Rattle.std.proofs.Common.{◌≡◌, ℕ, ◌+◌, List, ◌++◌, Option, Result, Ok, Err, OnOk, OnErr, take, drop, subst, sym, ap, ◌∙◌, take-add, take-append-drop, append_assoc}
 use Rattle.std.specs.Io.KnownBytes.{Appends}
 use Rattle.std.proofs.KnownBytes.{Appends-trans}
 use Rattle.escape_text.specs.Writers.{AppendsBeginning}
@@ -36,7 +36,11 @@ beginning-after a b c all done piece more same before piece_written =
       appended = Appends-trans a b c done piece_written.written before piece_written.appended;
     }
 
--- what holds anyway holds after an error
+-- what holds anyway holds after success, and after an error
+pub after_ok : {T E : Type 0} (r : Result T E) (P : Type 0) → P → OnOk r P
+after_ok (Ok _) P p = p
+after_ok (Err _) P p = tt
+
 pub after_error : {T E : Type 0} (r : Result T E) (P : Type 0) → P → OnErr r P
 after_error (Ok _) P p = tt
 after_error (Err _) P p = p

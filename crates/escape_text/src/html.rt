@@ -182,11 +182,11 @@ pub fn escape_html_joined_into<A: Allocator>(
         (stop.reason ≡ EscapeHtmlError.TooLarge (record {}))
         ↔ (usize.MAX < bound html (length v.now)))) }
 {
-    match append_joined::<{ HTML_MODE }, A>(values, between, dst) {
+    match append_joined::<{ HTML_MODE }, _, A>(values, between, dst) {
         Ok(()) => Ok(()),
-        Err((written, refusal)) => Err(ListError {
-            written,
-            reason: EscapeHtmlError::from(refusal),
+        Err(stop) => Err(ListError {
+            written: stop.written,
+            reason: EscapeHtmlError::from(stop.reason),
         }),
     }
 }

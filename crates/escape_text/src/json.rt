@@ -13,7 +13,7 @@ ghost use Rattle.escape_text.specs.Writers.{AppendsBeginning};
 use crate::adapter::display;
 use crate::appended_text::append_text;
 use crate::compact::compact_text;
-use crate::list::{ListError, append_array, append_joined};
+use crate::list::{ListError, append_enclosed, append_joined};
 use crate::writer::write_output;
 use escape_simd::json::EscapeError;
 use escape_simd::simd::{JSON_MODE, SCRIPT_MODE};
@@ -221,11 +221,11 @@ pub fn escape_joined_into<A: Allocator>(
     ensures too_large { IfErr result (λ stop. IfSome (slice_get values.now stop.written) (λ v.
         (stop.reason ≡ EscapeError.TooLarge) ↔ (usize.MAX < bound json (length v.now)))) }
 {
-    match append_joined::<{ JSON_MODE }, A>(values, between, dst) {
+    match append_joined::<{ JSON_MODE }, _, A>(values, between, dst) {
         Ok(()) => Ok(()),
-        Err((written, refusal)) => Err(ListError {
-            written,
-            reason: EscapeError::from(refusal),
+        Err(stop) => Err(ListError {
+            written: stop.written,
+            reason: EscapeError::from(stop.reason),
         }),
     }
 }
@@ -255,7 +255,7 @@ pub fn escape_array_into<A: Allocator>(
     ensures too_large { result ≡ Err EscapeError.TooLarge
         → Any (λ v. usize.MAX < bound json (length v.now)) values.now }
 {
-    Ok(append_array::<{ JSON_MODE }, A>(values, dst)?)
+    Ok(append_enclosed::<{ JSON_MODE }, _, A>("[", values, "]", dst)?)
 }
 
 /// Appends a JSON array of the literals of the texts (RFC 8259, section 5), each as
@@ -279,5 +279,5 @@ pub fn escape_script_array_into<A: Allocator>(
     ensures too_large { result ≡ Err EscapeError.TooLarge
         → Any (λ v. usize.MAX < bound script (length v.now)) values.now }
 {
-    Ok(append_array::<{ SCRIPT_MODE }, A>(values, dst)?)
+    Ok(append_enclosed::<{ SCRIPT_MODE }, _, A>("[", values, "]", dst)?)
 }

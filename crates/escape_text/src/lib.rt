@@ -24,6 +24,7 @@ mod exact;
 pub mod html;
 pub mod json;
 mod list;
+mod piece;
 mod piecewise;
 mod sink;
 mod writer;

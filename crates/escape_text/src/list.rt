@@ -1,11 +1,9 @@
-//! The outputs of many texts, with a text between each two.
-ghost use Rattle.std.specs.Prelude.{◌≡◌, ◌<◌, ◌≤◌, ◌↔◌, ◌++◌, ◌==◌, [], length, take, All, Any, Err, OnOk, OnErr, IfErr, IfSome, slice_get, vec_len, if◌then◌else◌};
+//! What many values append, with a text between each two.
+ghost use Rattle.std.specs.Prelude.{◌≡◌, ◌<◌, ◌≤◌, ◌↔◌, ◌++◌, ◌==◌, [], IsUtf8, codes, length, take, All, Any, Err, OnOk, OnErr, IfErr, IfSome, slice_get, vec_len, if◌then◌else◌};
 ghost use Rattle.std.specs.List.{join_by};
-ghost use Rattle.escape_text.specs.Lists.{array_of};
-ghost use Rattle.escape_simd.specs.Modes.{mode_numbered};
-ghost use Rattle.escape_simd.specs.Output.{plain, bound};
 
-use escape_simd::output::{Refusal, append, scratch_bound};
+use crate::piece::Piece;
+use escape_simd::output::Refusal;
 use std::alloc::Allocator;
 use std::fmt;
 
@@ -44,106 +42,105 @@ impl<E: Into<Refusal>> From<ListError<E>> for Refusal {
     }
 }
 
-/// Appends `between`, and the output of a text. After an error `dst` is unchanged.
-fn append_after<const MODE: u8, A: Allocator>(
+/// Appends `between` and the piece. After an error `dst` is unchanged.
+fn append_after<const MODE: u8, P: Piece<MODE>, A: Allocator>(
     between: &str,
-    value: &str,
+    piece: &P,
     dst: &mut Vec<u8, A>,
 ) -> Result<(), Refusal>
     requires mode { MODE ≤ 2 }
-    ensures exact { OnOk result (dst.new.items
-        ≡ dst.old.items ++ (between.now ++ plain (mode_numbered MODE) value.now)) }
+    ensures exact { OnOk result (dst.new.items ≡ dst.old.items ++ (between.now ++ P.bytes piece.now)) }
+    ensures text { OnOk result (IsUtf8 (P.bytes piece.now)) }
     ensures unchanged { OnErr result (dst.new.items ≡ dst.old.items) }
-    ensures too_large { (result ≡ Err Refusal.TooLarge)
-        ↔ (usize.MAX < bound (mode_numbered MODE) (length value.now)) }
-    ensures fits { OnOk result (bound (mode_numbered MODE) (length value.now) ≤ usize.MAX) }
+    ensures too_large { (result ≡ Err Refusal.TooLarge) ↔ (usize.MAX < P.size piece.now) }
+    ensures fits { OnOk result (P.size piece.now ≤ usize.MAX) }
 {
-    if scratch_bound::<MODE>(value.len()).is_none() {
+    if !piece.fits() {
         return Err(Refusal::TooLarge);
     }
     let len = dst.len();
     dst.extend_from_slice(between.as_bytes())?;
-    let appended = append::<MODE, A>(value, dst);
+    let appended = piece.append_to(dst);
     if appended.is_err() {
         dst.truncate(len);
     }
     appended
 }
 
-/// Returns the text to append before text `count`: none before the first, and `between` before each other one.
+/// Returns the text to append before piece `count`: none before the first, and `between` before each other one.
 fn before(count: usize, between: &str) -> &str
     ensures { result.now ≡ (if count == 0 then [] else between.now) }
 {
     if count == 0 { "" } else { between }
 }
 
-/// Appends the outputs of the texts, with `between` between each two, and stops at the first text that is refused.
-pub(crate) fn append_joined<const MODE: u8, A: Allocator>(
-    values: &[&str],
+/// Appends the pieces, with `between` between each two, and stops at the first one that is refused.
+pub(crate) fn append_joined<const MODE: u8, P: Piece<MODE>, A: Allocator>(
+    pieces: &[P],
     between: &str,
     dst: &mut Vec<u8, A>,
-) -> Result<(), (usize, Refusal)>
+) -> Result<(), ListError<Refusal>>
     requires mode { MODE ≤ 2 }
     ensures exact { OnOk result (dst.new.items
-        ≡ dst.old.items ++ join_by (λ v. plain (mode_numbered MODE) v.now) between.now values.now) }
-    ensures fits { OnOk result
-        (All (λ v. bound (mode_numbered MODE) (length v.now) ≤ usize.MAX) values.now) }
+        ≡ dst.old.items ++ join_by P.bytes between.now pieces.now) }
+    ensures texts { OnOk result (All (λ piece. IsUtf8 (P.bytes piece)) pieces.now) }
+    ensures fits { OnOk result (All (λ piece. P.size piece ≤ usize.MAX) pieces.now) }
     ensures stopped { IfErr result (λ stop. dst.new.items
-        ≡ dst.old.items ++ join_by (λ v. plain (mode_numbered MODE) v.now) between.now
-        (take stop.0 values.now)) }
-    ensures inside { IfErr result (λ stop. stop.0 < length values.now) }
-    ensures too_large { IfErr result (λ stop. IfSome (slice_get values.now stop.0) (λ v.
-        (stop.1 ≡ Refusal.TooLarge)
-        ↔ (usize.MAX < bound (mode_numbered MODE) (length v.now)))) }
+        ≡ dst.old.items ++ join_by P.bytes between.now (take stop.written pieces.now)) }
+    ensures inside { IfErr result (λ stop. stop.written < length pieces.now) }
+    ensures too_large { IfErr result (λ stop. IfSome (slice_get pieces.now stop.written) (λ piece.
+        (stop.reason ≡ Refusal.TooLarge) ↔ (usize.MAX < P.size piece))) }
 {
-    'texts: for (count, value) in values.iter().enumerate() {
-        if let Err(refusal) = append_after::<MODE, A>(before(count, between), value, dst) {
-            return Err((count, refusal));
+    'pieces: for (written, piece) in pieces.iter().enumerate() {
+        if let Err(reason) = append_after::<MODE, P, A>(before(written, between), piece, dst) {
+            return Err(ListError { written, reason });
         }
     }
     Ok(())
 }
 
-/// Appends a JSON array of the literals of the texts. After an error `dst` is unchanged.
-pub(crate) fn append_array<const MODE: u8, A: Allocator>(
-    values: &[&str],
+/// Appends `left`, the pieces with a comma between each two, and `right`. After an error `dst` is unchanged.
+pub(crate) fn append_enclosed<const MODE: u8, P: Piece<MODE>, A: Allocator>(
+    left: &str,
+    pieces: &[P],
+    right: &str,
     dst: &mut Vec<u8, A>,
 ) -> Result<(), Refusal>
     requires mode { MODE ≤ 2 }
     ensures exact { OnOk result (dst.new.items
-        ≡ dst.old.items ++ array_of (λ v. plain (mode_numbered MODE) v.now) values.now) }
-    ensures fits { OnOk result
-        (All (λ v. bound (mode_numbered MODE) (length v.now) ≤ usize.MAX) values.now) }
+        ≡ dst.old.items ++ (left.now ++ join_by P.bytes (codes ",") pieces.now ++ right.now)) }
+    ensures fits { OnOk result (All (λ piece. P.size piece ≤ usize.MAX) pieces.now) }
     ensures unchanged { OnErr result (dst.new.items ≡ dst.old.items) }
     ensures too_large { result ≡ Err Refusal.TooLarge
-        → Any (λ v. usize.MAX < bound (mode_numbered MODE) (length v.now)) values.now }
+        → Any (λ piece. usize.MAX < P.size piece) pieces.now }
 {
     let len = dst.len();
-    let appended = append_brackets::<MODE, A>(values, dst);
+    let appended = append_parts::<MODE, P, A>(left, pieces, right, dst);
     if appended.is_err() {
         dst.truncate(len);
     }
     appended
 }
 
-/// Appends what [`append_array`] appends. After an error `dst` keeps what was appended before it.
-fn append_brackets<const MODE: u8, A: Allocator>(
-    values: &[&str],
+/// Appends what [`append_enclosed`] appends. After an error `dst` keeps what was appended before it.
+fn append_parts<const MODE: u8, P: Piece<MODE>, A: Allocator>(
+    left: &str,
+    pieces: &[P],
+    right: &str,
     dst: &mut Vec<u8, A>,
 ) -> Result<(), Refusal>
     requires mode { MODE ≤ 2 }
     ensures exact { OnOk result (dst.new.items
-        ≡ dst.old.items ++ array_of (λ v. plain (mode_numbered MODE) v.now) values.now) }
-    ensures fits { OnOk result
-        (All (λ v. bound (mode_numbered MODE) (length v.now) ≤ usize.MAX) values.now) }
+        ≡ dst.old.items ++ (left.now ++ join_by P.bytes (codes ",") pieces.now ++ right.now)) }
+    ensures fits { OnOk result (All (λ piece. P.size piece ≤ usize.MAX) pieces.now) }
     ensures front { take (vec_len dst.old) dst.new.items ≡ dst.old.items }
     ensures too_large { result ≡ Err Refusal.TooLarge
-        → Any (λ v. usize.MAX < bound (mode_numbered MODE) (length v.now)) values.now }
+        → Any (λ piece. usize.MAX < P.size piece) pieces.now }
 {
-    dst.extend_from_slice(b"[")?;
-    if let Err((_, refusal)) = append_joined::<MODE, A>(values, ",", dst) {
-        return Err(refusal);
+    dst.extend_from_slice(left.as_bytes())?;
+    if let Err(stop) = append_joined::<MODE, P, A>(pieces, ",", dst) {
+        return Err(stop.reason);
     }
-    dst.extend_from_slice(b"]")?;
+    dst.extend_from_slice(right.as_bytes())?;
     Ok(())
 }

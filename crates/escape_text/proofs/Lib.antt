@@ -3,3 +3,4 @@ pub mod SinkLemmas
 pub mod QuoteLemmas
 pub mod ScriptLists
 pub mod Many
+pub mod PageLaws

@@ -3,3 +3,4 @@ pub mod Writers
 pub mod Sinks
 pub mod InTurn
 pub mod Lists
+pub mod Page

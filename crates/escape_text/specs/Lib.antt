@@ -4,3 +4,4 @@ pub mod Sinks
 pub mod InTurn
 pub mod Lists
 pub mod Page
+pub mod Record

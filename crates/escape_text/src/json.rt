@@ -10,6 +10,8 @@ ghost use Rattle.escape_simd.specs.Script.{IsSafeInScript};
 ghost use Rattle.escape_text.specs.Lists.{array_of};
 ghost use Rattle.escape_text.specs.Writers.{AppendsBeginning};
 
+mod object;
+
 use crate::adapter::display;
 use crate::appended_text::append_text;
 use crate::compact::compact_text;
@@ -17,6 +19,7 @@ use crate::list::{ListError, append_enclosed, append_joined};
 use crate::writer::write_output;
 use escape_simd::json::EscapeError;
 use escape_simd::simd::{JSON_MODE, SCRIPT_MODE};
+pub use object::{object_into, object_line_into};
 use std::alloc::Allocator;
 use std::fmt;
 use std::io::{self, Write};

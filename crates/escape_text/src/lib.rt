@@ -8,8 +8,8 @@
 //! - [`json::escape_compact`], [`json::escape_script_compact`] and [`html::escape_html_compact`] return a `String` that
 //!   reserves the length of the output and no more. [`html::escape_html_cow`] borrows a text that needs no escape.
 //! - [`json::escape_array_into`], [`json::escape_script_array_into`], [`json::escape_joined_into`] and
-//!   [`html::escape_html_joined_into`] append many texts to a vector, [`page::page_into`] a page of
-//!   markup, texts and script values.
+//!   [`html::escape_html_joined_into`] append many texts to a vector, [`json::object_into`] and
+//!   [`json::object_line_into`] a JSON object of texts, [`page::page_into`] a page of markup, texts and script values.
 //!
 //! ```rust
 //! write!(page, "<p title=\"{}\">", html::Escaped("a \"b\""))?; // <p title="a &quot;b&quot;">

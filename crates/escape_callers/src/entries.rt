@@ -1,8 +1,9 @@
 //! A log of one JSON object a line.
-ghost use Rattle.std.specs.Prelude.{◌≡◌, ◌++◌, take, vec_len, OnOk, OnErr};
+ghost use Rattle.std.specs.Prelude.{◌≡◌, ◌++◌, flat_map, OnOk, OnErr};
 ghost use Rattle.escape_callers.specs.Written.{line_of};
 
-use escape_simd::json::{EscapeError, escape_into};
+use escape_simd::json::EscapeError;
+use escape_text::json::object_line_into;
 use std::alloc::Allocator;
 
 /// What a line of the log says.
@@ -13,6 +14,7 @@ pub struct Entry<'a> {
 }
 
 /// Appends the entry on a line of its own. After an error the log holds its old bytes.
+#[tactic(auto, unfolding(escape_lanes::specs::Replacement::replacement))]
 pub fn append_entry<A: Allocator>(
     entry: &Entry<'_>,
     log: &mut Vec<u8, A>,
@@ -20,22 +22,19 @@ pub fn append_entry<A: Allocator>(
     ensures exact { OnOk result (log.new.items ≡ log.old.items ++ line_of entry.now) }
     ensures unchanged { OnErr result (log.new.items ≡ log.old.items) }
 {
-    let len = log.len();
-    let appended = append_fields(entry, log);
-    if appended.is_err() {
-        log.truncate(len);
-    }
-    appended
+    object_line_into(&[("level", entry.level), ("message", entry.message)], log)
 }
 
-fn append_fields<A: Allocator>(entry: &Entry<'_>, log: &mut Vec<u8, A>) -> Result<(), EscapeError>
-    ensures exact { OnOk result (log.new.items ≡ log.old.items ++ line_of entry.now) }
-    ensures front { take (vec_len log.old) log.new.items ≡ log.old.items }
+/// Appends each entry on a line of its own. After an error the log has the lines before it too.
+#[tactic(auto, using(escape_text::proofs::Many::many))]
+pub fn append_entries<A: Allocator>(
+    entries: &[Entry<'_>],
+    log: &mut Vec<u8, A>,
+) -> Result<(), EscapeError>
+    ensures { OnOk result (log.new.items ≡ log.old.items ++ flat_map line_of entries.now) }
 {
-    log.extend_from_slice(b"{\"level\":")?;
-    escape_into(entry.level, log)?;
-    log.extend_from_slice(b",\"message\":")?;
-    escape_into(entry.message, log)?;
-    log.extend_from_slice(b"}\n")?;
+    for entry in entries {
+        append_entry(entry, log)?;
+    }
     Ok(())
 }

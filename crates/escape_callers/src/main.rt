@@ -9,7 +9,7 @@ mod report;
 mod stack;
 
 use document::append_document;
-use entries::{Entry, append_entry};
+use entries::{Entry, append_entries};
 use escape_simd::Refusal;
 use filter::filter;
 use page::append_page;
@@ -45,7 +45,7 @@ fn write_each<W: Write>(alloc: Global, output: &mut W) -> io::Result<()> {
 /// A log, a page and a script element, each on a line of its own.
 fn log_and_pages(alloc: Global) -> Result<Vec<u8>, Refusal> {
     let mut bytes = Vec::new(alloc);
-    append_entry(&ENTRIES[0], &mut bytes)?;
+    append_entries(&ENTRIES, &mut bytes)?;
     append_page("Guests", &[NAME, "Bo"], NAME, &mut bytes)?;
     bytes.push(b'\n')?;
     append_document(DOCUMENT, &mut bytes)?;

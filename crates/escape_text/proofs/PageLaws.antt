@@ -1,6 +1,6 @@
 -- The laws of tags. Under `#[tactic(auto, using(escape_text::proofs::PageLaws::tags))]` a caller has the clause that the
 -- tags of a page are those of its template.
-use Rattle.std.proofs.Common.{◌≡◌, ◌≢◌, ℕ, false, List, [], ◌∷◌, ◌++◌, All, IsUtf8, Result, Ok, Err, OnOk, get_or, refl, sym, ap, ◌∙◌, arith}
+use Rattle.std.proofs.Common.{◌≡◌, ◌≢◌, ℕ, ◌+◌, ◌<◌, false, List, [], ◌∷◌, ◌++◌, All, IsUtf8, Result, Ok, Err, OnOk, flat_map, length, take, get_or, refl, sym, ap, ◌∙◌, arith}
 use Rattle.std.specs.List.{join_by}
 use Rattle.std.proofs.lemmas.Bool.{cond-false}
 use Rattle.std.proofs.lemmas.List.Elements.{All-tail, filter-append}
@@ -10,6 +10,7 @@ use Rattle.escape_simd.specs.Html.{is_markup}
 use Rattle.escape_simd.specs.Output.{plain}
 use Rattle.escape_simd.proofs.PlainLaws.{html_is_markup_free, script_is_safe}
 use Rattle.escape_simd.proofs.Words.{nat_tests}
+use Rattle.escape_text.proofs.Many.{appended_more}
 use Rattle.escape_text.specs.Page.{is_tag, bytes_of_part, page_of, template_of}
 unfoldable use Rattle.escape_text.specs.Page.{tags_of}
 use Rattle.escape_text.specs.declared.page.Part.{Part}
@@ -50,7 +51,16 @@ page_tags (Text text ∷ parts) =
 page_tags (Script text ∷ parts) =
     tags_of-append (plain script text.now) (page_of parts) ∙ ap (λ xs. xs ++ tags_of (page_of parts)) (script_has_no_tags text.now) ∙ page_tags parts
 
-pub ruleset tags = (tags_of-append, html_has_no_tags, script_has_no_tags, page_tags)
+-- one more of the pages that a loop appends, each with the same markup
+pub tags_more : {X : Type 0} (markup : List ℕ) (xs : List X) (i : ℕ) → i < length xs → (old now new : List ℕ)
+    → tags_of now ≡ tags_of (old ++ flat_map (λ _. markup) (take i xs)) → tags_of new ≡ tags_of (now ++ markup) → tags_of new ≡ tags_of (old ++ flat_map (λ _. markup) (take (i + 1) xs))
+tags_more markup [] i inside old now new so_far more = absurd (omega arith)
+tags_more markup (x ∷ xs) i inside old now new so_far more =
+    let some = old ++ flat_map (λ _. markup) (take i (x ∷ xs)) in
+    more ∙ tags_of-append now markup ∙ ap (λ tags. tags ++ tags_of markup) so_far ∙ sym (tags_of-append some markup)
+    ∙ ap tags_of (appended_more (λ _. markup) (x ∷ xs) i x inside old some (some ++ markup) refl refl)
+
+pub ruleset tags = (tags_of-append, html_has_no_tags, script_has_no_tags, page_tags, tags_more)
 
 -- The clauses of `page_into`.
 

@@ -8,6 +8,7 @@ mod faults;
 mod memory;
 mod messages;
 mod numbers;
+mod pages;
 mod rationed;
 mod rows;
 mod runs;

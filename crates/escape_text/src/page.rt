@@ -66,7 +66,7 @@ fn append_markup<A: Allocator>(markup: &str, dst: &mut Vec<u8, A>) -> Result<(),
 /// that it had, and has no others.
 ///
 /// ```rust
-/// page_into(&[Part::Markup("<b>"), Part::Text("<")], &mut dst)?; // <b>&lt;
+/// page_into(&[Part::Markup("<b>"), Part::Text("<")], &mut page)?; // <b>&lt;
 /// ```
 pub fn page_into<A: Allocator>(
     parts: &[Part<'_>],

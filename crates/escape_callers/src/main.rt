@@ -4,6 +4,7 @@
 mod document;
 mod entries;
 mod filter;
+mod numbers;
 mod page;
 mod report;
 mod stack;
@@ -12,6 +13,7 @@ use document::append_document;
 use entries::{Entry, append_entries};
 use escape_simd::Refusal;
 use filter::filter;
+use numbers::append_count;
 use page::append_page;
 use report::write_report;
 use stack::write_label;
@@ -42,9 +44,11 @@ fn write_each<W: Write>(alloc: Global, output: &mut W) -> io::Result<()> {
     output.write_all(b"\n")
 }
 
-/// A log, a page and a script element, each on a line of its own.
+/// A record with a number, a log, a page and a script element, each on a line of its own.
 fn log_and_pages(alloc: Global) -> Result<Vec<u8>, Refusal> {
-    let mut bytes = Vec::new(alloc);
+    let (mut bytes, counted) = append_count(Vec::new(alloc), NAME, 3);
+    counted?;
+    bytes.push(b'\n')?;
     append_entries(&ENTRIES, &mut bytes)?;
     append_page("Guests", &[NAME, "Bo"], NAME, &mut bytes)?;
     bytes.push(b'\n')?;

@@ -60,7 +60,7 @@ pub fn object_into<A: Allocator>(
 /// Memory and errors are as in [`object_into`].
 ///
 /// ```rust
-/// object_line_into(&[("message", "a\nb")], &mut line)?; // {"message":"a\nb"}
+/// object_line_into(&[("message", "a\nb")], &mut line)?; // {"message":"a\nb"}⏎
 /// ```
 pub fn object_line_into<A: Allocator>(
     fields: &[(&str, &str)],

@@ -1,6 +1,6 @@
 /* Nanoseconds a call from C on texts of 10 to 40 bytes of ASCII, by each build of libescape.so of which it is given the
- * path, with a slash in it. Prints a line for each kind of text and each call, with tabs: both names, and the best round
- * of each build. In a round each build, in the order given, escapes all texts once. */
+ * path, with a slash in it. Prints a line for each kind of text, each call and each mode, with tabs: the three names, and
+ * the best round of each build. In a round each build, in the order given, escapes all texts once. */
 #include "escape.h"
 
 #include <dlfcn.h>
@@ -14,17 +14,19 @@ enum { TEXTS = 4096, SHORTEST = 10, LONGEST = 40, ROOM = 6 * LONGEST + 35, ROUND
 /* A call of a build, by the type that its name has in escape.h. */
 union call {
     void *symbol;
-    escape_status (*escape)(escape_kernel, const char *, size_t, char *, size_t, size_t *);
-    escape_status (*length)(const char *, size_t, size_t *);
-    escape_status (*exact)(const char *, size_t, char *, size_t, size_t *);
+    escape_status (*escape)(escape_mode, escape_kernel, const char *, size_t, char *, size_t, size_t *);
+    escape_status (*length)(escape_mode, const char *, size_t, size_t *);
+    escape_status (*exact)(escape_mode, const char *, size_t, char *, size_t, size_t *);
+    size_t (*write)(escape_mode, const char *, size_t, char *, size_t);
 };
 
 static const char *const CALLS[] = {
-    "escape_json", "escape_html", "escape_script", "escape_json_inner", "escape_script_inner",
-    "escape_json_inner_unchecked", "escape_script_inner_unchecked",
-    "escape_json_unchecked", "escape_html_unchecked", "escape_script_unchecked",
-    "escape_json_length", "escape_html_length", "escape_script_length",
-    "escape_json_exact", "escape_html_exact", "escape_script_exact"};
+    "escape_text", "escape_text_unchecked", "escape_inner", "escape_inner_unchecked", "escape_write", "escape_length", "escape_exact"};
+enum { CALL_COUNT = sizeof CALLS / sizeof *CALLS };
+
+/* By the mode's number. */
+static const char *const MODES[] = {"json", "html", "script"};
+enum { MODE_COUNT = sizeof MODES / sizeof *MODES };
 
 /* The texts stand one after another. */
 static char bytes[TEXTS * LONGEST];
@@ -53,43 +55,49 @@ static double now(void) {
 }
 
 /* Nanoseconds a call, over all texts once. Each kind of call has a loop of its own. */
-static double measured(const char *name, union call call) {
+static double measured(const char *name, union call call, escape_mode mode) {
     static char buffer[ROOM];
     const char *text = bytes;
-    size_t n, count;
+    size_t n, count = 0;
     escape_status status = ESCAPE_OK;
     double began = now(), took;
     if (strstr(name, "_length"))
-        for (n = 0; n < TEXTS; text += lengths[n++]) status |= call.length(text, lengths[n], &count);
+        for (n = 0; n < TEXTS; text += lengths[n++]) status |= call.length(mode, text, lengths[n], &count);
     else if (strstr(name, "_exact"))
-        for (n = 0; n < TEXTS; text += lengths[n++]) status |= call.exact(text, lengths[n], buffer, ROOM, &count);
+        for (n = 0; n < TEXTS; text += lengths[n++]) status |= call.exact(mode, text, lengths[n], buffer, ROOM, &count);
+    else if (strstr(name, "_write"))
+        for (n = 0; n < TEXTS; text += lengths[n++]) count += call.write(mode, text, lengths[n], buffer, ROOM);
     else
-        for (n = 0; n < TEXTS; text += lengths[n++]) status |= call.escape(ESCAPE_DEFAULT, text, lengths[n], buffer, ROOM, &count);
+        for (n = 0; n < TEXTS; text += lengths[n++]) status |= call.escape(mode, ESCAPE_DEFAULT, text, lengths[n], buffer, ROOM, &count);
     took = (now() - began) / TEXTS;
-    if (status != ESCAPE_OK) abort();
+    if (status != ESCAPE_OK || count == 0) abort();
     return took;
+}
+
+static void print_call(const char *kind, const char *name, escape_mode mode, void *const *builds, int count) {
+    union call calls[BUILDS];
+    double best[BUILDS];
+    int b, round;
+    for (b = 0; b < count; b++) {
+        calls[b].symbol = dlsym(builds[b], name);
+        if (!calls[b].symbol) exit((fprintf(stderr, "%s\n", dlerror()), 1));
+        best[b] = measured(name, calls[b], mode);
+    }
+    for (round = 1; round < ROUNDS; round++)
+        for (b = 0; b < count; b++) {
+            double took = measured(name, calls[b], mode);
+            if (took < best[b]) best[b] = took;
+        }
+    printf("%s\t%s\t%s", kind, name, MODES[mode]);
+    for (b = 0; b < count; b++) printf("\t%.3f", best[b]);
+    puts("");
 }
 
 static void print(const char *kind, void *const *builds, int count) {
     size_t c;
-    int b, round;
-    for (c = 0; c < sizeof CALLS / sizeof *CALLS; c++) {
-        union call calls[BUILDS];
-        double best[BUILDS];
-        for (b = 0; b < count; b++) {
-            calls[b].symbol = dlsym(builds[b], CALLS[c]);
-            if (!calls[b].symbol) exit((fprintf(stderr, "%s\n", dlerror()), 1));
-            best[b] = measured(CALLS[c], calls[b]);
-        }
-        for (round = 1; round < ROUNDS; round++)
-            for (b = 0; b < count; b++) {
-                double took = measured(CALLS[c], calls[b]);
-                if (took < best[b]) best[b] = took;
-            }
-        printf("%s\t%s", kind, CALLS[c]);
-        for (b = 0; b < count; b++) printf("\t%.3f", best[b]);
-        puts("");
-    }
+    escape_mode mode;
+    for (c = 0; c < CALL_COUNT; c++)
+        for (mode = 0; mode < MODE_COUNT; mode++) print_call(kind, CALLS[c], mode, builds, count);
 }
 
 int main(int count, char **words) {

@@ -35,15 +35,8 @@ private:
 
 namespace detail {
 
-// What stands before and after a mode's output, and the call that writes what is between.
-struct mode {
-    std::string_view quote;
-    escape_status (*write)(escape_kernel, const char *, std::size_t, char *, std::size_t, std::size_t *);
-};
-
-inline constexpr mode json{"\"", escape_json_inner};
-inline constexpr mode html{"", escape_html};
-inline constexpr mode script{"\"", escape_script_inner};
+// What stands before and after an output.
+constexpr std::string_view quote(escape_mode mode) { return mode == ESCAPE_HTML ? "" : "\""; }
 
 // How many bytes of a text are escaped at once, and a buffer's size for them in every mode.
 inline constexpr std::size_t piece_size = 2048;
@@ -59,17 +52,18 @@ inline std::string_view take_piece(std::string_view &text) {
     return piece;
 }
 
-inline void append_pieces(const mode &mode, std::string &target, std::string_view text) {
+inline void append_pieces(escape_mode mode, std::string &target, std::string_view text) {
     char buffer[buffer_size];
-    target += mode.quote;
+    target += quote(mode);
     while (!text.empty()) {
         const std::string_view piece = take_piece(text);
         std::size_t count = 0;
-        const escape_status status = mode.write(ESCAPE_DEFAULT, piece.data(), piece.size(), buffer, buffer_size, &count);
+        const escape_status status =
+            escape_inner(mode, ESCAPE_DEFAULT, piece.data(), piece.size(), buffer, buffer_size, &count);
         if (status != ESCAPE_OK) throw error(status);
         target.append(buffer, count);
     }
-    target += mode.quote;
+    target += quote(mode);
 }
 
 // Whether the text begins in the target, so that it would not outlive the target's growth.
@@ -78,7 +72,7 @@ inline bool is_within(std::string_view text, const std::string &target) {
     return is_at_most(target.data(), text.data()) && is_at_most(text.data(), target.data() + target.size());
 }
 
-inline void append(const mode &mode, std::string &target, std::string_view text) {
+inline void append(escape_mode mode, std::string &target, std::string_view text) {
     if (is_within(text, target)) return append(mode, target, std::string(text));
     const std::size_t kept = target.size();
     try {
@@ -89,9 +83,9 @@ inline void append(const mode &mode, std::string &target, std::string_view text)
     }
 }
 
-inline std::string output(const mode &mode, std::string_view text) {
+inline std::string output(escape_mode mode, std::string_view text) {
     std::string target;
-    target.reserve(text.size() + 2 * mode.quote.size());
+    target.reserve(text.size() + 2 * quote(mode).size());
     append_pieces(mode, target, text);
     return target;
 }
@@ -99,24 +93,24 @@ inline std::string output(const mode &mode, std::string_view text) {
 } // namespace detail
 
 // Returns the JSON string literal of the text (RFC 8259, section 7), with its quotation marks.
-inline std::string json(std::string_view text) { return detail::output(detail::json, text); }
+inline std::string json(std::string_view text) { return detail::output(ESCAPE_JSON, text); }
 
 // Returns the text as HTML: `"`, `&`, `'`, `/`, `<` and `>` as entities.
-inline std::string html(std::string_view text) { return detail::output(detail::html, text); }
+inline std::string html(std::string_view text) { return detail::output(ESCAPE_HTML, text); }
 
 // Returns a JSON string literal that is safe inside a script element: `<`, `>`, `&`, U+2028 and U+2029 are
 // escaped too.
-inline std::string script(std::string_view text) { return detail::output(detail::script, text); }
+inline std::string script(std::string_view text) { return detail::output(ESCAPE_SCRIPT, text); }
 
 // Appends what json(text) returns. The text may be a part of the target: it is then copied first, to a string of
 // its own, which allocates as std::string does for that text. The next two do the same.
-inline void append_json(std::string &target, std::string_view text) { detail::append(detail::json, target, text); }
+inline void append_json(std::string &target, std::string_view text) { detail::append(ESCAPE_JSON, target, text); }
 
 // Appends what html(text) returns.
-inline void append_html(std::string &target, std::string_view text) { detail::append(detail::html, target, text); }
+inline void append_html(std::string &target, std::string_view text) { detail::append(ESCAPE_HTML, target, text); }
 
 // Appends what script(text) returns.
-inline void append_script(std::string &target, std::string_view text) { detail::append(detail::script, target, text); }
+inline void append_script(std::string &target, std::string_view text) { detail::append(ESCAPE_SCRIPT, target, text); }
 
 } // namespace escape
 

@@ -7,7 +7,7 @@
 
 /* A call, by its number below, and its arguments. */
 struct request {
-    uint32_t call, kernel;
+    uint32_t call, mode, kernel;
     const char *text;
     size_t length;
     char *buffer;
@@ -24,8 +24,7 @@ static escape_status status;
 static size_t counted;
 static int has_ended;
 
-static escape_status ask(uint32_t call, escape_kernel kernel, const char *text, size_t length, char *buffer, size_t room, size_t *count) {
-    struct request wanted = {call, kernel, text, length, buffer, room};
+static escape_status ask(struct request wanted, size_t *count) {
     request = wanted;
     swapcontext(&fuzzer, &program);
     *count = counted;
@@ -33,32 +32,28 @@ static escape_status ask(uint32_t call, escape_kernel kernel, const char *text, 
 }
 
 #define BY_KERNEL(number, name) \
-    escape_status name(escape_kernel kernel, const char *text, size_t length, char *buffer, size_t room, size_t *count) { \
-        return ask(number, kernel, text, length, buffer, room, count); \
+    escape_status name(escape_mode mode, escape_kernel kernel, const char *text, size_t length, char *buffer, size_t room, size_t *count) { \
+        return ask((struct request){number, mode, kernel, text, length, buffer, room}, count); \
     }
-#define EXACT(number, name) \
-    escape_status name(const char *text, size_t length, char *buffer, size_t room, size_t *count) { \
-        return ask(number, 0, text, length, buffer, room, count); \
-    }
-#define LENGTH(number, name) \
-    escape_status name(const char *text, size_t length, size_t *count) { return ask(number, 0, text, length, NULL, 0, count); }
 
-BY_KERNEL(0, escape_json)
-BY_KERNEL(1, escape_json_unchecked)
-BY_KERNEL(2, escape_json_inner)
-BY_KERNEL(3, escape_json_inner_unchecked)
-BY_KERNEL(4, escape_html)
-BY_KERNEL(5, escape_html_unchecked)
-BY_KERNEL(6, escape_script)
-BY_KERNEL(7, escape_script_unchecked)
-BY_KERNEL(8, escape_script_inner)
-BY_KERNEL(9, escape_script_inner_unchecked)
-EXACT(10, escape_json_exact)
-EXACT(11, escape_html_exact)
-EXACT(12, escape_script_exact)
-LENGTH(13, escape_json_length)
-LENGTH(14, escape_html_length)
-LENGTH(15, escape_script_length)
+BY_KERNEL(0, escape_text)
+BY_KERNEL(1, escape_text_unchecked)
+BY_KERNEL(2, escape_inner)
+BY_KERNEL(3, escape_inner_unchecked)
+
+escape_status escape_exact(escape_mode mode, const char *text, size_t length, char *buffer, size_t room, size_t *count) {
+    return ask((struct request){4, mode, 0, text, length, buffer, room}, count);
+}
+
+escape_status escape_length(escape_mode mode, const char *text, size_t length, size_t *count) {
+    return ask((struct request){5, mode, 0, text, length, NULL, 0}, count);
+}
+
+size_t escape_write(escape_mode mode, const char *text, size_t length, char *buffer, size_t room) {
+    size_t count;
+    ask((struct request){6, mode, 0, text, length, buffer, room}, &count);
+    return count;
+}
 
 static void start(void) {
     char name[] = "fuzz", seed[] = "1", seconds[] = "20", *words[] = {name, seed, seconds, NULL};

@@ -16,23 +16,10 @@ enum { KERNELS = 6 };
 
 /* --- the library --------------------------------------------------------------------------------- */
 
-typedef escape_status kernel_call(escape_kernel, const char *, size_t, char *, size_t, size_t *);
-typedef escape_status length_call(const char *, size_t, size_t *);
-typedef escape_status exact_call(const char *, size_t, char *, size_t, size_t *);
+typedef escape_status kernel_call(escape_mode, escape_kernel, const char *, size_t, char *, size_t, size_t *);
 
-/* The calls of a mode; HTML has no inner ones. The bound exceeds six bytes for each of the text by the slack. */
-struct mode_calls {
-    size_t slack;
-    kernel_call *checked, *unchecked, *inner, *inner_unchecked;
-    length_call *length;
-    exact_call *exact;
-};
-
-static const struct mode_calls CALLS[MODE_COUNT] = {
-    {35, escape_json, escape_json_unchecked, escape_json_inner, escape_json_inner_unchecked, escape_json_length, escape_json_exact},
-    {32, escape_html, escape_html_unchecked, NULL, NULL, escape_html_length, escape_html_exact},
-    {35, escape_script, escape_script_unchecked, escape_script_inner, escape_script_inner_unchecked, escape_script_length, escape_script_exact},
-};
+/* How far the bound of each mode exceeds six bytes for each of the text. */
+static const size_t SLACK[MODE_COUNT] = {35, 32, 35};
 
 /* How many bytes a vector of each kernel has, by the kernel's number. */
 static const size_t LANES[KERNELS] = {32, 16, 16, 16, 32, 64};
@@ -76,8 +63,7 @@ static byte *placed(const struct block *block, size_t size, int at_end, size_t s
 
 /* The call that is made, for what is said of a fault. */
 static struct {
-    const struct mode *mode;
-    const struct mode_calls *of_mode;
+    escape_mode mode;
     const char *name;
     escape_kernel kernel;
     const byte *text;
@@ -90,7 +76,7 @@ static struct {
 static void fault(const char *form, ...) {
     va_list words;
     size_t at;
-    printf("  %s %s, kernel %u, %zu bytes, a buffer of %zu: ", call.mode->name, call.name, (unsigned)call.kernel, call.length, call.room);
+    printf("  %s %s, kernel %u, %zu bytes, a buffer of %zu: ", MODES[call.mode].name, call.name, (unsigned)call.kernel, call.length, call.room);
     va_start(words, form);
     vprintf(form, words);
     va_end(words);
@@ -150,7 +136,7 @@ static void by_kernel(const char *name, kernel_call *escape, escape_kernel kerne
     escape_status status;
     call.name = name;
     call.kernel = kernel;
-    status = escape(kernel, (const char *)call.text, call.length, (char *)call.buffer, call.room, &count);
+    status = escape(call.mode, kernel, (const char *)call.text, call.length, (char *)call.buffer, call.room, &count);
     compare(status, count, &wanted);
 }
 
@@ -164,7 +150,7 @@ static void by_exact(size_t room, const struct place *place, const struct output
     call.kernel = 0;
     call.room = room;
     call.buffer = placed(&buffer_block, room, place->at_end, place->buffer_shift);
-    status = call.of_mode->exact((const char *)call.text, call.length, (char *)call.buffer, room, &count);
+    status = escape_exact(call.mode, (const char *)call.text, call.length, (char *)call.buffer, room, &count);
     compare(status, count, &wanted);
 }
 
@@ -174,7 +160,7 @@ static void by_length(const struct output *output) {
     struct outcome wanted = refused(output->is_utf8 ? ESCAPE_OK : ESCAPE_NOT_UTF8, output->is_utf8 ? output->size : 0);
     call.name = "length";
     call.kernel = 0;
-    status = call.of_mode->length((const char *)call.text, call.length, &count);
+    status = escape_length(call.mode, (const char *)call.text, call.length, &count);
     compare(status, count, &wanted);
 }
 
@@ -182,28 +168,35 @@ static void by_length(const struct output *output) {
 
 /* By one kernel: the output, and what is between its quotation marks. */
 static void each_kernel_call(escape_kernel kernel, size_t bound, const struct output *output) {
-    const struct mode_calls *mode = call.of_mode;
-    size_t quotes = strlen(call.mode->quote);
+    size_t quotes = strlen(MODES[call.mode].quote);
     struct outcome whole = written(output->bytes, output->size, LANES[kernel], bound), inner = whole;
     if (output->is_utf8) inner = written(output->bytes + quotes, output->size - 2 * quotes, LANES[kernel], bound);
     else whole = inner = refused(ESCAPE_NOT_UTF8, 0);
-    by_kernel("checked", mode->checked, kernel, whole);
-    if (mode->inner) by_kernel("inner", mode->inner, kernel, inner);
+    by_kernel("checked", escape_text, kernel, whole);
+    by_kernel("inner", escape_inner, kernel, inner);
     if (!output->is_utf8) return;
-    by_kernel("unchecked", mode->unchecked, kernel, whole);
-    if (mode->inner) by_kernel("inner_unchecked", mode->inner_unchecked, kernel, inner);
+    by_kernel("unchecked", escape_text_unchecked, kernel, whole);
+    by_kernel("inner_unchecked", escape_inner_unchecked, kernel, inner);
+}
+
+/* The call without a status, as one of the default kernel that succeeds. */
+static escape_status write_default(escape_mode mode, escape_kernel kernel, const char *text, size_t length, char *buffer, size_t room, size_t *count) {
+    (void)kernel;
+    *count = escape_write(mode, text, length, buffer, room);
+    return ESCAPE_OK;
 }
 
 static void kernel_calls(const struct place *place, const struct output *output) {
     escape_kernel kernel;
-    size_t bound = 6 * call.length + call.of_mode->slack;
+    size_t bound = 6 * call.length + SLACK[call.mode];
     call.room = place->at_end ? bound : bound + PAST;
     call.buffer = placed(&buffer_block, call.room, place->at_end, place->buffer_shift);
     for (kernel = 0; kernel < KERNELS; kernel++) each_kernel_call(kernel, bound, output);
-    by_kernel("no kernel", call.of_mode->checked, KERNELS, refused(ESCAPE_NO_KERNEL, 0));
+    if (output->is_utf8) by_kernel("write", write_default, ESCAPE_DEFAULT, written(output->bytes, output->size, LANES[ESCAPE_DEFAULT], bound));
+    by_kernel("no kernel", escape_text, KERNELS, refused(ESCAPE_NO_KERNEL, 0));
     call.room = bound - 1;
     call.buffer = placed(&buffer_block, call.room, place->at_end, place->buffer_shift);
-    by_kernel("too short", call.of_mode->checked, texts % KERNELS, refused(ESCAPE_TOO_SHORT, 0));
+    by_kernel("too short", escape_text, texts % KERNELS, refused(ESCAPE_TOO_SHORT, 0));
 }
 
 /* Buffers of the output's size, and in turn a byte shorter, a byte longer, much longer and of none. */
@@ -221,16 +214,13 @@ static void exact_calls(const struct place *place, const struct output *output) 
 /* Every call, in every mode and by every kernel, with the text and the buffers at a place. */
 static void calls_at(const byte *text, size_t length, const struct place *place, const struct output *outputs) {
     byte *at = placed(&text_block, length, place->at_end, place->text_shift);
-    size_t m;
     memcpy(at, text, length);
     call.text = at;
     call.length = length;
-    for (m = 0; m < MODE_COUNT; m++) {
-        call.mode = &MODES[m];
-        call.of_mode = &CALLS[m];
-        kernel_calls(place, &outputs[m]);
-        exact_calls(place, &outputs[m]);
-        by_length(&outputs[m]);
+    for (call.mode = 0; call.mode < MODE_COUNT; call.mode++) {
+        kernel_calls(place, &outputs[call.mode]);
+        exact_calls(place, &outputs[call.mode]);
+        by_length(&outputs[call.mode]);
     }
     if (memcmp(at, text, length)) fault("the text has changed");
 }

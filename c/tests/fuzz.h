@@ -103,6 +103,7 @@ struct mode {
     const char *quote;
 };
 
+/* By the mode's number. */
 static const struct mode MODES[] = {
     {"json", json_replacement, "\""},
     {"html", html_replacement, ""},

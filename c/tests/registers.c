@@ -6,37 +6,38 @@
 #include <stdio.h>
 #include <stdlib.h>
 
-enum { LONGEST = 200, TEXTS = 12, KERNELS = 6 };
+enum { LONGEST = 200, TEXTS = 12, KERNELS = 6, MODES = 3 };
 
-typedef escape_status call(escape_kernel, const char *, size_t, char *, size_t, size_t *);
+typedef escape_status call(escape_mode, escape_kernel, const char *, size_t, char *, size_t, size_t *);
 
-/* The calls that take no kernel. Of all modes they are one function in the library. */
-static escape_status json_length(escape_kernel kernel, const char *text, size_t length, char *buffer, size_t room, size_t *count) {
+/* The calls that take no kernel. */
+static escape_status by_length(escape_mode mode, escape_kernel kernel, const char *text, size_t length, char *buffer, size_t room, size_t *count) {
     (void)kernel, (void)buffer, (void)room;
-    return escape_json_length(text, length, count);
+    return escape_length(mode, text, length, count);
 }
 
-static escape_status json_exact(escape_kernel kernel, const char *text, size_t length, char *buffer, size_t room, size_t *count) {
+static escape_status by_exact(escape_mode mode, escape_kernel kernel, const char *text, size_t length, char *buffer, size_t room, size_t *count) {
     (void)kernel;
-    return escape_json_exact(text, length, buffer, room, count);
+    return escape_exact(mode, text, length, buffer, room, count);
+}
+
+static escape_status by_write(escape_mode mode, escape_kernel kernel, const char *text, size_t length, char *buffer, size_t room, size_t *count) {
+    (void)kernel;
+    *count = escape_write(mode, text, length, buffer, room);
+    return ESCAPE_OK;
 }
 
 static const struct {
     const char *name;
     call *escape;
 } calls[] = {
-    {"json", escape_json},
-    {"json_unchecked", escape_json_unchecked},
-    {"json_inner", escape_json_inner},
-    {"json_inner_unchecked", escape_json_inner_unchecked},
-    {"json_length", json_length},
-    {"json_exact", json_exact},
-    {"html", escape_html},
-    {"html_unchecked", escape_html_unchecked},
-    {"script", escape_script},
-    {"script_unchecked", escape_script_unchecked},
-    {"script_inner", escape_script_inner},
-    {"script_inner_unchecked", escape_script_inner_unchecked},
+    {"text", escape_text},
+    {"text_unchecked", escape_text_unchecked},
+    {"inner", escape_inner},
+    {"inner_unchecked", escape_inner_unchecked},
+    {"length", by_length},
+    {"exact", by_exact},
+    {"write", by_write},
 };
 
 enum { CALLS = sizeof calls / sizeof calls[0] };
@@ -73,18 +74,21 @@ static int calls_that_leave(size_t which_call) {
     static char text[LONGEST], buffer[6 * LONGEST + 35];
     int left = 0;
     size_t length, which, count;
+    escape_mode mode;
     escape_kernel kernel;
-    for (kernel = 0; kernel < KERNELS; kernel++) {
-        for (length = 0; length < LONGEST; length++) {
-            for (which = 0; which < TEXTS; which++) {
-                make_text(text, length, which);
-                clear_upper_halves();
-                if (calls[which_call].escape(kernel, text, length, buffer, sizeof buffer, &count) != ESCAPE_OK) {
-                    printf("kernel %u, %u bytes: refused\n", (unsigned)kernel, (unsigned)length);
-                    return 1;
-                }
-                if (upper_halves_in_use() && left++ == 0) {
-                    printf("kernel %u, %u bytes: in use\n", (unsigned)kernel, (unsigned)length);
+    for (mode = 0; mode < MODES; mode++) {
+        for (kernel = 0; kernel < KERNELS; kernel++) {
+            for (length = 0; length < LONGEST; length++) {
+                for (which = 0; which < TEXTS; which++) {
+                    make_text(text, length, which);
+                    clear_upper_halves();
+                    if (calls[which_call].escape(mode, kernel, text, length, buffer, sizeof buffer, &count) != ESCAPE_OK) {
+                        printf("mode %u, kernel %u, %u bytes: refused\n", (unsigned)mode, (unsigned)kernel, (unsigned)length);
+                        return 1;
+                    }
+                    if (upper_halves_in_use() && left++ == 0) {
+                        printf("mode %u, kernel %u, %u bytes: in use\n", (unsigned)mode, (unsigned)kernel, (unsigned)length);
+                    }
                 }
             }
         }

@@ -10,19 +10,17 @@
 /* A text is escaped in pieces of at most PIECE bytes. While more than RELEASE bytes are escaped, other threads run. */
 enum { PIECE = 4096, ROOM = 6 * PIECE + 35, RELEASE = 64 * 1024 };
 
-typedef escape_status call(escape_kernel, const char *, size_t, char *, size_t, size_t *);
-
-/* The calls that escape a piece of bytes and of a str, how many quotation marks each side of an output has, and the
- * function of __init__.py for other arguments. */
+/* A mode's number, how many quotation marks each side of an output has, and the function of __init__.py for other
+ * arguments. */
 struct mode {
-    call *of_bytes, *of_str;
+    escape_mode number;
     size_t quotes;
     const char *others;
 };
 
-static const struct mode JSON = {escape_json_inner, escape_json_inner_unchecked, 1, "_json"};
-static const struct mode HTML = {escape_html, escape_html_unchecked, 0, "_html"};
-static const struct mode SCRIPT = {escape_script_inner, escape_script_inner_unchecked, 1, "_script"};
+static const struct mode JSON = {ESCAPE_JSON, 1, "_json"};
+static const struct mode HTML = {ESCAPE_HTML, 0, "_html"};
+static const struct mode SCRIPT = {ESCAPE_SCRIPT, 1, "_script"};
 
 /* An output, which is first measured and then written. */
 struct output {
@@ -71,15 +69,16 @@ static void put(struct output *output, const char *piece, size_t count) {
     else output->size = decode(4, output->data, at, piece, end);
 }
 
-/* Escapes the text, and measures or writes each piece. Returns whether the text is UTF-8. */
-static int escape_pieces(call *escape, const char *text, size_t length, char *piece, struct output *output) {
+/* Escapes the text, which is known to be UTF-8 or not, and measures or writes each piece. Returns whether it is. */
+static int escape_pieces(
+    escape_mode mode, int is_known, const char *text, size_t length, char *piece, struct output *output) {
     PyThreadState *thread = length > RELEASE ? PyEval_SaveThread() : NULL;
     escape_status status = ESCAPE_OK;
     while (length && status == ESCAPE_OK) {
         size_t next = length < PIECE ? length : PIECE, count;
         /* A piece ends at a character. */
         while (next < length && next > PIECE - 3 && (text[next] & 0xc0) == 0x80) next--;
-        status = escape(ESCAPE_DEFAULT, text, next, piece, ROOM, &count);
+        status = (is_known ? escape_inner_unchecked : escape_inner)(mode, ESCAPE_DEFAULT, text, next, piece, ROOM, &count);
         (output->data ? put : measure)(output, piece, count);
         text += next;
         length -= next;
@@ -114,7 +113,7 @@ static PyObject *escape(const struct mode *mode, PyObject *object) {
     char piece[ROOM];
     PyObject *answer;
     if (!text) return NULL;
-    if (!escape_pieces(is_str ? mode->of_str : mode->of_bytes, text, (size_t)length, piece, &output)) {
+    if (!escape_pieces(mode->number, is_str, text, (size_t)length, piece, &output)) {
         /* It raises what Python raises for these bytes. */
         Py_XDECREF(PyUnicode_DecodeUTF8(text, length, NULL));
         return NULL;
@@ -132,7 +131,7 @@ static PyObject *escape(const struct mode *mode, PyObject *object) {
     } else if (length <= PIECE) {
         put(&output, piece, output.bytes);
     } else {
-        escape_pieces(mode->of_str, text, (size_t)length, piece, &output);
+        escape_pieces(mode->number, 1, text, (size_t)length, piece, &output);
     }
     return answer;
 }

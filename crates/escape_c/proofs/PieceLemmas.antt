@@ -7,13 +7,13 @@ use Rattle.escape_simd.proofs.Pieces.{cut-text}
 use Rattle.escape_c.specs.Call.{JoinsPieces}
 
 -- a text that is cut between two characters
-pub JoinsPieces-inner : (mode : Mode) (text output : List ℕ) → output ≡ inner mode text → IsUtf8 text → JoinsPieces mode text output
-JoinsPieces-inner mode text output same utf8 before after first =
+pub joins_pieces : (mode : Mode) (text output : List ℕ) → output ≡ inner mode text → IsUtf8 text → JoinsPieces mode text output
+joins_pieces mode text output same utf8 before after first =
     inner-append mode (before ++ (text ++ after)) before (text ++ after) refl (cut-text mode before first)
     ∙ ap (λ xs. inner mode before ++ xs) (inner-append mode (text ++ after) text after refl (cut-text mode text utf8) ∙ ap (λ xs. xs ++ inner mode after) (rw (← same) refl))
 
 -- a buffer that has room for an output has room for what stands between its quotation marks
-pub bound-least : (mode : Mode) (n : ℕ) → 6 * n + 32 ≤ bound mode n
-bound-least json n = omega arith
-bound-least html n = omega arith
-bound-least script n = omega arith
+pub bound_least : (mode : Mode) (n : ℕ) → 6 * n + 32 ≤ bound mode n
+bound_least json n = omega arith
+bound_least html n = omega arith
+bound_least script n = omega arith

@@ -9,21 +9,20 @@ use Rattle.escape_c.proofs.ExactLemmas.{RefusesExact-unmeasured}
 use Rattle.escape_c.proofs.exact.escape_exact.Goals as goal
 
 pub returns-in-Ok-clause-output : goal.returns-in-Ok-clause-output
-returns-in-Ok-clause-output g c ok =
-    let mode = mode_numbered g.row.MODE in
-    let output : List ℕ = c.write_exact.new.dst in
+returns-in-Ok-clause-output c ok =
+    let mode = mode_numbered c.args.mode in
+    let output : List ℕ = c.write.new.dst in
     let count : length output ≡ c.status.new.count = search rules in
-    let exact : output ≡ plain mode c.args.text.now = search (rules, c.write_exact.ensures) in
+    let exact : output ≡ plain mode c.args.text.now = search (rules, c.write.ensures) in
     IsEscaping-output mode c.args.text.now _ (take_at output (drop c.in-Ok.len c.args.buffer.now) c.status.new.count count ∙ exact) (search rules)
 
 pub returns-in-Err-clause-refused : goal.returns-in-Err-clause-refused
-returns-in-Err-clause-refused g c why =
-    let mode = mode_numbered g.row.MODE in
-    let none : ¬ (HasLength mode c.args.text.now) = search rules in
-    let same = RefusesExact-unmeasured mode c.args.text.now (length c.args.buffer.now) none why in
+returns-in-Err-clause-refused c why =
+    let none : ¬ (HasLength c.args.mode c.args.text.now) = search rules in
+    let same = RefusesExact-unmeasured c.args.mode c.args.text.now (length c.args.buffer.now) none why in
     search (rules, same)
 
 pub returns-in-Err-clause-needed : goal.returns-in-Err-clause-needed
-returns-in-Err-clause-needed g c short =
+returns-in-Err-clause-needed c short =
     let told = (c.status-in-Err.ensures.refused TooShort).0 short in
-    absurd ((c.measured.ensures.err TooShort).0 (search (rules, told)))
+    absurd ((c.measured_in.ensures.err TooShort).0 (search (rules, told)))

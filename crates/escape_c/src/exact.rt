@@ -32,7 +32,7 @@ fn measured<const MODE: u8>(bytes: &[u8]) -> Result<(&str, usize), Refusal>
     ensures err { (why : Refusal) → (result ≡ Err why) ↔ RefusesLength MODE bytes.now why }
 {
     check_len(bytes.len())?;
-    let text = as_text(bytes, false)?;
+    let text = as_text(bytes, false, false)?;
     let len = escaped_len::<MODE>(text).ok_or(Refusal::TooLarge)?;
     Ok((text, len))
 }
@@ -54,7 +54,6 @@ fn measured_in(mode: u32, bytes: &[u8]) -> Result<(&str, usize), Refusal>
 }
 
 /// Writes the output of the text in the mode numbered `mode` to `dst`, which has its length.
-#[inline(always)]
 fn write(mode: u32, text: &str, dst: &mut [u8])
     requires { length dst.old ≡ length (plain (mode_numbered mode) text.now) }
     ensures { dst.new ≡ plain (mode_numbered mode) text.now }

@@ -81,8 +81,10 @@ fn escape(
     ensures inner { result ≡ 0 → is_inner ≡ true
         → EscapesInner mode kernel text.now buffer.old buffer.new count.new }
 {
+    // Of these `is_usual` asked already.
+    let is_asked = kernel == 0 && text.len() <= 64;
     let written = match chosen(mode, kernel, text.len(), buffer.len()) {
-        Ok((mode, kernel)) => match as_text(text, is_known) {
+        Ok((mode, kernel)) => match as_text(text, is_known, is_asked) {
             Ok(text) if is_inner => Ok(format_inner(kernel, mode, text, buffer)),
             Ok(text) => Ok(format_text(kernel, mode, text, buffer)),
             Err(why) => Err(why),

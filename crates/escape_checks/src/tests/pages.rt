@@ -1,6 +1,5 @@
 //! Pages and objects: rows whose bytes are written out, and memory that is refused, request by request.
 
-use crate::tests::examples::are;
 use crate::tests::memory::vector_of;
 use crate::tests::rationed::Rationed;
 use escape_simd::Refusal;
@@ -13,6 +12,11 @@ use std::test::Fail;
 
 /// The bytes that HTML escapes.
 const SIX: &str = "\"&'/<>";
+
+/// Stops the test unless the bytes are those of the text.
+fn are(rt: &impl Abort, bytes: &[u8], text: &str) {
+    assert!(rt; bytes == text.as_bytes(), "{text}");
+}
 
 #[test]
 fn each_part_has_its_own_escapes(rt: HostRuntime) -> Result<(), Fail> {

@@ -5,62 +5,20 @@ use crate::cpu;
 use crate::output::Mode;
 use core::{mem::MaybeUninit, slice, str};
 
-/// Writes the output of the `length` bytes at `text`, which must be UTF-8, to the front of the `room` bytes at `buffer`, and
-/// its length to `count`. Returns 0, and another number if the room is less than the bound. No byte of the buffer is read
-/// before it is written.
-type Write = unsafe extern "C" fn(
-    kernel: u32,
-    text: *const u8,
-    length: usize,
-    buffer: *mut u8,
-    room: usize,
-    count: *mut usize,
-) -> u32;
-
-/// The number of the kernel that is fastest at most texts.
-const DEFAULT: u32 = 0;
+/// Writes the output of the `length` bytes at `text` to the front of the `room` bytes at `buffer`, and returns its
+/// length. The bytes must be UTF-8, and the room the bound or more. No byte of the buffer is read before it is written.
+type Write = unsafe extern "C" fn(mode: u32, text: *const u8, length: usize, buffer: *mut u8, room: usize) -> usize;
 
 // The names are those of `c/escape.h`, behind the name of the build, by which the builds are told apart.
-macro_rules! build {
-    ($name:ident, $json:literal, $html:literal, $script:literal) => {
-        /// The calls by the mode's number.
-        const $name: [Write; 3] = {
-            extern "C" {
-                #[link_name = $json]
-                fn json(k: u32, text: *const u8, length: usize, buffer: *mut u8, room: usize, count: *mut usize)
-                    -> u32;
-                #[link_name = $html]
-                fn html(k: u32, text: *const u8, length: usize, buffer: *mut u8, room: usize, count: *mut usize)
-                    -> u32;
-                #[link_name = $script]
-                fn script(k: u32, text: *const u8, length: usize, buffer: *mut u8, room: usize, c: *mut usize) -> u32;
-            }
-            [json, html, script]
-        };
-    };
-}
+extern "C" {
+    #[cfg_attr(target_arch = "x86_64", link_name = "escape_simd_x86_64_v2_escape_write")]
+    #[cfg_attr(target_arch = "aarch64", link_name = "escape_simd_aarch64_escape_write")]
+    fn write_lowest(mode: u32, text: *const u8, length: usize, buffer: *mut u8, room: usize) -> usize;
 
-#[cfg(target_arch = "aarch64")]
-build!(
-    LOWEST,
-    "escape_simd_aarch64_escape_json_unchecked",
-    "escape_simd_aarch64_escape_html_unchecked",
-    "escape_simd_aarch64_escape_script_unchecked"
-);
-#[cfg(target_arch = "x86_64")]
-build!(
-    LOWEST,
-    "escape_simd_x86_64_v2_escape_json_unchecked",
-    "escape_simd_x86_64_v2_escape_html_unchecked",
-    "escape_simd_x86_64_v2_escape_script_unchecked"
-);
-#[cfg(target_arch = "x86_64")]
-build!(
-    V3,
-    "escape_simd_x86_64_v3_escape_json_unchecked",
-    "escape_simd_x86_64_v3_escape_html_unchecked",
-    "escape_simd_x86_64_v3_escape_script_unchecked"
-);
+    #[cfg(target_arch = "x86_64")]
+    #[link_name = "escape_simd_x86_64_v3_escape_write"]
+    fn write_v3(mode: u32, text: *const u8, length: usize, buffer: *mut u8, room: usize) -> usize;
+}
 
 /// Writes the output of `text` to the front of `buffer`, and returns it.
 ///
@@ -70,21 +28,30 @@ build!(
 #[inline]
 pub(crate) fn write<'b>(mode: Mode, text: &str, buffer: &'b mut [MaybeUninit<u8>]) -> &'b str {
     #[cfg(target_arch = "x86_64")]
-    if cpu::is_known_v3() || cpu::has_v3() {
-        return write_by(V3, mode, text, buffer);
-    }
-    write_by(LOWEST, mode, text, buffer)
+    let build = if cpu::is_known_v3() { write_v3 } else { write_asking };
+    #[cfg(not(target_arch = "x86_64"))]
+    let build = write_lowest;
+    write_by(build, mode, text, buffer)
+}
+
+/// Writes by the build for the processor's level, which is asked for if it is not known yet.
+#[cfg(target_arch = "x86_64")]
+unsafe extern "C" fn write_asking(mode: u32, text: *const u8, length: usize, buffer: *mut u8, room: usize) -> usize {
+    let build = if cpu::has_v3() { write_v3 } else { write_lowest };
+    // SAFETY: the caller keeps to the contract of `Write`, and the processor has the level.
+    unsafe { build(mode, text, length, buffer, room) }
 }
 
 #[inline]
-fn write_by<'b>(build: [Write; 3], mode: Mode, text: &str, buffer: &'b mut [MaybeUninit<u8>]) -> &'b str {
+fn write_by<'b>(build: Write, mode: Mode, text: &str, buffer: &'b mut [MaybeUninit<u8>]) -> &'b str {
+    assert!(mode.capacity(text.len()).map_or(false, |bound| bound <= buffer.len()));
     let front = buffer.as_mut_ptr().cast::<u8>();
-    let mut count = 0;
-    // SAFETY: a `str` is UTF-8. So the library keeps to its contract: it writes to the buffer and the count alone.
-    let status = unsafe { build[mode as usize](DEFAULT, text.as_ptr(), text.len(), front, buffer.len(), &mut count) };
-    assert!(status == 0, "the buffer is shorter than the bound");
-    // SAFETY: the first `count` bytes of the buffer are the output, which is UTF-8.
-    unsafe { str::from_utf8_unchecked(slice::from_raw_parts(front, count)) }
+    // SAFETY: the mode's number is one of the library's, a `str` is UTF-8, and the buffer has the bound. So the output
+    // stands in the buffer's first `length` bytes. It is UTF-8.
+    unsafe {
+        let length = build(mode as u32, text.as_ptr(), text.len(), front, buffer.len());
+        str::from_utf8_unchecked(slice::from_raw_parts(front, length))
+    }
 }
 
 #[cfg(all(test, target_arch = "x86_64"))]
@@ -92,19 +59,25 @@ mod tests {
     use super::*;
     use alloc::{string::String, vec};
 
+    fn builds_agree(text: &str) {
+        for mode in [Mode::Json, Mode::Html, Mode::Script] {
+            let mut lowest = vec![MaybeUninit::uninit(); mode.capacity(text.len()).unwrap()];
+            let mut v3 = lowest.clone();
+            assert_eq!(write_by(write_v3, mode, text, &mut v3), write_by(write_lowest, mode, text, &mut lowest));
+        }
+    }
+
     #[test]
     fn builds_write_the_same() {
         if !cpu::has_v3() {
             return;
         }
-        let text: String = ('\0'..='\u{10ffff}').collect();
-        for length in (0..200).chain([text.len()]).filter(|&length| text.is_char_boundary(length)) {
-            for mode in [Mode::Json, Mode::Html, Mode::Script] {
-                let mut lowest = vec![MaybeUninit::uninit(); mode.capacity(length).unwrap()];
-                let mut v3 = lowest.clone();
-                let wanted = write_by(LOWEST, mode, &text[..length], &mut lowest);
-                assert_eq!(write_by(V3, mode, &text[..length], &mut v3), wanted);
-            }
+        let all: String = ('\0'..=char::MAX).collect();
+        builds_agree(&all);
+        let mixed = "<a href='/x'>\"\\\u{2028}\n and some letters that need no escape".repeat(20);
+        for (at, _) in mixed.char_indices() {
+            builds_agree(&mixed[..at]);
+            builds_agree(&mixed[at..]);
         }
     }
 

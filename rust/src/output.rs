@@ -58,6 +58,7 @@ pub(crate) fn append(mode: Mode, text: &str, dst: &mut Vec<u8>) -> Option<()> {
     Some(())
 }
 
+// Apart, so that what is inlined in callers saves no register for it.
 #[cold]
 #[inline(never)]
 fn append_growing(mode: Mode, text: &str, dst: &mut Vec<u8>, room: usize) {
@@ -127,13 +128,16 @@ mod tests {
 
     #[test]
     fn bounds() {
-        const LARGEST: usize = usize::MAX / 6;
         assert_eq!(Mode::Html.capacity(0), Some(32));
         assert_eq!(Mode::Html.capacity(10), Some(92));
         assert_eq!(Mode::Json.capacity(0), Some(35));
         assert_eq!(Mode::Script.capacity(10), Some(95));
+        assert_eq!(Mode::Html.capacity(3074457345618258597), Some(18446744073709551614));
+        assert_eq!(Mode::Html.capacity(3074457345618258598), None);
+        assert_eq!(Mode::Json.capacity(3074457345618258596), Some(18446744073709551611));
+        assert_eq!(Mode::Json.capacity(3074457345618258597), None);
         for mode in [Mode::Json, Mode::Html, Mode::Script] {
-            assert_eq!(mode.capacity(LARGEST), None);
+            assert_eq!(mode.capacity(usize::MAX / 6), None);
             assert_eq!(mode.capacity(usize::MAX), None);
         }
     }

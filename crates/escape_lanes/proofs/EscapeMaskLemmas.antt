@@ -40,7 +40,7 @@ first-within (false ∷ bs) = omega (arith, first-within bs)
 
 -- The lanes of a mask
 
-module _ (mode : Mode) (bytes : List ℕ) (from n : ℕ) (is : bits_of 64 n ≡ lanes_of_mask mode (mask_from bytes from)) where
+module _ (mode : Mode) (bytes : List ℕ) (from n : ℕ) (is : bits_of 64 n ≡ lanes_of_mask mode (mask_from bytes from 0)) where
   -- of all bytes
   abbrev all : List Bool
   all = map (needs_escape mode) bytes ++ replicate (64 - length bytes) false
@@ -52,18 +52,18 @@ module _ (mode : Mode) (bytes : List ℕ) (from n : ℕ) (is : bits_of 64 n ≡ 
       omega (arith, long, whole, length-append (replicate from false) (drop from all), length-replicate {A = Bool} from false, length-drop from all, length-map bytes (needs_escape mode))
 
   -- the first lane that is set is one of 64
-  pub mask-first : first_set (lanes_of_mask mode (mask_from bytes from)) ≤ 64
-  mask-first = omega (arith, first-within (lanes_of_mask mode (mask_from bytes from)), ap length (sym is), length-bits_of 64 n)
+  pub mask-first : first_set (lanes_of_mask mode (mask_from bytes from 0)) ≤ 64
+  mask-first = omega (arith, first-within (lanes_of_mask mode (mask_from bytes from 0)), ap length (sym is), length-bits_of 64 n)
 
   -- without the first one
-  pub mask-cleared : (m : ℕ) → bits_of 64 m ≡ clear_first (first_set (bits_of 64 n) + 1) (bits_of 64 n) → bits_of 64 m ≡ lanes_of_mask mode (mask_from bytes (first_set (bits_of 64 n) + 1))
+  pub mask-cleared : (m : ℕ) → bits_of 64 m ≡ clear_first (first_set (bits_of 64 n) + 1) (bits_of 64 n) → bits_of 64 m ≡ lanes_of_mask mode (mask_from bytes (first_set (bits_of 64 n) + 1) 0)
   mask-cleared m cut =
       let far = first-behind from (drop from all) in let same = ap first_set is in
       cut ∙ ap (clear_first (first_set (bits_of 64 n) + 1)) is ∙ clear-more from (first_set (bits_of 64 n) + 1) all (omega (arith, far, same))
 
   -- from a later byte on, with none set between
-  pub mask-later : (next : ℕ) → from ≤ next → next ≤ first_set (lanes_of_mask mode (mask_from bytes from)) → bits_of 64 n ≡ lanes_of_mask mode (mask_from bytes next)
-  mask-later next after none = is ∙ sym (front-clear next (lanes_of_mask mode (mask_from bytes from)) none) ∙ clear-more from next all after
+  pub mask-later : (next : ℕ) → from ≤ next → next ≤ first_set (lanes_of_mask mode (mask_from bytes from 0)) → bits_of 64 n ≡ lanes_of_mask mode (mask_from bytes next 0)
+  mask-later next after none = is ∙ sym (front-clear next (lanes_of_mask mode (mask_from bytes from 0)) none) ∙ clear-more from next all after
 
 -- of the bytes from one on
 pub mask-skipped : (mode : Mode) (bytes : List ℕ) (k n : ℕ) → k ≤ length bytes → length bytes ≤ 64 → bits_of 64 n ≡ lanes_of_mask mode (whole_mask bytes) → drop k (bits_of 64 n) ++ replicate k false ≡ lanes_of_mask mode (whole_mask (take 64 (drop k bytes)))

@@ -124,9 +124,13 @@ mask-past mode mask k none few =
     omega (arith, few, first_set-none (lanes_of_mask mode mask) none, length-append (replicate mask.from false) (drop mask.from all), length-replicate {A = Bool} mask.from false, length-drop mask.from all, length-append f (replicate (64 - length mask.bytes) false), length-map mask.bytes (needs_escape mode), length-replicate {A = Bool} (64 - length mask.bytes) false)
 
 -- where a mask of a text's bytes flags none, they are clean
+pub bytes-clean : (mode : Mode) (src : List ℕ) (at valid : ℕ) (mask : MaskOf) → mask.bytes ≡ take valid (drop at src) → mask.from ≡ 0 → at + valid ≤ length src → is_clear mode mask ≡ true → CleanFrom mode src at (at + valid)
+bytes-clean mode src at valid mask bytes from inside none =
+    held-none mode src at valid at (lanes_of_mask mode mask) (mask-holds mode src at valid at mask bytes inside (omega (arith, from))) (omega arith) none
+
 pub mask-clean : (mode : Mode) (src : List ℕ) (at valid : ℕ) (mask : MaskOf) → mask ≡ whole_mask (take valid (drop at src)) → at + valid ≤ length src → is_clear mode mask ≡ true → CleanFrom mode src at (at + valid)
 mask-clean mode src at valid mask is inside none =
-    held-none mode src at valid at (lanes_of_mask mode mask) (mask-holds mode src at valid at mask (ap (λ m. m.bytes) is) inside (omega (arith, ap (λ m. m.from) is))) (omega arith) none
+    bytes-clean mode src at valid mask (ap (λ m. m.bytes) is) (ap (λ m. m.from) is) inside none
 
 -- bytes of a text's part, from a place on
 pub part-later : (src : List ℕ) (at n from count : ℕ) → from + count ≤ n → take count (drop from (take n (drop at src))) ≡ take count (drop (at + from) src)

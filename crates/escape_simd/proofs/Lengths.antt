@@ -1,5 +1,5 @@
 -- How long what stands for parts of a text is, and for the whole.
-use Rattle.escape_simd.proofs.Words.{◌≡◌, ◌≢◌, ℕ, ◌+◌, ◌-◌, ◌*◌, ◌<◌, ◌≤◌, Bool, true, false, List, [], ◌∷◌, length, drop, get_or, ap, ◌∙◌, arith, length-append, length-drop, inl, inr, cases_lt, count_by, nat_tests, first_set, MaskOf, is_clear, lanes_of_mask, mask_from, whole_mask, take, sym, entry_count, Mode, script, needs_escape, replacement, inner, begins_separator, passed, first_replacement, plain, quote_count, rest_length, IsFlaggedAt, IsFront, IsPartLength}
+use Rattle.escape_simd.proofs.Words.{◌≡◌, ◌≢◌, ℕ, ◌+◌, ◌-◌, ◌*◌, ◌<◌, ◌≤◌, Bool, true, false, List, [], ◌∷◌, length, drop, get_or, ap, ◌∙◌, arith, length-append, length-drop, inl, inr, cases_lt, count_by, nat_tests, first_set, IsMaskOf, MaskOf, is_clear, lanes_of_mask, mask_from, take, sym, entry_count, Mode, script, needs_escape, replacement, inner, begins_separator, passed, first_replacement, plain, quote_count, rest_length, IsFlaggedAt, IsFront, IsPartLength}
 use Rattle.escape_simd.proofs.Escapes.{entry-counts, first-alone, passed-alone}
 use Rattle.escape_simd.proofs.Lanes.{CleanFrom, HoldsFlags, cleared-later, first-set, first_set-here, held-first, held-none, mask-holds}
 use Rattle.escape_simd.proofs.OutputLemmas.{length-plain}
@@ -43,10 +43,10 @@ pub record CountedSoFar (mode : Mode) (src : List ℕ) (at valid len : ℕ) (mas
 
 module _ (mode : Mode) (src : List ℕ) (at valid : ℕ) (inside : at + valid ≤ length src) where
   -- none yet
-  pub counted-begin : (mask : MaskOf) → mask ≡ whole_mask (take valid (drop at src)) → CountedSoFar mode src at valid valid mask
+  pub counted-begin : (mask : MaskOf) → IsMaskOf mask (take valid (drop at src)) → CountedSoFar mode src at valid valid mask
   counted-begin mask is =
-      let first = ap (λ m. m.from) is in let here : at + mask.from ≡ at = omega (arith, first) in
-      record { bytes = ap (λ m. m.bytes) is; before = omega (arith, first); counted = omega (arith, first, ap (rest_length mode src) here) }
+      let here : at + mask.from ≡ at = omega (arith, is.from) in
+      record { bytes = is.bytes; before = omega (arith, is.from); counted = omega (arith, is.from, ap (rest_length mode src) here) }
 
   module _ (len : ℕ) (mask : MaskOf) (so_far : CountedSoFar mode src at valid len mask) where
     -- its lanes
@@ -75,7 +75,7 @@ module _ (mode : Mode) (src : List ℕ) (at valid : ℕ) (inside : at + valid �
           (record { inside = omega (arith, s, is, inside); needed = rw (sym is) at s.1 }, omega (arith, s, is), omega (arith, is, cleared-later mask.from _ (first_set bits) (first_set-here bits some)))
 
       -- one more
-      pub counted-next : (more : ℕ) (rest : MaskOf) → IsPartLength mode src (at + f) (at + f + 1) (more + 1) → rest ≡ mask_from mask.bytes (first_set bits + 1) → CountedSoFar mode src at valid (len + more) rest
+      pub counted-next : (more : ℕ) (rest : MaskOf) → IsPartLength mode src (at + f) (at + f + 1) (more + 1) → rest ≡ mask_from mask.bytes (first_set bits + 1) mask.stored → CountedSoFar mode src at valid (len + more) rest
       counted-next more rest one cut =
           let few = counted-first in let from : rest.from ≡ f + 1 = omega (arith, ap (λ m. m.from) cut, is) in
           let clean : CleanFrom mode src (at + mask.from) (at + f) = λ p after before. held-first mode src at valid (at + mask.from) bits held some (omega arith) p after (omega (arith, before, is)) in

@@ -1,5 +1,5 @@
 -- A vector escaped in blocks, block after block.
-use Rattle.escape_simd.proofs.Words.{◌≡◌, ℕ, ◌+◌, ◌-◌, ◌*◌, ◌/◌, ◌<◌, ◌≤◌, min, Bool, true, false, cond, not, ◌&&◌, List, ◌++◌, length, take, drop, map, replicate, nat_eq, get_or, refl, sym, ap, subst, ◌∙◌, arith, append_assoc, length-append, length-take-le, length-drop, drop-append-le, drop-map, take-append-le, replicate-append-replicate, paste, nat_tests, drop-drop, length-map, take-map, take-take, get_or-take, get_or-drop, get_or_past, bits_of, clear_first, length-bits_of, MaskOf, lanes_of_mask, whole_mask, Mode, needs_escape, bytes_of, stored_of, Target, shortened, flag_count, flagged_blocks, put_apart, IsBlock, IsBlockAt, Stretch, HasBlocks, HasRoom, length-replicate, count_by-le-length}
+use Rattle.escape_simd.proofs.Words.{◌≡◌, ℕ, ◌+◌, ◌-◌, ◌*◌, ◌/◌, ◌<◌, ◌≤◌, min, Bool, true, false, cond, not, ◌&&◌, List, ◌++◌, length, take, drop, map, replicate, nat_eq, get_or, refl, sym, ap, ap₂, subst, ◌∙◌, arith, append_assoc, length-append, length-take-le, length-drop, drop-append-le, drop-map, take-append-le, replicate-append-replicate, paste, nat_tests, drop-drop, length-map, take-map, take-take, get_or-take, get_or-drop, get_or_past, bits_of, clear_first, length-bits_of, IsMaskOf, MaskOf, lanes_of_mask, mask_from, whole_mask, Mode, needs_escape, bytes_of, stored_of, Target, shortened, flag_count, flagged_blocks, put_apart, IsBlock, IsBlockAt, Stretch, HasBlocks, HasRoom, length-replicate, count_by-le-length}
 use Rattle.escape_simd.proofs.Lanes.{HoldsFlags, mask-holds, mask-left}
 use Rattle.escape_simd.proofs.RestSteps.{rest-between}
 use Rattle.escape_simd.proofs.PutApart.{AreMarked, count-none, blocks-none, blocks-one, blocks-onward, length-put_apart, marked-apart}
@@ -27,13 +27,13 @@ block-stretch mode clean src old new at k to end flags eight marked some w room 
 
 -- A mask's first block
 
-module _ {mode : Mode} {src : List ℕ} {at to size : ℕ} {mask : MaskOf} (is : mask ≡ whole_mask (take (length mask.bytes) (drop at src))) (h : HasBlocks mode src at (length mask.bytes) to size) where
+module _ {mode : Mode} {src : List ℕ} {at to size : ℕ} {mask : MaskOf} (is : IsMaskOf mask (take (length mask.bytes) (drop at src))) (h : HasBlocks mode src at (length mask.bytes) to size) where
   -- its flags
   abbrev flags : List Bool
   flags = take 8 (lanes_of_mask mode mask)
 
   held : HoldsFlags mode src at (length mask.bytes) at (lanes_of_mask mode mask)
-  held = mask-holds mode src at (length mask.bytes) at mask (ap (λ m. m.bytes) is) (omega (arith, h.inside)) (omega (arith, ap (λ m. m.from) is))
+  held = mask-holds mode src at (length mask.bytes) at mask is.bytes (omega (arith, h.inside)) (omega (arith, is.from))
 
   module _ (n : ℕ) (number : bits_of 64 n ≡ lanes_of_mask mode mask) where
     -- there are eight
@@ -72,6 +72,13 @@ module _ {mode : Mode} {src : List ℕ} {at to size : ℕ} {mask : MaskOf} (is :
           stored = omega (arith, b.written.stored, counted (flag_count flags), blocks-one (lanes_of_mask mode mask));
         }
 
+-- paid for or not, it tells the same
+pub paid-left : {mask paid : MaskOf} {bytes : List ℕ} → IsMaskOf mask bytes → IsMaskOf paid mask.bytes → IsMaskOf paid bytes
+paid-left left same = record { bytes = same.bytes ∙ left.bytes; from = same.from }
+
+pub paid-lanes : (mode : Mode) {mask paid : MaskOf} {bytes : List ℕ} → IsMaskOf mask bytes → IsMaskOf paid mask.bytes → lanes_of_mask mode paid ≡ lanes_of_mask mode mask
+paid-lanes mode left same = ap₂ (λ bytes from. lanes_of_mask mode (mask_from bytes from 0)) same.bytes (same.from ∙ sym left.from)
+
 -- Block after block
 
 -- Of the text's `valid` bytes at `at`, with these flags, those of so many blocks were escaped, and the blocks end at `end`. The last
@@ -95,14 +102,14 @@ module _ {mode : Mode} {src : List ℕ} {at valid to size : ℕ} {whole : MaskOf
   all = lanes_of_mask mode whole
 
   -- the mask of the bytes from a block on
-  module _ (block : ℕ) (more : 8 * block < valid) {mask : MaskOf} (left : mask ≡ whole_mask (drop (8 * block) whole.bytes)) where
+  module _ (block : ℕ) (more : 8 * block < valid) {mask : MaskOf} (left : IsMaskOf mask (drop (8 * block) whole.bytes)) where
     -- it tells of the text's bytes
-    pub left-told : mask ≡ whole_mask (take (valid - 8 * block) (drop (at + 8 * block) src))
-    left-told = left ∙ ap (λ m. whole_mask (drop (8 * block) m.bytes)) is ∙ mask-left src at valid (8 * block) (omega (arith, more))
+    pub left-told : mask.bytes ≡ take (valid - 8 * block) (drop (at + 8 * block) src)
+    left-told = left.bytes ∙ ap (λ m. drop (8 * block) m.bytes) is ∙ ap (λ m. m.bytes) (mask-left src at valid (8 * block) (omega (arith, more)))
 
     -- of so many
     pub left-long : length mask.bytes ≡ valid - 8 * block
-    left-long = ap (λ m. length m.bytes) left-told ∙ length-take-le (valid - 8 * block) (drop (at + 8 * block) src) (omega (arith, length-drop (at + 8 * block) src, h.inside, more))
+    left-long = ap length left-told ∙ length-take-le (valid - 8 * block) (drop (at + 8 * block) src) (omega (arith, length-drop (at + 8 * block) src, h.inside, more))
 
     -- its first eight are the block's
     left-eight : take 8 (lanes_of_mask mode mask) ≡ take 8 (drop (8 * block) all)
@@ -113,7 +120,7 @@ module _ {mode : Mode} {src : List ℕ} {at valid to size : ℕ} {whole : MaskOf
         let count : 64 - length whole.bytes + 8 * block ≡ 64 - length (drop (8 * block) whole.bytes) = omega (arith, length-drop (8 * block) whole.bytes, long, h.few, more) in
         let wide : 8 ≤ length (drop (8 * block) f ++ replicate (64 - length whole.bytes) false) =
         omega (arith, length-append (drop (8 * block) f) (replicate (64 - length whole.bytes) false), length-drop (8 * block) f, length-map whole.bytes (needs_escape mode), length-replicate {A = Bool} (64 - length whole.bytes) false, long, h.few, more) in
-        ap (λ m. take 8 (lanes_of_mask mode m)) left
+        ap₂ (λ bytes from. take 8 (lanes_of_mask mode (mask_from bytes from 0))) left.bytes left.from
         ∙ ap (λ xs. take 8 (xs ++ replicate (64 - length (drop (8 * block) whole.bytes)) false)) (sym (drop-map (needs_escape mode) (8 * block) whole.bytes))
         ∙ ap (λ n. take 8 (drop (8 * block) f ++ replicate n false)) (sym count)
         ∙ ap (λ xs. take 8 (drop (8 * block) f ++ xs)) (sym (replicate-append-replicate (64 - length whole.bytes) (8 * block) false))
@@ -151,7 +158,7 @@ module _ {mode : Mode} {src : List ℕ} {at valid to size : ℕ} {whole : MaskOf
 
   -- with its classification
   pub blocks-next : {N : ℕ} {old mid new : Target N} {p block end ticks_old ticks ticks2 : ℕ} {mask : MaskOf} {unused unused2 : Bool} → size ≡ length (bytes_of old) → BlocksSoFar mode src all old mid at valid to p block unused ticks_old ticks → 8 * block < valid
-      → mask ≡ whole_mask (drop (8 * block) whole.bytes) → IsBlockAt mode mask src mid new (at + 8 * block) p end → unused2 ≡ (unused && not (nat_eq (flag_count (take 8 (lanes_of_mask mode mask))) 0))
+      → IsMaskOf mask (drop (8 * block) whole.bytes) → IsBlockAt mode mask src mid new (at + 8 * block) p end → unused2 ≡ (unused && not (nat_eq (flag_count (take 8 (lanes_of_mask mode mask))) 0))
       → ticks2 ≡ ticks + cond (not unused && nat_eq (flag_count (take 8 (lanes_of_mask mode mask))) 0) 1 0 → BlocksSoFar mode src all old new at valid to end (block + 1) unused2 ticks_old ticks2
   blocks-next {mask = mask} size_is b more left e u t =
       let stored = e.stored in let one = blocks-one (lanes_of_mask mode mask) in

@@ -74,7 +74,7 @@ first_set-inside (true ∷ bs) some = omega arith
 first_set-inside (false ∷ bs) some = omega (arith, first_set-inside bs some)
 
 -- what a mask tells after one byte of it
-module _ {mode : Mode} {src : List ℕ} {valid at next : ℕ} {mask rest : MaskOf} (r : IsRunAt mode src valid at mask) (place : next ≡ at + passed mode (drop at src)) (cut : rest ≡ mask_from mask.bytes (first_set (lanes_of_mask mode mask) + 1)) where
+module _ {mode : Mode} {src : List ℕ} {valid at next : ℕ} {mask rest : MaskOf} (r : IsRunAt mode src valid at mask) (place : next ≡ at + passed mode (drop at src)) (cut : rest ≡ mask_from mask.bytes (first_set (lanes_of_mask mode mask) + 1) mask.stored) where
   -- its lanes
   abbrev bits : List Bool
   bits = lanes_of_mask mode rest

@@ -1,5 +1,5 @@
 -- How far the turns of a vector have come.
-use Rattle.escape_simd.proofs.Words.{◌≡◌, ℕ, ◌+◌, ◌-◌, ◌<◌, ◌≤◌, true, false, List, length, take, drop, get_or, refl, sym, ap, subst, ◌∙◌, arith, append_assoc, take-take, take-add, length-take-le, bytes_of, first_set, none_set, MaskOf, is_clear, lanes_of_mask, mask_from, told_by, whole_mask, Mode, needs_escape, stored_of, Target, run_count, run_count_after, Stretch, CanStore, EscapedRun, Escapes, HasRunRoom, IsRunEnd, inl, HasRoom, IsFinished, IsFlaggedAt, IsRunAt, IsStored, IsVectorAt, IsVectorEnd, state, drop-take}
+use Rattle.escape_simd.proofs.Words.{◌≡◌, ℕ, ◌+◌, ◌-◌, ◌<◌, ◌≤◌, true, false, List, length, take, drop, get_or, refl, sym, ap, subst, ◌∙◌, arith, append_assoc, take-take, take-add, length-take-le, bytes_of, first_set, none_set, MaskOf, is_clear, lanes_of_mask, mask_from, told_by, Mode, needs_escape, stored_of, Target, run_count, run_count_after, Stretch, CanStore, EscapedRun, Escapes, HasRunRoom, IsRunEnd, inl, HasRoom, IsFinished, IsFlaggedAt, IsRunAt, IsStored, IsVectorAt, IsVectorEnd, state, drop-take}
 use Rattle.escape_simd.proofs.Escapes.{reach-few}
 use Rattle.escape_simd.proofs.Texts.{runs_after-≤, runs_stop-here}
 use Rattle.escape_simd.proofs.Stretches.{onward_to, room-least, room-near, room-on, standing, stored_ahead, stretch-on}
@@ -7,9 +7,9 @@ use Rattle.escape_simd.proofs.RestSteps.{clean_escaped, clean_inner, clean_rest,
 use Rattle.escape_simd.proofs.RunsOfFlags.{run-room}
 use Rattle.escape_simd.proofs.Lanes.{CleanFrom, HoldsFlags, cleared-later, first-set, first_set-here, held-first, held-none, mask-holds}
 
--- The bytes of a vector from `next` on are left, with what is written at `to`. The mask tells of these.
+-- The bytes of a vector from `next` on are left, with what is written at `to`. The mask tells of these, which were stored by it.
 pub record IsLeftAt (mode : Mode) (N slack : ℕ) (src : List ℕ) (valid next to size : ℕ) (mask : MaskOf) : Type 0 where
-  pub told : mask ≡ mask_from (take valid src) next
+  pub told : mask ≡ mask_from (take valid src) next 1
   pub few : valid ≤ N
   pub inside : valid + N ≤ length src
   pub before : next < valid
@@ -58,7 +58,7 @@ pub ahead-runs : (mode : Mode) (src : List ℕ) (from next : ℕ) → from ≤ n
 ahead-runs mode src from next forward clean = sym (clean_runs mode src from next forward clean)
 
 -- the turns begin
-pub turns-begin : {N : ℕ} {mode : Mode} {slack : ℕ} {src : List ℕ} {old new : Target N} {valid to : ℕ} {mask : MaskOf} {ticks : ℕ} → 8 ≤ slack → mask ≡ whole_mask (take valid src) → IsVectorAt mode N slack src 0 valid to (length (bytes_of old))
+pub turns-begin : {N : ℕ} {mode : Mode} {slack : ℕ} {src : List ℕ} {old new : Target N} {valid to : ℕ} {mask : MaskOf} {ticks : ℕ} → 8 ≤ slack → mask ≡ mask_from (take valid src) 0 1 → IsVectorAt mode N slack src 0 valid to (length (bytes_of old))
     → is_clear mode mask ≡ false → IsStored slack src old new 0 valid to → TurnsSoFar mode slack src old new valid 0 to to mask ticks ticks
 turns-begin {mode = mode} {slack = slack} {src = src} {old = old} {new = new} {valid = valid} {to = to} {mask = mask} eight is v some s =
     let held = mask-holds mode src 0 valid 0 mask (ap (λ m. m.bytes) is) (omega (arith, v.inside)) (omega (arith, ap (λ m. m.from) is)) in
@@ -130,18 +130,18 @@ module _ {N : ℕ} {mode : Mode} {slack : ℕ} {src : List ℕ} {old mid : Targe
           (omega (arith, s.0, ap length over.bytes, length-take-le valid src (omega (arith, w.inside))), (over.from, over.cleared (first_set (lanes_of_mask mode rest)) (first_set-here (lanes_of_mask mode rest) some)))
 
       -- the vector that begins there can be stored
-      pub turn-stores : {left : MaskOf} → left ≡ mask_from rest.bytes after → (told_by left ≡ take (valid - after) (drop after src)) × CanStore N slack src after (valid - after) reached (length (bytes_of new))
+      pub turn-stores : {left : MaskOf} → left ≡ mask_from rest.bytes after 0 → (told_by left ≡ take (valid - after) (drop after src)) × CanStore N slack src after (valid - after) reached (length (bytes_of new))
       turn-stores told =
           let w = so_far.left in let s = over.stops some in let least = room-least (omega (arith, s.0)) (omega (arith, w.inside)) turn-rest_room in
           let sum : valid ≡ after + (valid - after) = omega (arith, s.0) in
           (ap told_by told ∙ ap (drop after) over.bytes ∙ ap (λ k. drop after (take k src)) sum ∙ drop-take after (valid - after) src, record { few = omega (arith, w.few); inside = omega (arith, w.inside, s.0); room = omega (arith, least) })
 
       -- it was stored, and the turns go on
-      pub turn-stored : {later : Target N} {left : MaskOf} {ticks : ℕ} → left ≡ mask_from rest.bytes after → lanes_of_mask mode left ≡ lanes_of_mask mode rest → IsStored slack src new later after (valid - after) reached → ticks ≡ ticks_new + 1
+      pub turn-stored : {later : Target N} {left : MaskOf} {ticks : ℕ} → left ≡ mask_from rest.bytes after 1 → lanes_of_mask mode left ≡ lanes_of_mask mode rest → IsStored slack src new later after (valid - after) reached → ticks ≡ ticks_new + 1
           → TurnsSoFar mode slack src old later valid after to reached left ticks_old ticks
       turn-stored {later = later} {left = left} told same s tick =
           let w = so_far.left in let stops = over.stops some in let runs = turn-runs in
-          let l : IsLeftAt mode N slack src valid after reached (length (bytes_of new)) left = record { told = told ∙ ap (λ xs. mask_from xs after) over.bytes; few = w.few; inside = w.inside; before = stops.0; room = turn-rest_room } in
+          let l : IsLeftAt mode N slack src valid after reached (length (bytes_of new)) left = record { told = told ∙ ap (λ xs. mask_from xs after 1) over.bytes; few = w.few; inside = w.inside; before = stops.0; room = turn-rest_room } in
           let some_left : is_clear mode left ≡ false = ap none_set same ∙ some in
           let ahead = ahead-front mode src later after valid reached (valid - after) (omega arith) s.ahead in
           let stored = stored_ahead mode slack src new later after (valid - after) reached s (omega (arith, l.before, l.inside)) in

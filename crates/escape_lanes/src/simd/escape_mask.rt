@@ -2,12 +2,12 @@
 ghost use Rattle.std.specs.Prelude.{◌≡◌, ℕ, ◌+◌, ◌*◌, ◌<◌, ◌≤◌, ◌&&◌, List, [], false, length, take, drop};
 ghost use Rattle.std.specs.Borrow.{ftrue};
 ghost use Rattle.escape_lanes.specs.Bits.{bits_of, first_set};
-ghost use Rattle.escape_lanes.specs.Masks.{IsClassified, is_clear, lanes_of_mask, mask_from, whole_mask};
+ghost use Rattle.escape_lanes.specs.Masks.{IsClassified, is_clear, lanes_of_mask, mask_from, used_up, whole_mask};
 ghost use Rattle.escape_lanes.specs.Mode.{mode_numbered};
 
 use crate::simd::classifier::Classifier;
 use crate::simd::lane_bits::{clear_first_lane, shift_lanes};
-use crate::simd::ticks::Ticks;
+use crate::simd::ticks::{Tally, Ticks};
 use crate::simd::traits::BitMask;
 use std::marker::Model;
 
@@ -42,12 +42,14 @@ impl Known {
 
 /// Which of at most 64 bytes need an escape (script: also e2): bit `i` is set where byte `i` does.
 ///
-/// A contract sees the bytes, and from which of them on the mask tells. Only a classifier makes a mask: of a vector, or of
-/// what is left of one. It can't be cloned, and in `escape_simd` each store of a vector takes the mask that tells its bytes.
+/// A contract sees the bytes, from which of them on the mask tells, and whether a vector was stored by it. Only a classifier
+/// makes a mask by which none was: of a vector, or of what is left of one. It can't be cloned, and in `escape_simd` each store of
+/// a vector uses up the mask that tells its bytes.
 #[derive(Drop)]
 pub struct EscapeMask<const MODE: u8> {
     bits: u64,
     of: Known,
+    stored: Tally,
 }
 
 impl<const MODE: u8> Model for EscapeMask<MODE> {
@@ -58,22 +60,34 @@ impl<const MODE: u8> Model for EscapeMask<MODE> {
 
     ghost Value = { MaskOf };
 
-    ghost view = { λ m. mask_from m.of.bytes m.of.from };
+    ghost view = { λ m. mask_from m.of.bytes m.of.from m.stored.count };
 
     ghost invariant = { λ m. bits_of 64 m.bits
-        ≡ lanes_of_mask (mode_numbered MODE) (mask_from m.of.bytes m.of.from) };
+        ≡ lanes_of_mask (mode_numbered MODE) (mask_from m.of.bytes m.of.from m.stored.count) };
 }
 
 impl<const MODE: u8> EscapeMask<MODE> {
-    /// Returns the mask of no bytes.
+    /// Returns the mask of no bytes. No vector can be stored by it.
     #[inline(always)]
     pub fn empty() -> Self
-        ensures { result ≡ whole_mask [] }
+        ensures { result ≡ mask_from [] 0 1 }
     {
+        let mut stored = Tally::new();
+        stored.raise();
         EscapeMask {
             bits: 0,
             of: Known::of(&[]),
+            stored,
         }
+    }
+
+    /// Counts the one vector that is stored by the mask.
+    #[inline(always)]
+    pub fn count_store(&mut self)
+        requires { self.old.stored ≡ 0 }
+        ensures { self.new ≡ used_up self.old }
+    {
+        self.stored.raise();
     }
 
     /// Returns the mask as a number.
@@ -105,13 +119,13 @@ impl<const MODE: u8> EscapeMask<MODE> {
     pub fn clear_first(&mut self)
         requires { is_clear (mode_numbered MODE) self.old ≡ false }
         ensures { self.new
-            ≡ mask_from self.old.bytes (first_set (lanes_of_mask (mode_numbered MODE) self.old) + 1) }
+            ≡ mask_from self.old.bytes (first_set (lanes_of_mask (mode_numbered MODE) self.old) + 1)
+            self.old.stored }
     {
         let next = self.first_offset() + 1;
-        *self = EscapeMask {
-            bits: clear_first_lane(self.bits),
-            of: Known::part(&self.of, 0, 64, next),
-        };
+        let bits = clear_first_lane(self.bits);
+        let of = Known::part(&self.of, 0, 64, next);
+        (self.bits, self.of) = (bits, of);
     }
 
     /// Classifies the bytes from `from` on, in front of which none is flagged, by their mask. Ticks once.
@@ -119,7 +133,7 @@ impl<const MODE: u8> EscapeMask<MODE> {
     pub fn rest(self, from: usize, ticks: &mut Ticks) -> Self
         requires some { from < length self.bytes }
         requires later { (self.from ≤ from) × (from ≤ first_set (lanes_of_mask (mode_numbered MODE) self)) }
-        ensures told { result ≡ mask_from self.entry.bytes from }
+        ensures told { result ≡ mask_from self.entry.bytes from 0 }
         ensures lanes { lanes_of_mask (mode_numbered MODE) result
             ≡ lanes_of_mask (mode_numbered MODE) self.entry }
         ensures tick { ticks.new ≡ ticks.old + 1 }
@@ -128,6 +142,7 @@ impl<const MODE: u8> EscapeMask<MODE> {
         EscapeMask {
             bits: self.bits,
             of: Known::part(&self.of, 0, 64, from),
+            stored: Tally::new(),
         }
     }
 
@@ -135,11 +150,12 @@ impl<const MODE: u8> EscapeMask<MODE> {
     #[inline(always)]
     pub fn skip(self, count: usize) -> Self
         requires { (self.from ≡ 0) × (count < 64) × (count ≤ length self.bytes) }
-        ensures { result ≡ whole_mask (drop count self.entry.bytes) }
+        ensures { result ≡ mask_from (drop count self.entry.bytes) 0 self.entry.stored }
     {
         EscapeMask {
             bits: shift_lanes(self.bits, count),
             of: Known::part(&self.of, count, 64, 0),
+            stored: self.stored,
         }
     }
 
@@ -147,11 +163,12 @@ impl<const MODE: u8> EscapeMask<MODE> {
     #[inline(always)]
     pub fn cut(self, count: usize) -> Self
         requires { (self.from ≡ 0) × (count ≤ length self.bytes) }
-        ensures { result ≡ whole_mask (take count self.entry.bytes) }
+        ensures { result ≡ mask_from (take count self.entry.bytes) 0 self.entry.stored }
     {
         EscapeMask {
             bits: self.bits.clear_high_bits(64 - count),
             of: Known::part(&self.of, 0, count, 0),
+            stored: self.stored,
         }
     }
 }
@@ -172,6 +189,7 @@ pub fn classify<V: Classifier<MODE, N>, const MODE: u8, const N: usize>(
     let mask = EscapeMask {
         bits: v.escape_bits(ticks),
         of: Known::of(bytes),
+        stored: Tally::new(),
     };
     (v, mask)
 }
@@ -192,6 +210,7 @@ pub fn classify_front<V: Classifier<MODE, N>, const MODE: u8, const N: usize>(
     EscapeMask {
         bits: v.escape_bits(ticks).clear_high_bits(64 - bytes.len()),
         of: Known::of(bytes),
+        stored: Tally::new(),
     }
 }
 

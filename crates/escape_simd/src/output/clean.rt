@@ -1,7 +1,7 @@
 //! Which bytes of a text are flagged, and whether nothing in a text needs an escape.
 ghost use Rattle.std.specs.Prelude.{◌≡◌, ◌+◌, ◌-◌, ◌*◌, ◌<◌, ◌≤◌, ◌↔◌, true, false, length, take, drop};
 ghost use Rattle.std.specs.List.{count_by};
-ghost use Rattle.escape_lanes.specs.Masks.{whole_mask};
+ghost use Rattle.escape_lanes.specs.Masks.{IsMaskOf};
 ghost use Rattle.escape_lanes.specs.Replacement.{needs_escape};
 ghost use Rattle.escape_simd.specs.Modes.{mode_numbered};
 ghost use Rattle.escape_simd.specs.Output.{inner};
@@ -19,7 +19,7 @@ pub(super) fn mask_at<const MODE: u8>(src: &[u8], at: usize, count: usize) -> Es
     requires few { count ≤ N }
     requires inside { at + count ≤ length src.now }
     requires last { count < N → at + count ≡ length src.now }
-    ensures { result ≡ whole_mask (take count (drop at src.now)) }
+    ensures { IsMaskOf result (take count (drop at src.now)) }
 {
     let mut ticks = Ticks::new();
     if count == N {

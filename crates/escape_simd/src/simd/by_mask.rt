@@ -38,8 +38,8 @@ fn finish_vector<V: LoadStore, const MODE: u8, const N: usize, const LAST: bool>
     if border <= from {
         return (from, to);
     }
-    let rest = mask.rest(from, ticks);
-    store::<V, MODE, N, LAST>(src, from, border - from, &rest, target, to)
+    let mut rest = mask.rest(from, ticks);
+    store::<V, MODE, N, LAST>(src, from, border - from, &mut rest, target, to)
 }
 
 /// Escapes the first `valid` bytes of the text's first vector, some of which are flagged. Returns the places
@@ -66,7 +66,7 @@ pub(crate) fn escape_by_turns<V: LoadStore, const MODE: u8, const N: usize, cons
     ensures { Escapes (mode_numbered MODE) (reach LAST N) valid 1 1
         text.now (state target.old 0 to ticks.old) (state target.new result.0 result.1 ticks.new) }
 {
-    store::<V, MODE, N, LAST>(text, 0, valid, &mask, target, to);
+    store::<V, MODE, N, LAST>(text, 0, valid, &mut mask, target, to);
     let mut next = 0;
     let mut end = to;
     'turns: loop {
@@ -85,7 +85,7 @@ pub(crate) fn escape_by_turns<V: LoadStore, const MODE: u8, const N: usize, cons
             );
         }
         mask = mask.rest(after, ticks);
-        store::<V, MODE, N, LAST>(text, after, valid - after, &mask, target, reached);
+        store::<V, MODE, N, LAST>(text, after, valid - after, &mut mask, target, reached);
         next = after;
         end = reached;
     }
@@ -105,7 +105,7 @@ pub(crate) fn escape_by_mask<
     src: &[u8],
     at: usize,
     valid: usize,
-    mask: EscapeMask<MODE>,
+    mut mask: EscapeMask<MODE>,
     target: &mut Target<'_, N>,
     to: usize,
     ticks: &mut Ticks,
@@ -117,7 +117,7 @@ pub(crate) fn escape_by_mask<
         src.now (state target.old at to ticks.old) (state target.new result.0 result.1 ticks.new) }
 {
     if mask.is_clear() {
-        return store::<V, MODE, N, LAST>(src, at, valid, &mask, target, to);
+        return store::<V, MODE, N, LAST>(src, at, valid, &mut mask, target, to);
     }
     let bits = mask.bits();
     if V::LOOKS_UP && are_paid(bits, valid) && are_short::<MODE, N>(src, at, bits) {

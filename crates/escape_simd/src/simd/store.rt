@@ -1,6 +1,6 @@
 //! Vectors of a text, stored as they are.
 ghost use Rattle.std.specs.Prelude.{◌≡◌, ◌+◌, ◌≤◌, length, take, drop};
-ghost use Rattle.escape_lanes.specs.Masks.{told_by};
+ghost use Rattle.escape_lanes.specs.Masks.{told_by, used_up};
 ghost use Rattle.escape_lanes.specs.Written.{bytes_of};
 ghost use Rattle.escape_simd.specs.Stretch.{CanStore, IsStored, reach};
 
@@ -11,8 +11,8 @@ use escape_lanes::simd::target::Target;
 /// How far a vector's store may reach past a text: kernels of more lanes store a text's last bytes exactly.
 const WIDEST_REACH: usize = 32;
 
-/// Stores a loaded vector at `to`, whose first `left` lanes are the text's bytes from `from` on. The mask tells of these.
-/// Returns the places after them.
+/// Stores a loaded vector at `to`, whose first `left` lanes are the text's bytes from `from` on. Uses up the mask, which
+/// tells of these. Returns the places after them.
 ///
 /// Where `LAST`, these may be the text's last bytes, and the store reaches at most 32 bytes past them.
 #[inline]
@@ -21,7 +21,7 @@ pub(crate) fn store_lanes<V: LoadStore, const MODE: u8, const N: usize, const LA
     _src: &[u8],
     from: usize,
     left: usize,
-    _mask: &EscapeMask<MODE>,
+    mask: &mut EscapeMask<MODE>,
     target: &mut Target<'_, N>,
     to: usize,
 ) -> (usize, usize)
@@ -29,11 +29,14 @@ pub(crate) fn store_lanes<V: LoadStore, const MODE: u8, const N: usize, const LA
         × (left ≤ N)
         × (from + left ≤ length _src.now)
         × (take left (V.lanes v) ≡ take left (drop from _src.now))
-        × (told_by _mask.now ≡ take left (drop from _src.now))
-        × (to + left + reach LAST N ≤ length (bytes_of target.old)) }
+        × (told_by mask.old ≡ take left (drop from _src.now))
+        × (to + left + reach LAST N ≤ length (bytes_of target.old))
+        × (mask.old.stored ≡ 0) }
     ensures stored { IsStored (reach LAST N) _src.now target.old target.new from left to }
     ensures places { (result.0 ≡ from + left) × (result.1 ≡ to + left) }
+    ensures used { mask.new ≡ used_up mask.old }
 {
+    mask.count_store();
     if LAST && WIDEST_REACH < N {
         target.store_front(to, &v, left);
     } else {
@@ -48,15 +51,17 @@ pub(crate) fn store<V: LoadStore, const MODE: u8, const N: usize, const LAST: bo
     src: &[u8],
     from: usize,
     left: usize,
-    mask: &EscapeMask<MODE>,
+    mask: &mut EscapeMask<MODE>,
     target: &mut Target<'_, N>,
     to: usize,
 ) -> (usize, usize)
     requires { (V.LANES ≡ N)
-        × (told_by mask.now ≡ take left (drop from src.now))
+        × (told_by mask.old ≡ take left (drop from src.now))
+        × (mask.old.stored ≡ 0)
         × CanStore N (reach LAST N) src.now from left to (length (bytes_of target.old)) }
     ensures stored { IsStored (reach LAST N) src.now target.old target.new from left to }
     ensures places { (result.0 ≡ from + left) × (result.1 ≡ to + left) }
+    ensures used { mask.new ≡ used_up mask.old }
 {
     let v = V::load(&src[from..]);
     store_lanes::<V, MODE, N, LAST>(v, src, from, left, mask, target, to)

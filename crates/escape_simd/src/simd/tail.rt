@@ -163,21 +163,21 @@ pub(crate) fn store_clean_tail<V: Classifier<MODE, N>, const MODE: u8, const N: 
         if count == 0 {
             return Ok(to);
         }
-        let (v, masks) = classify_short::<V, MODE, N>(text, ticks);
+        let (v, mut masks) = classify_short::<V, MODE, N>(text, ticks);
         if !masks.are_clear() {
             return Err(masks);
         }
-        store_lanes::<V, MODE, N, true>(v, text, 0, count, &masks.last, target, to);
+        store_lanes::<V, MODE, N, true>(v, text, 0, count, &mut masks.last, target, to);
         return Ok(to + count);
     }
-    let (v1, v2, masks) = classify_pair::<V, MODE, N>(text, ticks);
+    let (v1, v2, mut masks) = classify_pair::<V, MODE, N>(text, ticks);
     if !masks.are_clear() {
         return Err(masks);
     }
     let last = count - N;
-    store_lanes::<V, MODE, N, true>(v1, text, 0, N, &masks.first, target, to);
+    store_lanes::<V, MODE, N, true>(v1, text, 0, N, &mut masks.first, target, to);
     // The last vector overlaps the first one.
-    store_lanes::<V, MODE, N, true>(v2, text, last, N, &masks.last, target, to + last);
+    store_lanes::<V, MODE, N, true>(v2, text, last, N, &mut masks.last, target, to + last);
     Ok(to + count)
 }
 

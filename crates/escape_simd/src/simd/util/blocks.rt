@@ -1,7 +1,7 @@
 //! The escapes of a vector in blocks of eight bytes, with no branch on a single byte.
 ghost use Rattle.std.specs.Prelude.{◌≡◌, ◌+◌, ◌-◌, ◌*◌, ◌/◌, ◌≤◌, ◌&&◌, true, false, not, nat_eq, length, map, take, drop, if◌then◌else◌};
 ghost use Rattle.escape_lanes.specs.Bits.{bits_of, gaps, none_set};
-ghost use Rattle.escape_lanes.specs.Masks.{lanes_of_mask, whole_mask};
+ghost use Rattle.escape_lanes.specs.Masks.{IsMaskOf, lanes_of_mask, whole_mask};
 ghost use Rattle.escape_lanes.specs.Short.{shortened};
 ghost use Rattle.escape_lanes.specs.Spread.{flag_count, flagged_blocks};
 ghost use Rattle.escape_lanes.specs.Written.{bytes_of, stored_of};
@@ -51,8 +51,11 @@ fn pay_block<const MODE: u8>(
     unused: bool,
     ticks: &mut Ticks,
 ) -> (EscapeMask<MODE>, bool)
-    requires { (mask.from ≡ 0) × (1 ≤ length mask.bytes) }
-    ensures same { result.0 ≡ mask.entry }
+    requires { (mask.from ≡ 0) × (1 ≤ length mask.bytes) × (unused ≡ true → mask.stored ≡ 0) }
+    ensures same { IsMaskOf result.0 mask.entry.bytes }
+    ensures paid { flag_count (take 8 (lanes_of_mask (mode_numbered MODE) mask.entry)) ≡ 0
+        → result.0.stored ≡ 0 }
+    ensures kept { result.1 ≡ true → result.0.stored ≡ 0 }
     ensures left { result.1 ≡ unused
         && not (nat_eq (flag_count (take 8 (lanes_of_mask (mode_numbered MODE) mask.entry))) 0) }
     ensures ticks { ticks.new ≡ ticks.old
@@ -69,24 +72,33 @@ fn pay_block<const MODE: u8>(
 }
 
 /// Escapes the text's next eight bytes at `_at`, or as many as the mask tells of if these are fewer: `block` begins with them,
-/// shortened. Returns the place after eight.
+/// shortened. Uses up the mask if none of them is flagged. Returns the place after eight.
 #[inline(always)]
 fn put_block<const MODE: u8, const N: usize>(
     _src: &[u8],
     _at: usize,
     block: u8x16,
-    mask: &EscapeMask<MODE>,
+    mask: &mut EscapeMask<MODE>,
     target: &mut Target<'_, N>,
     to: usize,
 ) -> usize
     requires { (length block ≡ 16)
         × (take 8 block ≡ take 8 (map shortened (take 16 (drop _at _src.now))))
-        × (mask.now ≡ whole_mask (take (length mask.now.bytes) (drop _at _src.now)))
+        × IsMaskOf mask.old (take (length mask.old.bytes) (drop _at _src.now))
+        × (flag_count (take 8 (lanes_of_mask (mode_numbered MODE) mask.old)) ≡ 0 → mask.old.stored ≡ 0)
         × HasBlocks (mode_numbered MODE)
-        _src.now _at (length mask.now.bytes) to (length (bytes_of target.old)) }
-    ensures { IsBlockAt (mode_numbered MODE) mask.now _src.now target.old target.new _at to result }
+        _src.now _at (length mask.old.bytes) to (length (bytes_of target.old)) }
+    ensures block { IsBlockAt (mode_numbered MODE) mask.old _src.now target.old target.new _at to result }
+    ensures same { IsMaskOf mask.new mask.old.bytes }
+    ensures used { mask.new.stored
+        ≡ (if nat_eq (flag_count (take 8 (lanes_of_mask (mode_numbered MODE) mask.old))) 0
+        then 1 else mask.old.stored) }
 {
-    target.escape_block(to, block, eight_lanes(mask.bits(), 0))
+    let eight = eight_lanes(mask.bits(), 0);
+    if !is_flagged(eight) {
+        mask.count_store();
+    }
+    target.escape_block(to, block, eight)
 }
 
 /// Escapes the text's `valid` bytes at `at` in blocks of eight. Returns the place after them.
@@ -122,7 +134,7 @@ pub(crate) fn escape_blocks<const MODE: u8, const N: usize>(
     'blocks: while 8 * block < N {
         (mask, unused) = pay_block::<MODE>(mask, unused, ticks);
         let eight = half(pieces[block / 2], block);
-        end = put_block::<MODE, N>(src, at + 8 * block, eight, &mask, target, end);
+        end = put_block::<MODE, N>(src, at + 8 * block, eight, &mut mask, target, end);
         block += 1;
         if valid <= 8 * block {
             break;

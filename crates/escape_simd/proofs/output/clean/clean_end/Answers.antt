@@ -1,5 +1,5 @@
 use Rattle.escape_simd.proofs.Words.{◌+◌, ◌≤◌, List, ℕ, length, sym, ◌∙◌, arith, mode_numbered}
-use Rattle.escape_simd.proofs.Lanes.{mask-clean}
+use Rattle.escape_simd.proofs.Lanes.{bytes-clean}
 use Rattle.escape_simd.proofs.Parts.{clean-four, front-more}
 use Rattle.escape_simd.proofs.output.clean.clean_end.Goals as goal
 
@@ -12,6 +12,6 @@ chunks-preserved g c =
 
 pub vectors-preserved : goal.vectors-preserved
 vectors-preserved g c =
-    let inside : c.vectors.end + 32 ≤ length c.args.src.now = omega (arith, c.vectors.invariant.inside, c.vectors-test.true) in
-    let clean = mask-clean (mode_numbered g.row.MODE) c.args.src.now c.vectors.end 32 c.mask_at.result c.mask_at.ensures inside (sym c.is_clear.ensures ∙ c.if-is_clear.true) in
-    front-more (mode_numbered g.row.MODE) c.args.src.now c.args.at c.vectors.end 32 c.vectors.invariant (omega (arith, c.vectors.invariant.inside, c.vectors-test.true)) clean
+    let mode = mode_numbered g.row.MODE in let src : List ℕ = c.args.src.now in let end : ℕ = c.vectors.end in let told = c.mask_at.ensures in
+    let inside : end + 32 ≤ length src = omega (arith, c.vectors.invariant.inside, c.vectors-test.true) in
+    front-more mode src c.args.at end 32 c.vectors.invariant inside (bytes-clean mode src end 32 c.mask_at.result told.bytes told.from inside (sym c.is_clear.ensures ∙ c.if-is_clear.true))

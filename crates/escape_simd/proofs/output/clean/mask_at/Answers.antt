@@ -1,10 +1,10 @@
-use Rattle.escape_simd.proofs.Words.{◌≡◌, ◌+◌, ◌-◌, ◌∙◌, ◌++◌, ℕ, List, length, length-drop, take, drop, replicate, ap, arith, take_all, take-append_seam, whole_mask}
+use Rattle.escape_simd.proofs.Words.{◌≡◌, ◌+◌, ◌-◌, ◌∙◌, ◌++◌, ℕ, List, length, length-drop, take, drop, replicate, ap, arith, take_all, take-append_seam}
 use Rattle.escape_simd.proofs.output.clean.mask_at.Goals as goal
 
 pub returns-then-count-eq-N : goal.returns-then-count-eq-N
 returns-then-count-eq-N g c =
     let whole : 32 ≡ c.args.count = omega (arith, c.if-count-eq-N.true) in
-    c.classify.ensures.classified.told ∙ ap (λ n. whole_mask (take n (drop c.args.at c.args.src.now))) whole
+    let told = c.classify.ensures.classified.told in record { bytes = ap (λ m. m.bytes) told ∙ ap (λ n. take n (drop c.args.at c.args.src.now)) whole; from = ap (λ m. m.from) told }
 
 pub classify_front-requires : goal.classify_front-requires
 classify_front-requires g c =
@@ -20,4 +20,4 @@ returns g c =
     let src : List ℕ = c.args.src.now in let at : ℕ = c.args.at in let count : ℕ = c.args.count in
     let ends : at + count ≡ length src = c.requires.last (omega (arith, c.requires.few, c.if-count-eq-N.false)) in
     let here : length src - at ≡ count = omega (arith, ends) in
-    c.classify_front.ensures.told ∙ ap (λ n. whole_mask (take n (drop at src))) here
+    let told = c.classify_front.ensures.told in record { bytes = ap (λ m. m.bytes) told ∙ ap (λ n. take n (drop at src)) here; from = ap (λ m. m.from) told }

@@ -1,4 +1,4 @@
-use Rattle.escape_simd.proofs.Words.{◌∙◌, not, nat_eq, ap, sym, arith, told_by}
+use Rattle.escape_simd.proofs.Words.{◌∙◌, not, nat_eq, ap, sym, arith, is_clear, lanes_of_mask, mode_numbered, told_by, used_up}
 use denote.Param.{number, value_of}
 use Rattle.escape_simd.proofs.Stretches.{reach-bounds}
 use Rattle.escape_simd.proofs.Turns.{turns-begin, turn-place, turn-run, turn-room, turn-told, turn-end, turn-stores, turn-finished, turn-stored}
@@ -6,10 +6,12 @@ use Rattle.escape_simd.proofs.Vectors.{vector-stores}
 use Rattle.escape_simd.proofs.simd.by_mask.escape_by_turns.Goals as goal
 
 pub store-requires : goal.store-requires
-store-requires g c = (omega arith, (omega arith, (c.requires.0, ap told_by c.requires.3, vector-stores c.requires.5)))
+store-requires g c = (omega arith, (omega arith, (c.requires.0, ap told_by c.requires.3, ap (λ m. m.stored) c.requires.3, vector-stores c.requires.5)))
 
 pub turns-init : goal.turns-init
-turns-init g c = turns-begin (omega (arith, reach-bounds (not (nat_eq (value_of (number g.row.LAST)) 0)) g.row.N c.requires.1)) c.requires.3 c.requires.5 c.requires.4 c.store.ensures.stored
+turns-init g c =
+    let e = c.store.ensures in
+    turns-begin (omega (arith, reach-bounds (not (nat_eq (value_of (number g.row.LAST)) 0)) g.row.N c.requires.1)) (e.used ∙ ap used_up c.requires.3) c.requires.5 (ap (is_clear (mode_numbered g.row.MODE)) e.used ∙ c.requires.4) e.stored
 
 pub overflow_sub-flagged : goal.overflow_sub-flagged
 overflow_sub-flagged g c = omega (arith, turn-place c.turns.invariant c.first_offset-flagged.ensures)
@@ -36,11 +38,12 @@ rest-mask-requires g c =
 pub store-requires-in-turns : goal.store-requires-in-turns
 store-requires-in-turns g c =
     let e = c.escape_run-after.ensures in let s = turn-stores c.turns.invariant c.first_offset-flagged.ensures e.escaped e.some e.ended (sym c.is_clear.ensures ∙ c.if-is_clear.false) c.rest-mask.ensures.told in
-    (omega arith, (omega arith, (c.requires.0, s.0, s.1)))
+    (omega arith, (omega arith, (c.requires.0, s.0, ap (λ m. m.stored) c.rest-mask.ensures.told, s.1)))
 
 pub turns-smaller : goal.turns-smaller
 turns-smaller g c = omega (arith, turn-place c.turns.invariant c.first_offset-flagged.ensures, c.escape_run-after.ensures.some)
 
 pub turns-preserved : goal.turns-preserved
 turns-preserved g c =
-    let e = c.escape_run-after.ensures in turn-stored c.turns.invariant c.first_offset-flagged.ensures e.escaped e.some e.ended (sym c.is_clear.ensures ∙ c.if-is_clear.false) c.rest-mask.ensures.told c.rest-mask.ensures.lanes c.store-in-turns.ensures.stored c.rest-mask.ensures.tick
+    let e = c.escape_run-after.ensures in let r = c.rest-mask.ensures in let s = c.store-in-turns.ensures in
+    turn-stored c.turns.invariant c.first_offset-flagged.ensures e.escaped e.some e.ended (sym c.is_clear.ensures ∙ c.if-is_clear.false) (s.used ∙ ap used_up r.told) (ap (lanes_of_mask (mode_numbered g.row.MODE)) s.used ∙ r.lanes) s.stored r.tick

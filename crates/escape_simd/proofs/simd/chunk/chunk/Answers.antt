@@ -8,11 +8,11 @@ use Rattle.escape_simd.proofs.simd.chunk.chunk.Goals as goal
 -- each of the vectors can be stored
 module _ {N vectors : ℕ} {mode : Mode} {src : List ℕ} {at to size : ℕ} (r : HasVectors mode N vectors src at at to size) where
   store-at : (k j i p : ℕ) (target : Target N) {width : ℕ} {lanes : List ℕ} {mask : MaskOf} → width ≡ N → IsClassified N src j lanes mask → j ≡ at + k → i ≡ j → p ≡ to + k → k + N ≤ vectors * N → (vectors + 1) * N ≡ vectors * N + N
-      → length (bytes_of target) ≡ size → (width ≡ N) × (N ≤ N) × (i + N ≤ length src) × (take N lanes ≡ take N (drop i src)) × (told_by mask ≡ take N (drop i src)) × (p + N + N ≤ length (bytes_of target))
+      → length (bytes_of target) ≡ size → (width ≡ N) × (N ≤ N) × (i + N ≤ length src) × (take N lanes ≡ take N (drop i src)) × (told_by mask ≡ take N (drop i src)) × (p + N + N ≤ length (bytes_of target)) × (mask.stored ≡ 0)
   store-at k j i p target {width} {lanes} {mask} wide answer starts is ends few more same =
       let least = room-least (omega arith) (omega (arith, r.inside, more)) r.room in
       let a = subst (λ j. IsClassified N src j lanes mask) (sym is) answer in
-      (wide, omega arith, omega (arith, r.inside, starts, is, few, more), ap (take N) a.loaded ∙ take-take N N (drop i src) (omega arith), ap told_by a.told, omega (arith, ends, few, least, same))
+      (wide, omega arith, omega (arith, r.inside, starts, is, few, more), ap (take N) a.loaded ∙ take-take N N (drop i src) (omega arith), ap told_by a.told, omega (arith, ends, few, least, same), ap (λ m. m.stored) a.told)
 
 pub store_lanes-next-requires : goal.store_lanes-next-requires
 store_lanes-next-requires g c =

@@ -1,4 +1,4 @@
-use Rattle.escape_simd.proofs.Words.{◌≡◌, ◌-◌, ◌+◌, ◌∙◌, ℕ, List, length, length-drop, length-take-le, take, drop, ap, arith, bytes_of, mode_numbered, whole_mask}
+use Rattle.escape_simd.proofs.Words.{◌≡◌, ◌-◌, ◌+◌, ◌∙◌, ℕ, List, length, length-drop, length-take-le, take, drop, ap, arith, bytes_of, mode_numbered, mask_from, whole_mask}
 use Rattle.escape_simd.proofs.Lanes.{mask-left}
 use Rattle.escape_simd.proofs.Vectors.{escapes-bordered, vector-left}
 use Rattle.escape_simd.proofs.simd.chunk.vector_from.Goals as goal
@@ -13,7 +13,7 @@ pub escape_by_mask-requires : goal.escape_by_mask-requires
 escape_by_mask-requires g c =
     let r = c.requires in let p = r.1 in let mode = mode_numbered g.row.MODE in let n : ℕ = g.row.N in let src : List ℕ = c.args.src.now in let at : ℕ = c.args.at in let from : ℕ = c.args.from in
     let there : at + (from - at) ≡ from = omega (arith, p.whole) in
-    let told = c.skip-left.ensures ∙ ap (λ m. whole_mask (drop (from - at) m.bytes)) r.0 ∙ mask-left src at n (from - at) (omega (arith, p.near, p.whole, g.met.V.Classifier.several)) ∙ ap (λ k. whole_mask (take (n - (from - at)) (drop k src))) there in
+    let told = c.skip-left.ensures ∙ ap (λ m. mask_from (drop (from - at) m.bytes) 0 m.stored) r.0 ∙ mask-left src at n (from - at) (omega (arith, p.near, p.whole, g.met.V.Classifier.several)) ∙ ap (λ k. whole_mask (take (n - (from - at)) (drop k src))) there in
     (omega arith, (omega arith, (told, vector-left mode n src at from c.args.to (length (bytes_of c.args.target.now)) g.met.V.Classifier.several p r.2)))
 
 pub returns : goal.returns

@@ -1,4 +1,4 @@
-use Rattle.escape_simd.proofs.Words.{◌≡◌, ◌≤◌, ◌∙◌, ℕ, ◌+◌, ◌-◌, true, List, length, length-take-le, take, ap, refl, arith, reach, take-take, whole_mask}
+use Rattle.escape_simd.proofs.Words.{◌≡◌, ◌≤◌, ◌∙◌, ℕ, ◌+◌, ◌-◌, true, List, length, length-take-le, take, ap, refl, arith, reach, take-take, mask_from, whole_mask}
 use Rattle.escape_simd.proofs.Last.{two-begun}
 use Rattle.escape_simd.proofs.Stretches.{room-near}
 use Rattle.escape_simd.proofs.Vectors.{escapes-ended}
@@ -12,7 +12,7 @@ cut-front-requires g c =
 pub escape_by_mask-next-requires : goal.escape_by_mask-next-requires
 escape_by_mask-next-requires g c =
     let long : g.row.N ≤ length c.args.text.now = omega (arith, c.if-text.false) in let border : ℕ = length c.args.text.now - g.row.N in
-    let told = c.cut-front.ensures ∙ ap (λ m. whole_mask (take border m.bytes)) (c.requires.mask long) ∙ ap whole_mask (take-take border g.row.N c.args.text.now (omega (arith, c.requires.few))) in
+    let told = c.cut-front.ensures ∙ ap (λ m. mask_from (take border m.bytes) 0 m.stored) (c.requires.mask long) ∙ ap whole_mask (take-take border g.row.N c.args.text.now (omega (arith, c.requires.few))) in
     (omega arith, (omega arith, (told, record { few = omega (arith, c.requires.few); inside = omega (arith, long); room = room-near (0 + border) (reach true g.row.N) (omega arith) (omega arith) (omega arith) c.requires.room })))
 
 pub returns : goal.returns

@@ -1,4 +1,4 @@
-use Rattle.escape_simd.proofs.Words.{min, ◌≡◌, ◌+◌, ◌-◌, ◌*◌, ◌∙◌, true, ℕ, List, length, length-drop, drop, take, ap, refl, arith, bytes_of, drop-drop, mode_numbered, reach, whole_mask}
+use Rattle.escape_simd.proofs.Words.{min, ◌≡◌, ◌+◌, ◌-◌, ◌*◌, ◌∙◌, true, ℕ, List, length, length-drop, drop, take, ap, refl, arith, bytes_of, drop-drop, mode_numbered, reach, mask_from, whole_mask}
 use Rattle.escape_simd.proofs.Last.{last-all, last-told, last-vector, tail-rows}
 use Rattle.escape_simd.proofs.Stretches.{room-on}
 use Rattle.escape_simd.proofs.Vectors.{escapes-onward}
@@ -17,7 +17,7 @@ escape_by_mask-requires g c =
     let all : left ≡ length text - next = omega (arith, c.min.ensures, inside) in
     let held : List ℕ = take (length rows - skipped) (drop skipped rows) in
     let shown = tail-rows text rows border skipped next k (c.as_flattened.ensures.value ∙ c.spill_last-rows.ensures) refl inside in
-    let told = c.skip-mask.ensures ∙ ap (λ m. whole_mask (drop skipped m.bytes)) c.requires.0.back ∙ ap whole_mask (drop-drop skipped border text) in
+    let told = c.skip-mask.ensures ∙ ap (λ m. mask_from (drop skipped m.bytes) 0 m.stored) c.requires.0.back ∙ ap whole_mask (drop-drop skipped border text) in
     let vector = last-vector mode (reach true n) n text held next left k end inside all shown (length (bytes_of c.escape_before_last-skipped.new.target)) (omega (arith, c.min.ensures)) (omega arith) (room-on e.stretch c.requires.1) in
     (omega arith, (omega arith, (last-told mode (reach true n) n text held next left k end inside all shown told, vector)))
 

@@ -9,18 +9,18 @@ store_lanes-requires g c =
     let text : List ℕ = c.args.text.now in let count : ℕ = length text in let v = c.classify_short-v.ensures in let least = room-least (omega arith) (omega arith) c.requires.1 in
     let start : count - g.row.N ≡ 0 = omega (arith, c.if-count.true) in let all : take count text ≡ text = take_all count text (omega arith) in
     let loaded = ap (take count) v.loaded ∙ take-append_seam text (replicate (g.row.N - count) 0) ∙ sym all in
-    (omega arith, (omega arith, (g.met.V.Classifier.lane_count, omega (arith, c.if-count.true), omega arith, loaded, ap told_by v.masks.back ∙ ap (λ k. drop k text) start ∙ sym all, omega (arith, least))))
+    (omega arith, (omega arith, (g.met.V.Classifier.lane_count, omega (arith, c.if-count.true), omega arith, loaded, ap told_by v.masks.back ∙ ap (λ k. drop k text) start ∙ sym all, omega (arith, least), ap (λ m. m.stored) v.masks.back)))
 
 pub store_lanes-requires-2 : goal.store_lanes-requires-2
 store_lanes-requires-2 g c =
     let n : ℕ = g.row.N in let p = c.classify_pair-v1.ensures in let some = c.if-count.false in let least = room-least (omega arith) (omega arith) c.requires.1 in
-    (omega arith, (omega arith, (g.met.V.Classifier.lane_count, omega arith, omega (arith, some), ap (take n) p.first ∙ take-take n n c.args.text.now (omega arith), ap told_by (p.masks.front some), omega (arith, least, some))))
+    (omega arith, (omega arith, (g.met.V.Classifier.lane_count, omega arith, omega (arith, some), ap (take n) p.first ∙ take-take n n c.args.text.now (omega arith), ap told_by (p.masks.front some), omega (arith, least, some), ap (λ m. m.stored) (p.masks.front some))))
 
 pub store_lanes-requires-3 : goal.store_lanes-requires-3
 store_lanes-requires-3 g c =
     let n : ℕ = g.row.N in let text : List ℕ = c.args.text.now in let p = c.classify_pair-v1.ensures in let some = c.if-count.false in let least = room-least (omega arith) (omega arith) c.requires.1 in
     let all = take_all n (drop (length text - n) text) (omega (arith, length-drop (length text - n) text)) in
-    (omega arith, (omega arith, (g.met.V.Classifier.lane_count, omega arith, omega (arith, some), ap (take n) p.last, ap told_by p.masks.back ∙ sym all, omega (arith, least, some, c.store_lanes-2.ensures.stored.same_slice.len))))
+    (omega arith, (omega arith, (g.met.V.Classifier.lane_count, omega arith, omega (arith, some), ap (take n) p.last, ap told_by p.masks.back ∙ sym all, omega (arith, least, some, c.store_lanes-2.ensures.stored.same_slice.len), ap (λ m. m.stored) p.masks.back)))
 
 pub returns-then-count-clause-clean : goal.returns-then-count-clause-clean
 returns-then-count-clause-clean g c =

@@ -16,10 +16,10 @@ invariant_of-self g c =
     let mode = mode_numbered g.row.MODE in let bytes : List ℕ = c.self.inside.of.bytes in
     let all : take 64 bytes ≡ bytes = take_all 64 bytes (mask-few mode bytes c.self.inside.of.from c.self.inside.bits c.self.invariant) in
     let is = c.first_offset-next.ensures ∙ ap (λ m. first_set (lanes_of_mask mode m)) (sym c.self.view_is) ∙ ap first_set (sym c.self.invariant) in
-    rw (c.part.ensures.0, c.part.ensures.1, all, is) (mask-cleared mode bytes c.self.inside.of.from c.self.inside.bits c.self.invariant c.clear_first_lane.result c.clear_first_lane.ensures)
+    rw (c.part-of.ensures.0, c.part-of.ensures.1, all, is) (mask-cleared mode bytes c.self.inside.of.from c.self.inside.bits c.self.invariant c.clear_first_lane-bits.result c.clear_first_lane-bits.ensures)
 
 pub returns : goal.returns
 returns g c =
     let mode = mode_numbered g.row.MODE in let bytes : List ℕ = c.self.inside.of.bytes in
     let all : take 64 bytes ≡ bytes = take_all 64 bytes (mask-few mode bytes c.self.inside.of.from c.self.inside.bits c.self.invariant) in
-    rw (c.part.ensures.0, c.part.ensures.1, all, c.first_offset-next.ensures, sym c.self.view_is) refl
+    rw (c.part-of.ensures.0, c.part-of.ensures.1, all, c.first_offset-next.ensures, sym c.self.view_is) refl

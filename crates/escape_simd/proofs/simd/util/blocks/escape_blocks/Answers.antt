@@ -1,5 +1,5 @@
-use Rattle.escape_simd.proofs.Words.{ℕ, List, ◌≡◌, ◌+◌, ◌*◌, ◌/◌, ◌≤◌, take, drop, rules, refl, ap, sym, ◌∙◌, length, arith, drop-drop, length-drop, length-map, length-take-le, shortened, whole_mask, flagged_blocks}
-use Rattle.escape_simd.proofs.Pasted.{blocks-next, done-stored, done-stretch, done-ticks, left-blocks, left-long, left-told}
+use Rattle.escape_simd.proofs.Words.{ℕ, List, ◌≡◌, ◌+◌, ◌*◌, ◌/◌, ◌≤◌, take, drop, rules, refl, ap, sym, ◌∙◌, length, arith, nat_tests, drop-drop, length-drop, length-map, length-take-le, shortened, flag_count, flagged_blocks, mode_numbered}
+use Rattle.escape_simd.proofs.Pasted.{blocks-next, done-stored, done-stretch, done-ticks, left-blocks, left-long, left-told, paid-lanes, paid-left}
 use Rattle.escape_simd.proofs.Shortened.{block-half}
 use Rattle.escape_simd.proofs.simd.util.blocks.escape_blocks.Goals as goal
 use Rattle.escape_simd.proofs.simd.util.blocks.escape_blocks.Goals.{else-blocks-2-test, then-blocks-2-test+then-valid-block}
@@ -8,14 +8,15 @@ pub blocks-2-init : goal.blocks-2-init
 unfolding flagged_blocks
 blocks-2-init g c = record {
   so_far = record { done = search rules; none = λ _. refl; some = λ used. cc; counted = omega arith };
-  left = c.requires.0 ∙ ap (λ m. whole_mask m.bytes) (sym c.requires.0);
+  left = record { bytes = refl; from = ap (λ m. m.from) c.requires.0 };
+  fresh = λ _. ap (λ m. m.stored) c.requires.0;
   more = omega (arith, c.requires.5.some);
 }
 
 pub pay_block-requires : goal.pay_block-requires
 pay_block-requires g c =
     let i = c.blocks-2.invariant in
-    (omega arith, (ap (λ m. m.from) i.left, omega (arith, left-long c.requires.0 c.requires.5 c.blocks-2.block i.more i.left, i.more)))
+    (omega arith, (i.left.from, omega (arith, left-long c.requires.0 c.requires.5 c.blocks-2.block i.more i.left, i.more), i.fresh))
 
 pub half-eight-requires : goal.half-eight-requires
 half-eight-requires g c =
@@ -25,7 +26,7 @@ half-eight-requires g c =
 
 pub put_block-end-requires : goal.put_block-end-requires
 put_block-end-requires g c =
-    let i = c.blocks-2.invariant in let left = c.pay_block.ensures.same ∙ i.left in let told = left-told c.requires.0 c.requires.5 c.blocks-2.block i.more left in
+    let i = c.blocks-2.invariant in let p = c.pay_block.ensures in let left = paid-left i.left p.same in let told = left-told c.requires.0 c.requires.5 c.blocks-2.block i.more left in
     let long = left-long c.requires.0 c.requires.5 c.blocks-2.block i.more left in
     let piece = c.shorten_vector-pieces.ensures (c.blocks-2.block / 2) (omega (arith, c.blocks-2-test.true)) in (
       omega arith,
@@ -34,7 +35,8 @@ put_block-end-requires g c =
         (
           c.half-eight.ensures.whole,
           block-half c.args.src.now c.args.at c.blocks-2.block _ c.half-eight.result piece c.half-eight.ensures.block,
-          told ∙ ap (λ n. whole_mask (take n (drop (c.args.at + 8 * c.blocks-2.block) c.args.src.now))) (sym long),
+          record { bytes = told ∙ ap (λ n. take n (drop (c.args.at + 8 * c.blocks-2.block) c.args.src.now)) (sym long); from = left.from },
+          λ none. p.paid (ap (λ bits. flag_count (take 8 bits)) (sym (paid-lanes (mode_numbered g.row.MODE) i.left p.same)) ∙ none),
           left-blocks c.requires.0 c.requires.5 c.blocks-2.block i.more left refl i.so_far.done,
         ),
       ),
@@ -42,16 +44,20 @@ put_block-end-requires g c =
 
 pub skip-mask-requires : goal.skip-mask-requires
 skip-mask-requires g c =
-    let i = c.blocks-2.invariant in let left = c.pay_block.ensures.same ∙ i.left in
-    (omega arith, (ap (λ m. m.from) left, omega arith, omega (arith, left-long c.requires.0 c.requires.5 c.blocks-2.block i.more left, c.if-valid-block.false)))
+    let i = c.blocks-2.invariant in let left = paid-left i.left c.pay_block.ensures.same in let same = c.put_block-end.ensures.same in
+    (omega arith, (same.from, omega arith, omega (arith, ap length same.bytes, left-long c.requires.0 c.requires.5 c.blocks-2.block i.more left, c.if-valid-block.false)))
 
 pub blocks-2-preserved : goal.blocks-2-preserved
 blocks-2-preserved g c =
-    let i = c.blocks-2.invariant in let p = c.pay_block.ensures in let left = p.same ∙ i.left in
+    let i = c.blocks-2.invariant in let p = c.pay_block.ensures in let e = c.put_block-end.ensures in let left = paid-left i.left p.same in let lanes = paid-lanes (mode_numbered g.row.MODE) i.left p.same in
     let next : 8 * c.blocks-2.block + 8 ≡ 8 * (c.blocks-2.block + 1) = omega arith in
     record {
-      so_far = blocks-next c.requires.0 c.requires.5 refl i.so_far i.more left c.put_block-end.ensures (rw (sym p.same) at p.left) (rw (sym p.same) at p.ticks);
-      left = c.skip-mask.ensures ∙ ap (λ m. whole_mask (drop 8 m.bytes)) left ∙ ap whole_mask (drop-drop 8 (8 * c.blocks-2.block) c.args.mask.bytes ∙ ap (λ n. drop n c.args.mask.bytes) next);
+      so_far = blocks-next c.requires.0 c.requires.5 refl i.so_far i.more left e.block (rw (sym lanes) at p.left) (rw (sym lanes) at p.ticks);
+      left = record {
+        bytes = ap (λ m. m.bytes) c.skip-mask.ensures ∙ ap (drop 8) (e.same.bytes ∙ left.bytes) ∙ drop-drop 8 (8 * c.blocks-2.block) c.args.mask.bytes ∙ ap (λ n. drop n c.args.mask.bytes) next;
+        from = ap (λ m. m.from) c.skip-mask.ensures;
+      };
+      fresh = λ unused. ap (λ m. m.stored) c.skip-mask.ensures ∙ (let used = e.used in grind (arith, nat_tests, used, unused, p.kept unused, rw (sym lanes) at p.left));
       more = omega (arith, c.if-valid-block.false);
     }
 
@@ -60,7 +66,8 @@ returns g c = elim c.blocks-2-test.branch [
   | else-blocks-2-test w ↦ absurd (omega (arith, w.blocks-2-test.false, c.blocks-2.invariant.more, c.requires.1))
   | then-blocks-2-test+then-valid-block w ↦
       let i = c.blocks-2.invariant in let p = w.pay_block.ensures in
-      let b = blocks-next c.requires.0 c.requires.5 refl i.so_far i.more (p.same ∙ i.left) w.put_block-end.ensures (rw (sym p.same) at p.left) (rw (sym p.same) at p.ticks) in
+      let lanes = paid-lanes (mode_numbered g.row.MODE) i.left p.same in
+      let b = blocks-next c.requires.0 c.requires.5 refl i.so_far i.more (paid-left i.left p.same) w.put_block-end.ensures.block (rw (sym lanes) at p.left) (rw (sym lanes) at p.ticks) in
       let over : c.args.valid ≤ 8 * (c.blocks-2.block + 1) = omega (arith, w.if-valid-block.true) in
       rw (w.target-is, w.end-is, w.block-is, w.ticks-is) (record { stretch = done-stretch c.requires.0 c.requires.5 b.done over; stored = done-stored c.requires.0 c.requires.5 b.done over; ticks = done-ticks c.requires.0 c.requires.5 b.done over b })
 ]

@@ -5,10 +5,10 @@ use Rattle.escape_simd.proofs.simd.util.blocks.put_block.Goals as goal
 
 pub escape_block-requires : goal.escape_block-requires
 escape_block-requires g c =
-    let h = c.requires.3 in
+    let h = c.requires.4 in
     let least = rest-between (mode_numbered g.row.MODE) c.args._src.now c.args._at (c.args._at + length c.args.mask.now.bytes) (omega arith) (omega (arith, h.inside)) in
     (omega arith, (c.requires.0, omega (arith, least, h.room.fits, h.some)))
 
-pub returns : goal.returns
-returns g c =
-    block-escaped c.requires.2 c.requires.3 c.bits.result c.bits.ensures c.args.block (λ (i : ℕ). (c.type_inv._src i).fits) refl (c.eight_lanes.ensures ∙ ap (λ xs. take 8 (drop 0 xs)) c.bits.ensures) c.requires.1 c.escape_block.ensures
+pub returns-clause-block : goal.returns-clause-block
+returns-clause-block g c =
+    block-escaped c.requires.2 c.requires.4 c.bits.result c.bits.ensures c.args.block (λ (i : ℕ). (c.type_inv._src i).fits) refl (c.eight_lanes-eight.ensures ∙ ap (λ xs. take 8 (drop 0 xs)) c.bits.ensures) c.requires.1 c.escape_block.ensures

@@ -1,5 +1,5 @@
 -- How far the body has come in a text, and at what cost.
-use Rattle.escape_simd.proofs.Words.{◌≡◌, ℕ, ◌+◌, ◌-◌, ◌*◌, ◌/◌, ◌<◌, ◌≤◌, true, List, length, length-drop, take, drop, refl, ap, arith, le-div, take_all, Mode, bytes_of, Target, Cost, Escapes, HasRoom, HasVectors, Stretch, reach, rest_length, state}
+use Rattle.escape_simd.proofs.Words.{◌≡◌, ℕ, ◌+◌, ◌-◌, ◌*◌, ◌/◌, ◌<◌, ◌≤◌, true, List, length, length-drop, take, drop, refl, ap, arith, le-div, take_all, Mode, bytes_of, Target, Cost, Escapes, HasRoom, Stretch, reach, rest_length, state}
 use Rattle.std.proofs.Math.Nat.{div-mul-le_self}
 use Rattle.escape_simd.proofs.RestSteps.{rest-bounds}
 use Rattle.escape_simd.proofs.Stretches.{onward_to, reach-bounds, room-later, room-near, room-on}
@@ -17,10 +17,9 @@ cost-onward : {N : ℕ} {mode : Mode} {src : List ℕ} {at i next v1 v2 : ℕ} {
 cost-onward vectors few a b = omega arith
 
 module _ {N : ℕ} {mode : Mode} {src : List ℕ} {old mid : Target N} {at to end t0 t1 : ℕ} (so_far : BodySoFar mode src old mid at to end t0 t1) where
-  -- there is room for vectors that follow
-  pub body-vectors : (vectors : ℕ) → HasRoom mode (reach true N) src 0 (length src) to (length (bytes_of old)) → at + (vectors + 1) * N ≤ length src → (vectors + 1) * N ≡ vectors * N + N → HasVectors mode N vectors src at at end (length (bytes_of mid))
-  body-vectors vectors room inside more =
-      record { inside = inside; room = room-near (at + vectors * N) N (omega (arith, inside, more)) (omega arith) (omega (arith, inside, more)) (room-on so_far.stretch room) }
+  -- there is room for what follows, where a vector more is there
+  pub body-room : (stop : ℕ) → HasRoom mode (reach true N) src 0 (length src) to (length (bytes_of old)) → stop + N ≤ length src → HasRoom mode N src at stop end (length (bytes_of mid))
+  body-room stop room inside = room-near stop N (omega (arith, inside)) (omega arith) (omega (arith, inside)) (room-on so_far.stretch room)
 
   -- the last bytes, as a text of their own
   abbrev last : List ℕ

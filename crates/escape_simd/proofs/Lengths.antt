@@ -72,7 +72,7 @@ module _ (mode : Mode) (src : List ℕ) (at valid : ℕ) (inside : at + valid �
       pub counted-first : IsFlaggedAt mode src (at + f) × (f < valid) × (mask.from ≤ f)
       counted-first =
           let s = first-set mode src at valid (at + mask.from) bits held some in
-          (record { inside = omega (arith, s, is, inside); needed = rw (sym is) at s.1 }, omega (arith, s, is), omega (arith, is, cleared-later mask.from _ (first_set bits) (first_set-here bits some)))
+          ((omega (arith, s, is, inside), rw (sym is) at s.1), omega (arith, s, is), omega (arith, is, cleared-later mask.from _ (first_set bits) (first_set-here bits some)))
 
       -- one more
       pub counted-next : (more : ℕ) (rest : MaskOf) → IsPartLength mode src (at + f) (at + f + 1) (more + 1) → rest ≡ mask_from mask.bytes (first_set bits + 1) mask.stored → CountedSoFar mode src at valid (len + more) rest

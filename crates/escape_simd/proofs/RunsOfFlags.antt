@@ -1,5 +1,5 @@
 -- How a run of escapes goes on, and how far a mask tells of one.
-use Rattle.escape_simd.proofs.Words.{◌≡◌, ℕ, ◌+◌, ◌<◌, ◌≤◌, inl, inr, Bool, true, false, true≢false, List, [], ◌∷◌, length, drop, get_or, refl, ap, sym, ◌∙◌, arith, length-bits_of, bits_of, bytes_of, first_set, none_set, MaskOf, lanes_of_mask, mask_from, Mode, needs_escape, entry_count, escaped_count, Target, passed, run_count_after, run_end, run_reach, Escaped, EscapedRun, HasRunRoom, IsFlaggedAt, IsRunAt, IsRunEnd}
+use Rattle.escape_simd.proofs.Words.{◌≡◌, ℕ, ◌+◌, ◌<◌, ◌≤◌, inl, inr, Bool, true, false, true≢false, List, [], ◌∷◌, length, drop, get_or, refl, ap, sym, ◌∙◌, arith, length-bits_of, bits_of, bytes_of, first_set, none_set, MaskOf, lanes_of_mask, mask_from, Mode, needs_escape, entry_count, escaped_count, Target, passed, run_count_after, run_end, run_reach, EscapedRun, HasRunRoom, IsFlaggedAt, IsRunAt, IsRunEnd, Stretch, stored_of}
 use Rattle.escape_simd.proofs.Escapes.{entry-counts, passed-after}
 use Rattle.escape_simd.proofs.ReplacementLemmas.{length-replacement}
 use Rattle.escape_simd.proofs.Texts.{escaped-here, first-here, next-here, one≤passed, run_end-here}
@@ -18,39 +18,39 @@ run-room room before inside = elim room [
 -- it begins
 pub run-begins : {N : ℕ} {mode : Mode} {src : List ℕ} {at : ℕ} (t : Target N) (to : ℕ) → IsFlaggedAt mode src at → EscapedRun mode src t t at at to to
 run-begins {N} {mode} {src} {at} t to f = record {
-  stretch = standing mode (run_reach mode) src t at to (omega (arith, f.inside));
+  stretch = standing mode (run_reach mode) src t at to (omega (arith, f.0));
   stored = refl;
-  run = omega (arith, first-here mode src at f.inside f.needed, next-here mode src at f.inside f.needed);
+  run = omega (arith, first-here mode src at f.0 f.1, next-here mode src at f.0 f.1);
   alone = λ _. (refl, omega arith);
 }
 
 -- one byte more was escaped
-module _ {N : ℕ} {mode : Mode} {src : List ℕ} {mid new : Target N} {next end after reached : ℕ} (f : IsFlaggedAt mode src next) (done : Escaped mode src mid new next after end reached) where
+module _ {N : ℕ} {mode : Mode} {src : List ℕ} {mid new : Target N} {next end after reached : ℕ} (f : IsFlaggedAt mode src next) (stretch : Stretch mode (run_reach mode) src mid new next after end reached) (place : after ≡ next + passed mode (drop next src)) (stored : stored_of new ≡ stored_of mid) where
   -- the place after it
   pub run-after : (next < after) × (after ≤ next + 3)
-  run-after = let p = done.place in let o = one≤passed mode (drop next src) in omega (arith, p, o)
+  run-after = omega (arith, place, one≤passed mode (drop next src))
 
   -- there is room for what is left
   pub run-room-on : {stop : ℕ} → HasRunRoom mode src next stop end (length (bytes_of mid)) → after < stop → HasRunRoom mode src after stop reached (length (bytes_of new))
   run-room-on room before = elim room [
-    | inl h ↦ inl (record { fits = omega (arith, done.stretch.limit, h.fits, done.stretch.same_slice.len) })
-    | inr h ↦ inr (omega (arith, h, stretch-on done.stretch, before, run-after, done.stretch.same_slice.len))
+    | inl h ↦ inl (record { fits = omega (arith, stretch.limit, h.fits, stretch.same_slice.len) })
+    | inr h ↦ inr (omega (arith, h, stretch-on stretch, before, run-after, stretch.same_slice.len))
   ]
 
   -- the run
   pub run-on : {old : Target N} {at to : ℕ} → EscapedRun mode src old mid at next to end → EscapedRun mode src old new at after to reached
   run-on s =
-      let on = next-here mode src next f.inside f.needed in
-      let e = ap (λ k. run_count_after mode true (drop k src)) done.place in
+      let on = next-here mode src next f.0 f.1 in
+      let e = ap (λ k. run_count_after mode true (drop k src)) place in
       record {
-        stretch = onward s.stretch done.stretch;
-        stored = done.stored ∙ s.stored;
+        stretch = onward s.stretch stretch;
+        stored = stored ∙ s.stored;
         run = omega (arith, s.run, on, e);
         alone = λ one.
-            let there : after ≡ next + 1 = done.place ∙ ap (λ k. next + k) (one (drop next src)) in
-            let a = s.alone one in let more = escaped-here mode src next f.inside f.needed in let same = ap (λ k. escaped_count mode (drop k src)) done.place in (
-              ap (run_end mode src) there ∙ sym (run_end-here mode src next f.inside f.needed) ∙ a.0,
-              omega (arith, there, a.1, s.stretch.forward, more, same, done.stretch.escaped),
+            let there : after ≡ next + 1 = place ∙ ap (λ k. next + k) (one (drop next src)) in
+            let a = s.alone one in let more = escaped-here mode src next f.0 f.1 in let same = ap (λ k. escaped_count mode (drop k src)) place in (
+              ap (run_end mode src) there ∙ sym (run_end-here mode src next f.0 f.1) ∙ a.0,
+              omega (arith, there, a.1, s.stretch.forward, more, same, stretch.escaped),
             );
       }
 
@@ -118,7 +118,7 @@ module _ {mode : Mode} {src : List ℕ} {valid at next : ℕ} {mask rest : MaskO
         bytes = ap (λ m. m.bytes) cut ∙ r.bytes;
         some = some;
         first = omega (arith, first_set-least bits next set, mask-cleared (first_set bits) (first_set-here bits some));
-        flagged = record { inside = omega (arith, t, r.inside); needed = rw there at t.1 };
+        flagged = (omega (arith, t, r.inside), rw there at t.1);
         before = t.0;
         inside = r.inside;
       }

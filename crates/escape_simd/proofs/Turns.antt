@@ -1,5 +1,5 @@
 -- How far the turns of a vector have come.
-use Rattle.escape_simd.proofs.Words.{◌≡◌, ℕ, ◌+◌, ◌-◌, ◌<◌, ◌≤◌, true, false, List, length, take, drop, get_or, refl, sym, ap, subst, ◌∙◌, arith, append_assoc, take-take, take-add, length-take-le, bytes_of, first_set, none_set, MaskOf, is_clear, lanes_of_mask, mask_from, told_by, Mode, needs_escape, stored_of, Target, run_count, run_count_after, Stretch, CanStore, EscapedRun, Escapes, HasRunRoom, IsRunEnd, inl, HasRoom, IsFinished, IsFlaggedAt, IsRunAt, IsStored, IsVectorAt, IsVectorEnd, state, drop-take}
+use Rattle.escape_simd.proofs.Words.{◌≡◌, ℕ, ◌+◌, ◌-◌, ◌<◌, ◌≤◌, true, false, List, length, take, drop, get_or, refl, sym, ap, subst, ◌∙◌, arith, append_assoc, take-take, take-add, length-take-le, bytes_of, first_set, none_set, MaskOf, is_clear, lanes_of_mask, mask_from, told_by, Mode, needs_escape, stored_of, Target, run_count, run_count_after, Stretch, EscapedRun, Escapes, HasRunRoom, IsRunEnd, inl, HasRoom, IsFinished, IsFlaggedAt, IsRunAt, IsStored, IsVectorAt, IsVectorEnd, state, drop-take}
 use Rattle.escape_simd.proofs.Escapes.{reach-few}
 use Rattle.escape_simd.proofs.Texts.{runs_after-≤, runs_stop-here}
 use Rattle.escape_simd.proofs.Stretches.{onward_to, room-least, room-near, room-on, standing, stored_ahead, stretch-on}
@@ -130,11 +130,11 @@ module _ {N : ℕ} {mode : Mode} {slack : ℕ} {src : List ℕ} {old mid : Targe
           (omega (arith, s.0, ap length over.bytes, length-take-le valid src (omega (arith, w.inside))), (over.from, over.cleared (first_set (lanes_of_mask mode rest)) (first_set-here (lanes_of_mask mode rest) some)))
 
       -- the vector that begins there can be stored
-      pub turn-stores : {left : MaskOf} → left ≡ mask_from rest.bytes after 0 → (told_by left ≡ take (valid - after) (drop after src)) × CanStore N slack src after (valid - after) reached (length (bytes_of new))
+      pub turn-stores : {left : MaskOf} → left ≡ mask_from rest.bytes after 0 → (told_by left ≡ take (valid - after) (drop after src)) × (valid - after ≤ N) × (after + N ≤ length src) × (reached + (valid - after) + slack ≤ length (bytes_of new))
       turn-stores told =
           let w = so_far.left in let s = over.stops some in let least = room-least (omega (arith, s.0)) (omega (arith, w.inside)) turn-rest_room in
           let sum : valid ≡ after + (valid - after) = omega (arith, s.0) in
-          (ap told_by told ∙ ap (drop after) over.bytes ∙ ap (λ k. drop after (take k src)) sum ∙ drop-take after (valid - after) src, record { few = omega (arith, w.few); inside = omega (arith, w.inside, s.0); room = omega (arith, least) })
+          (ap told_by told ∙ ap (drop after) over.bytes ∙ ap (λ k. drop after (take k src)) sum ∙ drop-take after (valid - after) src, omega (arith, w.few), omega (arith, w.inside, s.0), omega (arith, least))
 
       -- it was stored, and the turns go on
       pub turn-stored : {later : Target N} {left : MaskOf} {ticks : ℕ} → left ≡ mask_from rest.bytes after 1 → lanes_of_mask mode left ≡ lanes_of_mask mode rest → IsStored slack src new later after (valid - after) reached → ticks ≡ ticks_new + 1

@@ -1,5 +1,5 @@
 -- A vector of a text as a whole: stored where it is clean, and what blocks cost.
-use Rattle.escape_simd.proofs.Words.{◌≡◌, ℕ, ◌+◌, ◌-◌, ◌*◌, ◌/◌, ◌<◌, ◌≤◌, Bool, true, false, ◌&&◌, List, length, length-drop, length-take-le, map, take, drop, get_or, refl, sym, ap, subst, ◌∙◌, arith, cases_Bool, drop-drop, get_or-drop, get_or-map, get_or-take, get_or-zip2, length-map, nat_tests, zip2, bits_of, first_set, flagged_blocks, gaps, length-bits_of, none_set, MaskOf, is_clear, lanes_of_mask, whole_mask, Mode, is_long, script, needs_escape, replacement, stored_of, Target, passed, run_count, AreShort, CanStore, Escapes, HasBlocks, HasRoom, HasVectors, IsStored, IsVectorAt, Passed, Stretch, state}
+use Rattle.escape_simd.proofs.Words.{◌≡◌, ℕ, ◌+◌, ◌-◌, ◌*◌, ◌/◌, ◌<◌, ◌≤◌, Bool, true, false, ◌&&◌, List, length, length-drop, length-take-le, map, take, drop, get_or, refl, sym, ap, subst, ◌∙◌, arith, cases_Bool, drop-drop, get_or-drop, get_or-map, get_or-take, get_or-zip2, length-map, nat_tests, zip2, bits_of, first_set, flagged_blocks, gaps, length-bits_of, none_set, MaskOf, is_clear, lanes_of_mask, whole_mask, Mode, is_long, script, needs_escape, replacement, stored_of, Target, passed, run_count, AreShort, Escapes, HasBlocks, HasRoom, IsStored, IsVectorAt, Passed, Stretch, state}
 use Rattle.escape_simd.proofs.Escapes.{other-byte, passed-alone}
 use Rattle.escape_simd.proofs.Gaps.{gaps-paid_mask}
 use Rattle.escape_simd.proofs.Lanes.{CleanFrom, HoldsFlags, first-set, first_set-here, mask-holds, none_set-at}
@@ -72,14 +72,14 @@ vector-later mode n slack src text at valid to size is v =
     record { few = v.few; inside = omega (arith, v.inside, ap length is, length-drop at src); room = room-later text valid (0 + valid) is refl v.room (omega arith) }
 
 -- a vector of which what came before it may have passed some bytes
-pub vector-left : (mode : Mode) (n : ℕ) (src : List ℕ) (at from to size : ℕ) → 16 ≤ n → Passed mode src at from → HasVectors mode n 1 src at from to size → IsVectorAt mode n n src from (n - (from - at)) to size
-vector-left mode n src at from to size several p v =
-    let border : at + 1 * n ≡ from + (n - (from - at)) = omega (arith, p.whole, p.near, several) in
-    record { few = omega arith; inside = omega (arith, v.inside, p.whole, p.near, several); room = subst (λ k. HasRoom mode n src from k to size) border v.room }
+pub vector-left : (mode : Mode) (n : ℕ) (src : List ℕ) (at from to size : ℕ) → 16 ≤ n → Passed mode src at from → at + 2 * n ≤ length src → HasRoom mode n src from (at + n) to size → IsVectorAt mode n n src from (n - (from - at)) to size
+vector-left mode n src at from to size several p inside room =
+    let border : at + n ≡ from + (n - (from - at)) = omega (arith, p.whole, p.near, several) in
+    record { few = omega arith; inside = omega (arith, inside, p.whole, p.near, several); room = subst (λ k. HasRoom mode n src from k to size) border room }
 
 -- a vector that is there can be stored
-pub vector-stores : {mode : Mode} {N slack : ℕ} {src : List ℕ} {at valid to size : ℕ} → IsVectorAt mode N slack src at valid to size → CanStore N slack src at valid to size
-vector-stores v = let least = room-least (omega arith) (omega (arith, v.inside)) v.room in record { few = v.few; inside = omega (arith, v.inside); room = omega (arith, least) }
+pub vector-stores : {mode : Mode} {N slack : ℕ} {src : List ℕ} {at valid to size : ℕ} → IsVectorAt mode N slack src at valid to size → (valid ≤ N) × (at + N ≤ length src) × (to + valid + slack ≤ size)
+vector-stores v = let least = room-least (omega arith) (omega (arith, v.inside)) v.room in (v.few, omega (arith, v.inside), omega (arith, least))
 
 -- in script, e2 is one byte
 e2_count : length (replacement script 226) ≡ 1

@@ -47,4 +47,4 @@ pub use Rattle.escape_simd.specs.Runs.{escaped_count, run_count, run_count_after
 pub use Rattle.escape_simd.specs.Script.{HasNoRawMark, IsOnlyScript, IsSafeInScript, IsScriptFree, IsScriptItem, IsShortestScript, is_script_marked}
 pub use Rattle.escape_simd.specs.Spelling.{IsTextOf, Spells}
 unfoldable pub use Rattle.escape_simd.specs.Stretch.{rest_length}
-pub use Rattle.escape_simd.specs.Stretch.{AreTailMasks, AreShort, CanStore, Cost, Escaped, EscapedRun, Escapes, HasRunRoom, HasBlocks, HasRoom, HasVectors, IsBlockAt, IsByteWise, IsFinished, IsFlaggedAt, IsRunAt, IsRunEnd, IsStored, IsVectorAt, IsVectorEnd, Passed, Stretch, reach, run_end, run_reach, state}
+pub use Rattle.escape_simd.specs.Stretch.{AreTailMasks, AreShort, Cost, EscapedRun, Escapes, HasRunRoom, HasBlocks, HasRoom, IsBlockAt, IsByteWise, IsFinished, IsFlaggedAt, IsRunAt, IsRunEnd, IsStored, IsVectorAt, IsVectorEnd, Passed, Stretch, reach, run_end, run_reach, state}

@@ -85,15 +85,8 @@ pub record Escapes {N : ℕ} (mode : Mode) (slack border vectors asked : ℕ) (s
   pub cost : Cost mode src old.at new.at vectors asked old.target new.target old.ticks new.ticks
 
 -- a byte of the text that needs an escape
-pub record IsFlaggedAt (mode : Mode) (src : List ℕ) (at : ℕ) : Type 0 where
-  pub inside : at < length src
-  pub needed : needs_escape mode (slice_index src at) ≡ true
-
--- the byte at `at`, or the separator that begins with it, was escaped
-pub record Escaped {N : ℕ} (mode : Mode) (src : List ℕ) (old new : Target N) (at next to end : ℕ) : Type 0 where
-  pub stretch : Stretch mode (run_reach mode) src old new at next to end
-  pub place : next ≡ at + passed mode (drop at src)
-  pub stored : stored_of new ≡ stored_of old
+abbrev pub IsFlaggedAt : Mode → List ℕ → ℕ → Type 0
+IsFlaggedAt mode src at = (at < length src) × (needs_escape mode (slice_index src at) ≡ true)
 
 -- there is room for an entry at each place that needs an escape, from `at` on and before `stop`
 abbrev pub HasRunRoom : Mode → List ℕ → ℕ → ℕ → ℕ → ℕ → Type 0
@@ -130,13 +123,8 @@ pub record IsVectorAt (mode : Mode) (N slack : ℕ) (src : List ℕ) (at valid t
   pub inside : at + valid + N ≤ length src
   pub room : HasRoom mode slack src at (at + valid) to size
 
--- a vector can be stored at `to`, whose first `left` lanes are the text's bytes from `from` on
-pub record CanStore (N slack : ℕ) (src : List ℕ) (from left to size : ℕ) : Type 0 where
-  pub few : left ≤ N
-  pub inside : from + N ≤ length src
-  pub room : to + left + slack ≤ size
-
--- It was stored, and nothing changed further than `slack` bytes past these.
+-- A vector was stored at `to`, whose first `left` lanes are the text's bytes from `from` on. Nothing changed further than
+-- `slack` bytes past these.
 pub record IsStored {N : ℕ} (slack : ℕ) (src : List ℕ) (old new : Target N) (from left to : ℕ) : Type 0 where
   pub same_slice : IsSameSlice old new
   pub written : take to (bytes_of new) ≡ take to (bytes_of old)
@@ -162,11 +150,6 @@ pub record IsFinished {N : ℕ} (mode : Mode) (slack : ℕ) (src : List ℕ) (bo
   pub passed : Passed mode src border new.at
   pub stored : stored_of new.target + run_count mode (drop new.at src) ≤ stored_of old.target + run_count_after mode true (drop old.at src) + 1
   pub classified : new.ticks + stored_of old.target ≡ old.ticks + stored_of new.target
-
--- Vectors of a text from `at` on are there, and one more behind them. Their bytes from `from` on have room, and a vector more.
-pub record HasVectors (mode : Mode) (N vectors : ℕ) (src : List ℕ) (at from to size : ℕ) : Type 0 where
-  pub inside : at + (vectors + 1) * N ≤ length src
-  pub room : HasRoom mode N src from (at + vectors * N) to size
 
 -- The masks of a short text: of its last vector, and where it has as many bytes as one vector, of its first one.
 pub record AreTailMasks (N : ℕ) (text : List ℕ) (first last : MaskOf) : Type 0 where

@@ -1,9 +1,9 @@
 //! Whole vectors of a text that have a further one behind them: one alone, and a chunk of four.
-ghost use Rattle.std.specs.Prelude.{◌≡◌, ◌+◌, ◌*◌, length, take, drop};
+ghost use Rattle.std.specs.Prelude.{◌≡◌, ◌+◌, ◌*◌, ◌≤◌, length, take, drop};
 ghost use Rattle.escape_lanes.specs.Masks.{whole_mask};
 ghost use Rattle.escape_lanes.specs.Written.{bytes_of};
 ghost use Rattle.escape_simd.specs.Modes.{mode_numbered};
-ghost use Rattle.escape_simd.specs.Stretch.{Escapes, HasVectors, Passed, state};
+ghost use Rattle.escape_simd.specs.Stretch.{Escapes, HasRoom, Passed, state};
 
 use crate::simd::Classifier;
 use crate::simd::by_mask::escape_by_mask;
@@ -25,7 +25,8 @@ pub(crate) fn vector_from<V: Classifier<MODE, N>, const MODE: u8, const N: usize
 ) -> (usize, usize)
     requires { (mask ≡ whole_mask (take N (drop at src.now)))
         × Passed (mode_numbered MODE) src.now at from
-        × HasVectors (mode_numbered MODE) N 1 src.now at from to (length (bytes_of target.old)) }
+        × (at + 2 * N ≤ length src.now)
+        × HasRoom (mode_numbered MODE) N src.now from (at + N) to (length (bytes_of target.old)) }
     ensures { Escapes (mode_numbered MODE) N (at + N) 1 1
         src.now (state target.old from to ticks.old) (state target.new result.0 result.1 ticks.new) }
 {
@@ -44,7 +45,8 @@ pub(crate) fn chunk<V: Classifier<MODE, N>, const MODE: u8, const N: usize>(
     to: usize,
     ticks: &mut Ticks,
 ) -> (usize, usize)
-    requires { HasVectors (mode_numbered MODE) N 4 src.now at at to (length (bytes_of target.old)) }
+    requires { (at + 5 * N ≤ length src.now)
+        × HasRoom (mode_numbered MODE) N src.now at (at + 4 * N) to (length (bytes_of target.old)) }
     ensures { Escapes (mode_numbered MODE) N (at + 4 * N) 4 0
         src.now (state target.old at to ticks.old) (state target.new result.0 result.1 ticks.new) }
 {

@@ -2,7 +2,7 @@
 ghost use Rattle.std.specs.Prelude.{◌≡◌, ◌+◌, ◌≤◌, length, take, drop};
 ghost use Rattle.escape_lanes.specs.Masks.{told_by, used_up};
 ghost use Rattle.escape_lanes.specs.Written.{bytes_of};
-ghost use Rattle.escape_simd.specs.Stretch.{CanStore, IsStored, reach};
+ghost use Rattle.escape_simd.specs.Stretch.{IsStored, reach};
 
 use escape_lanes::simd::LoadStore;
 use escape_lanes::simd::escape_mask::EscapeMask;
@@ -58,7 +58,9 @@ pub(crate) fn store<V: LoadStore, const MODE: u8, const N: usize, const LAST: bo
     requires { (V.LANES ≡ N)
         × (told_by mask.old ≡ take left (drop from src.now))
         × (mask.old.stored ≡ 0)
-        × CanStore N (reach LAST N) src.now from left to (length (bytes_of target.old)) }
+        × (left ≤ N)
+        × (from + N ≤ length src.now)
+        × (to + left + reach LAST N ≤ length (bytes_of target.old)) }
     ensures stored { IsStored (reach LAST N) src.now target.old target.new from left to }
     ensures places { (result.0 ≡ from + left) × (result.1 ≡ to + left) }
     ensures used { mask.new ≡ used_up mask.old }

@@ -4,8 +4,8 @@ ghost use Rattle.escape_lanes.specs.Mode.{mode_of};
 ghost use Rattle.escape_lanes.specs.Replacement.{needs_escape};
 ghost use Rattle.escape_lanes.specs.Written.{bytes_of, stored_of, escaped_of, quotes_of, IsSameSlice};
 ghost use Rattle.escape_simd.specs.Modes.{mode_numbered};
-ghost use Rattle.escape_simd.specs.Output.{inner};
-ghost use Rattle.escape_simd.specs.Stretch.{Escaped, EscapedRun, HasRunRoom, IsFlaggedAt, run_end};
+ghost use Rattle.escape_simd.specs.Output.{inner, passed};
+ghost use Rattle.escape_simd.specs.Stretch.{EscapedRun, HasRunRoom, IsFlaggedAt, Stretch, run_end, run_reach};
 
 mod blocks;
 mod run;
@@ -28,7 +28,10 @@ pub(crate) fn escape<const MODE: u8, const N: usize>(
 ) -> (usize, usize)
     requires flagged { IsFlaggedAt (mode_numbered MODE) src.now at }
     requires room { to + 8 ≤ length (bytes_of target.old) }
-    ensures { Escaped (mode_numbered MODE) src.now target.old target.new at result.0 to result.1 }
+    ensures stretch { Stretch (mode_numbered MODE) (run_reach (mode_numbered MODE))
+        src.now target.old target.new at result.0 to result.1 }
+    ensures place { result.0 ≡ at + passed (mode_numbered MODE) (drop at src.now) }
+    ensures stored { stored_of target.new ≡ stored_of target.old }
 {
     if is_separator::<MODE>(src, at) {
         target.escape(to, separator_entry(src[at + 2]));

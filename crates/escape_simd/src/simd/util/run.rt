@@ -70,5 +70,5 @@ impl<const MODE: u8> RunEnd<MODE> for Entries {
         next < src.len() && entry::<MODE>(src[next]).0 != 0
     }
 
-    ghost flagged = { λ _ src stop at goes. entry-flagged goes };
+    ghost flagged = { λ _ src stop at goes. entry-flagged (mode_numbered MODE) src stop at goes };
 }

@@ -1,12 +1,13 @@
-use Rattle.escape_simd.proofs.Words.{arith, mode_numbered}
-use Rattle.escape_simd.proofs.Costs.{body-all, body-on, body-rest, body-vectors}
+use Rattle.escape_simd.proofs.Words.{◌+◌, ◌*◌, ◌≤◌, length, arith, mode_numbered}
+use Rattle.escape_simd.proofs.Costs.{body-all, body-on, body-rest, body-room}
 use Rattle.escape_simd.proofs.Vectors.{escapes-asked, escapes-bordered, passed-to}
 use Rattle.escape_simd.proofs.simd.body.escape_bytes.Goals as goal
 
 pub chunk-requires : goal.chunk-requires
 chunk-requires g c =
     let i = c.chunks.invariant.stretch.inside in
-    (omega arith, body-vectors c.chunks.invariant 4 c.requires (omega (arith, c.chunks-test.true, i)) (omega arith))
+    let inside : c.chunks.at + 5 * g.row.N ≤ length c.args.src.now = omega (arith, c.chunks-test.true, i) in
+    (omega arith, (inside, body-room c.chunks.invariant (c.chunks.at + 4 * g.row.N) c.requires (omega (arith, inside))))
 
 pub chunks-preserved : goal.chunks-preserved
 chunks-preserved g c =
@@ -16,8 +17,9 @@ chunks-preserved g c =
 pub vector_from-requires : goal.vector_from-requires
 vector_from-requires g c =
     let i = c.vectors.invariant.stretch.inside in let a = c.classify-mask.ensures in
-    let room = body-vectors c.vectors.invariant 1 c.requires (omega (arith, c.vectors-test.true, i)) (omega arith) in
-    (omega arith, (omega arith, (a.classified.told, passed-to (mode_numbered g.row.MODE) c.args.src.now c.vectors.at, room)))
+    let inside : c.vectors.at + 2 * g.row.N ≤ length c.args.src.now = omega (arith, c.vectors-test.true, i) in
+    let room = body-room c.vectors.invariant (c.vectors.at + g.row.N) c.requires (omega (arith, inside)) in
+    (omega arith, (omega arith, (a.classified.told, passed-to (mode_numbered g.row.MODE) c.args.src.now c.vectors.at, inside, room)))
 
 pub vectors-preserved : goal.vectors-preserved
 vectors-preserved g c =

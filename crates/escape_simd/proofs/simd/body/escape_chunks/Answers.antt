@@ -8,7 +8,7 @@ pub chunk-requires : goal.chunk-requires
 chunk-requires g c =
     let s = c.chunks.invariant.so_far.stretch in let inside : c.chunks.at + (4 + 1) * g.row.N ≤ length c.args.src.now = omega (arith, c.chunks-test.true, s.inside, c.requires.inside) in
     let room = room-six (mode_numbered g.row.MODE) g.row.N c.args.src.now c.chunks.at (c.chunks.at + 4 * g.row.N) c.chunks.end (length (bytes_of c.chunks.target)) (omega arith) (omega (arith, inside)) (omega (arith, c.if-end-last_end.true, s.same_slice.len, c.requires.room, ap length c.new-target.ensures.bytes)) in
-    (omega arith, record { inside = inside; room = room })
+    (omega arith, (inside, room))
 
 pub chunks-preserved : goal.chunks-preserved
 chunks-preserved g c =

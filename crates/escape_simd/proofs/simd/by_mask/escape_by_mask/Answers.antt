@@ -7,7 +7,7 @@ use Rattle.escape_simd.proofs.Vectors.{escapes-ended, escapes-later, vector-bloc
 use Rattle.escape_simd.proofs.simd.by_mask.escape_by_mask.Goals as goal
 
 pub store-requires : goal.store-requires
-store-requires g c = (omega arith, (omega arith, (g.met.V.Classifier.lane_count, ap told_by c.requires.0, ap (λ m. m.stored) c.requires.0, vector-stores c.requires.1)))
+store-requires g c = let s = vector-stores c.requires.1 in (omega arith, (omega arith, (g.met.V.Classifier.lane_count, ap told_by c.requires.0, ap (λ m. m.stored) c.requires.0, s.0, s.1, s.2)))
 
 pub returns-then-is_clear : goal.returns-then-is_clear
 returns-then-is_clear g c =

@@ -6,7 +6,7 @@ use Rattle.escape_simd.proofs.Vectors.{vector-stores}
 use Rattle.escape_simd.proofs.simd.by_mask.escape_by_turns.Goals as goal
 
 pub store-requires : goal.store-requires
-store-requires g c = (omega arith, (omega arith, (c.requires.0, ap told_by c.requires.3, ap (λ m. m.stored) c.requires.3, vector-stores c.requires.5)))
+store-requires g c = let s = vector-stores c.requires.5 in (omega arith, (omega arith, (c.requires.0, ap told_by c.requires.3, ap (λ m. m.stored) c.requires.3, s.0, s.1, s.2)))
 
 pub turns-init : goal.turns-init
 turns-init g c =
@@ -38,7 +38,7 @@ rest-mask-requires g c =
 pub store-requires-in-turns : goal.store-requires-in-turns
 store-requires-in-turns g c =
     let e = c.escape_run-after.ensures in let s = turn-stores c.turns.invariant c.first_offset-flagged.ensures e.escaped e.some e.ended (sym c.is_clear.ensures ∙ c.if-is_clear.false) c.rest-mask.ensures.told in
-    (omega arith, (omega arith, (c.requires.0, s.0, ap (λ m. m.stored) c.rest-mask.ensures.told, s.1)))
+    (omega arith, (omega arith, (c.requires.0, s.0, ap (λ m. m.stored) c.rest-mask.ensures.told, s.1, s.2, s.3)))
 
 pub turns-smaller : goal.turns-smaller
 turns-smaller g c = omega (arith, turn-place c.turns.invariant c.first_offset-flagged.ensures, c.escape_run-after.ensures.some)

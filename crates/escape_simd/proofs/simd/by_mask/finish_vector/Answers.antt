@@ -15,7 +15,7 @@ store-requires g c =
     let v = c.requires.5 in let least = room-least (omega (arith, c.if-border-from.false)) (omega (arith, v.inside)) v.room in
     let sum : c.args.border ≡ c.args.from + (c.args.border - c.args.from) = omega (arith, c.if-border-from.false) in
     let told = ap told_by c.rest-rest.ensures.told ∙ ap (drop c.args.from) c.requires.2 ∙ ap (λ k. drop c.args.from (take k c.args.src.now)) sum ∙ drop-take c.args.from (c.args.border - c.args.from) c.args.src.now in
-    (omega arith, (omega arith, (c.requires.0, told, ap (λ m. m.stored) c.rest-rest.ensures.told, record { few = omega (arith, v.near); inside = omega (arith, v.inside, c.if-border-from.false); room = omega (arith, least) })))
+    (omega arith, (omega arith, (c.requires.0, told, ap (λ m. m.stored) c.rest-rest.ensures.told, omega (arith, v.near), omega (arith, v.inside, c.if-border-from.false), omega (arith, least))))
 
 pub returns-then-border-from : goal.returns-then-border-from
 returns-then-border-from g c = finished-over c.if-border-from.true c.requires.5

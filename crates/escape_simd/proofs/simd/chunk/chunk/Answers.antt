@@ -1,4 +1,4 @@
-use Rattle.escape_simd.proofs.Words.{◌≡◌, ◌≤◌, ℕ, take-take, ◌+◌, ◌*◌, ◌∙◌, List, length, take, drop, ap, refl, subst, sym, arith, bytes_of, mode_numbered, told_by, Escapes, IsClassified, IsStored, HasVectors, MaskOf, Mode, Passed, Target, state}
+use Rattle.escape_simd.proofs.Words.{◌≡◌, ◌≤◌, ℕ, take-take, ◌+◌, ◌*◌, ◌∙◌, List, length, take, drop, ap, refl, subst, sym, arith, bytes_of, mode_numbered, told_by, Escapes, HasRoom, IsClassified, IsStored, MaskOf, Mode, Passed, Target, state}
 use Rattle.escape_simd.proofs.Lanes.{CleanFrom}
 use Rattle.escape_simd.proofs.Parts.{clean-four}
 use Rattle.escape_simd.proofs.Stretches.{room-least, room-near, room-on}
@@ -6,32 +6,32 @@ use Rattle.escape_simd.proofs.Vectors.{escapes-asked, escapes-bordered, escapes-
 use Rattle.escape_simd.proofs.simd.chunk.chunk.Goals as goal
 
 -- each of the vectors can be stored
-module _ {N vectors : ℕ} {mode : Mode} {src : List ℕ} {at to size : ℕ} (r : HasVectors mode N vectors src at at to size) where
+module _ {N : ℕ} (vectors : ℕ) {mode : Mode} {src : List ℕ} {at to size : ℕ} (inside : at + (vectors + 1) * N ≤ length src) (room : HasRoom mode N src at (at + vectors * N) to size) where
   store-at : (k j i p : ℕ) (target : Target N) {width : ℕ} {lanes : List ℕ} {mask : MaskOf} → width ≡ N → IsClassified N src j lanes mask → j ≡ at + k → i ≡ j → p ≡ to + k → k + N ≤ vectors * N → (vectors + 1) * N ≡ vectors * N + N
       → length (bytes_of target) ≡ size → (width ≡ N) × (N ≤ N) × (i + N ≤ length src) × (take N lanes ≡ take N (drop i src)) × (told_by mask ≡ take N (drop i src)) × (p + N + N ≤ length (bytes_of target)) × (mask.stored ≡ 0)
   store-at k j i p target {width} {lanes} {mask} wide answer starts is ends few more same =
-      let least = room-least (omega arith) (omega (arith, r.inside, more)) r.room in
+      let least = room-least (omega arith) (omega (arith, inside, more)) room in
       let a = subst (λ j. IsClassified N src j lanes mask) (sym is) answer in
-      (wide, omega arith, omega (arith, r.inside, starts, is, few, more), ap (take N) a.loaded ∙ take-take N N (drop i src) (omega arith), ap told_by a.told, omega (arith, ends, few, least, same), ap (λ m. m.stored) a.told)
+      (wide, omega arith, omega (arith, inside, starts, is, few, more), ap (take N) a.loaded ∙ take-take N N (drop i src) (omega arith), ap told_by a.told, omega (arith, ends, few, least, same), ap (λ m. m.stored) a.told)
 
 pub store_lanes-next-requires : goal.store_lanes-next-requires
 store_lanes-next-requires g c =
-    (omega arith, (omega arith, store-at c.requires 0 c.args.at c.args.at c.args.to c.args.target.now g.met.V.Classifier.lane_count c.classify_four-v1.ensures.first (omega arith) refl (omega arith) (omega arith) (omega arith) refl))
+    (omega arith, (omega arith, store-at 4 c.requires.0 c.requires.1 0 c.args.at c.args.at c.args.to c.args.target.now g.met.V.Classifier.lane_count c.classify_four-v1.ensures.first (omega arith) refl (omega arith) (omega arith) (omega arith) refl))
 
 pub store_lanes-next-requires-then-clear : goal.store_lanes-next-requires-then-clear
 store_lanes-next-requires-then-clear g c =
     let n : ℕ = g.row.N in let s = c.store_lanes-next in let e = s.ensures in
-    (omega arith, (omega arith, store-at c.requires n (c.args.at + n) s.result.0 s.result.1 s.new.target g.met.V.Classifier.lane_count c.classify_four-v1.ensures.second refl e.places.0 e.places.1 (omega arith) (omega arith) e.stored.same_slice.len))
+    (omega arith, (omega arith, store-at 4 c.requires.0 c.requires.1 n (c.args.at + n) s.result.0 s.result.1 s.new.target g.met.V.Classifier.lane_count c.classify_four-v1.ensures.second refl e.places.0 e.places.1 (omega arith) (omega arith) e.stored.same_slice.len))
 
 pub store_lanes-next-requires-then-clear-2 : goal.store_lanes-next-requires-then-clear-2
 store_lanes-next-requires-then-clear-2 g c =
     let n : ℕ = g.row.N in let e = c.store_lanes-next.ensures in let s = c.store_lanes-next-then-clear in let e2 = s.ensures in
-    (omega arith, (omega arith, store-at c.requires (2 * n) (c.args.at + 2 * n) s.result.0 s.result.1 s.new.target g.met.V.Classifier.lane_count c.classify_four-v1.ensures.third refl (omega (arith, e.places.0, e2.places.0)) (omega (arith, e.places.1, e2.places.1)) (omega arith) (omega arith) (e2.stored.same_slice.len ∙ e.stored.same_slice.len)))
+    (omega arith, (omega arith, store-at 4 c.requires.0 c.requires.1 (2 * n) (c.args.at + 2 * n) s.result.0 s.result.1 s.new.target g.met.V.Classifier.lane_count c.classify_four-v1.ensures.third refl (omega (arith, e.places.0, e2.places.0)) (omega (arith, e.places.1, e2.places.1)) (omega arith) (omega arith) (e2.stored.same_slice.len ∙ e.stored.same_slice.len)))
 
 pub store_lanes-requires : goal.store_lanes-requires
 store_lanes-requires g c =
     let n : ℕ = g.row.N in let e = c.store_lanes-next.ensures in let e2 = c.store_lanes-next-then-clear.ensures in let s = c.store_lanes-next-then-clear-2 in let e3 = s.ensures in
-    (omega arith, (omega arith, store-at c.requires (3 * n) (c.args.at + 3 * n) s.result.0 s.result.1 s.new.target g.met.V.Classifier.lane_count c.classify_four-v1.ensures.fourth refl (omega (arith, e.places.0, e2.places.0, e3.places.0)) (omega (arith, e.places.1, e2.places.1, e3.places.1)) (omega arith) (omega arith) (e3.stored.same_slice.len ∙ e2.stored.same_slice.len ∙ e.stored.same_slice.len)))
+    (omega arith, (omega arith, store-at 4 c.requires.0 c.requires.1 (3 * n) (c.args.at + 3 * n) s.result.0 s.result.1 s.new.target g.met.V.Classifier.lane_count c.classify_four-v1.ensures.fourth refl (omega (arith, e.places.0, e2.places.0, e3.places.0)) (omega (arith, e.places.1, e2.places.1, e3.places.1)) (omega arith) (omega arith) (e3.stored.same_slice.len ∙ e2.stored.same_slice.len ∙ e.stored.same_slice.len)))
 
 -- a vector of a clean chunk was stored
 module _ {N : ℕ} {mode : Mode} {src : List ℕ} {at : ℕ} (inside : at + 4 * N ≤ length src) (clean : CleanFrom mode src at (at + 4 * N)) where
@@ -42,7 +42,7 @@ module _ {N : ℕ} {mode : Mode} {src : List ℕ} {at : ℕ} (inside : at + 4 * 
 pub returns-then-clear : goal.returns-then-clear
 returns-then-clear g c =
     let mode = mode_numbered g.row.MODE in let n : ℕ = g.row.N in let src : List ℕ = c.args.src.now in let at : ℕ = c.args.at in let four = c.classify_four-v1.ensures in
-    let inside : at + 4 * n ≤ length src = omega (arith, c.requires.inside) in
+    let inside : at + 4 * n ≤ length src = omega (arith, c.requires.0) in
     let clean = clean-four mode n src at inside four.first four.second four.third four.fourth four.clear c.if-clear.true in
     let e1 = c.store_lanes-next.ensures in let e2 = c.store_lanes-next-then-clear.ensures in let e3 = c.store_lanes-next-then-clear-2.ensures in let e4 = c.store_lanes.ensures in
     let p1 = e1.places.0 in let p2 = e2.places.0 in let p3 = e3.places.0 in let p4 = e4.places.0 in
@@ -53,29 +53,29 @@ returns-then-clear g c =
     escapes-asked c.args.ticks.now 4 (omega (arith, four.ticks)) (escapes-bordered (omega (arith, p1, p2, p3, p4)) (escapes-onward (escapes-onward (escapes-onward s1 s2) s3) s4))
 
 -- a vector more is there, where those before it were escaped
-module _ {N vectors : ℕ} {mode : Mode} {src : List ℕ} {at to : ℕ} {old mid : Target N} (r : HasVectors mode N vectors src at at to (length (bytes_of old))) where
-  next-vector : {border i p v a t0 t1 : ℕ} (next : ℕ) → next + 2 * N ≤ length src → next + 1 * N ≤ at + vectors * N → Escapes mode N border v a src (state old at to t0) (state mid i p t1) → HasVectors mode N 1 src next i p (length (bytes_of mid))
-  next-vector next inside before e = record { inside = omega (arith, inside); room = room-near (next + 1 * N) N before (omega (arith, r.inside)) (omega arith) (room-on e.stretch r.room) }
+module _ {N : ℕ} (vectors : ℕ) {mode : Mode} {src : List ℕ} {at to : ℕ} {old mid : Target N} (whole : at + (vectors + 1) * N ≤ length src) (room : HasRoom mode N src at (at + vectors * N) to (length (bytes_of old))) where
+  next-vector : {border i p v a t0 t1 : ℕ} (next : ℕ) → next + N ≤ at + vectors * N → Escapes mode N border v a src (state old at to t0) (state mid i p t1) → HasRoom mode N src i (next + N) p (length (bytes_of mid))
+  next-vector next before e = room-near (next + N) N before (omega (arith, whole)) (omega arith) (room-on e.stretch room)
 
 pub vector_from-next-requires : goal.vector_from-next-requires
 vector_from-next-requires g c =
-    let n : ℕ = g.row.N in let i = c.requires.inside in
-    (omega arith, (omega arith, (c.classify_four-v1.ensures.first.told, passed-to (mode_numbered g.row.MODE) c.args.src.now c.args.at, record { inside = omega (arith, i); room = room-near (c.args.at + 1 * n) n (omega arith) (omega (arith, i)) (omega arith) c.requires.room })))
+    let n : ℕ = g.row.N in let i = c.requires.0 in
+    (omega arith, (omega arith, (c.classify_four-v1.ensures.first.told, passed-to (mode_numbered g.row.MODE) c.args.src.now c.args.at, omega (arith, i), room-near (c.args.at + n) n (omega arith) (omega (arith, i)) (omega arith) c.requires.1)))
 
 pub vector_from-next-requires-2 : goal.vector_from-next-requires-2
 vector_from-next-requires-2 g c =
     let n : ℕ = g.row.N in let e = c.vector_from-next.ensures in
-    (omega arith, (omega arith, (c.classify_four-v1.ensures.second.told, e.passed, next-vector c.requires (c.args.at + n) (omega (arith, c.requires.inside)) (omega arith) e)))
+    (omega arith, (omega arith, (c.classify_four-v1.ensures.second.told, e.passed, omega (arith, c.requires.0), next-vector 4 c.requires.0 c.requires.1 (c.args.at + n) (omega arith) e)))
 
 pub vector_from-next-requires-3 : goal.vector_from-next-requires-3
 vector_from-next-requires-3 g c =
     let n : ℕ = g.row.N in let e = c.vector_from-next-2.ensures in
-    (omega arith, (omega arith, (c.classify_four-v1.ensures.third.told, subst (λ border. Passed (mode_numbered g.row.MODE) c.args.src.now border c.vector_from-next-2.result.0) (omega arith) e.passed, next-vector c.requires (c.args.at + 2 * n) (omega (arith, c.requires.inside)) (omega arith) (escapes-onward c.vector_from-next.ensures e))))
+    (omega arith, (omega arith, (c.classify_four-v1.ensures.third.told, subst (λ border. Passed (mode_numbered g.row.MODE) c.args.src.now border c.vector_from-next-2.result.0) (omega arith) e.passed, omega (arith, c.requires.0), next-vector 4 c.requires.0 c.requires.1 (c.args.at + 2 * n) (omega arith) (escapes-onward c.vector_from-next.ensures e))))
 
 pub vector_from-requires : goal.vector_from-requires
 vector_from-requires g c =
     let n : ℕ = g.row.N in let e = c.vector_from-next-3.ensures in
-    (omega arith, (omega arith, (c.classify_four-v1.ensures.fourth.told, subst (λ border. Passed (mode_numbered g.row.MODE) c.args.src.now border c.vector_from-next-3.result.0) (omega arith) e.passed, next-vector c.requires (c.args.at + 3 * n) (omega (arith, c.requires.inside)) (omega arith) (escapes-onward (escapes-onward c.vector_from-next.ensures c.vector_from-next-2.ensures) e))))
+    (omega arith, (omega arith, (c.classify_four-v1.ensures.fourth.told, subst (λ border. Passed (mode_numbered g.row.MODE) c.args.src.now border c.vector_from-next-3.result.0) (omega arith) e.passed, omega (arith, c.requires.0), next-vector 4 c.requires.0 c.requires.1 (c.args.at + 3 * n) (omega arith) (escapes-onward (escapes-onward c.vector_from-next.ensures c.vector_from-next-2.ensures) e))))
 
 pub returns : goal.returns
 returns g c =

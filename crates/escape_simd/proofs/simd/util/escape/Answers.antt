@@ -22,7 +22,7 @@ returns-then-is_separator g c =
     let step : at + passed mode (drop at src) ≡ at + 3 = ap (λ k. at + k) three in
     record {
       stretch =
-          ended (escaped_unit mode src c.args.target.now c.escape.new.self at c.args.to c.separator_entry.result.now c.requires.flagged.inside c.requires.flagged.needed 6 e.same_slice e.bytes c.requires.room f.0 (omega arith)
+          ended (escaped_unit mode src c.args.target.now c.escape.new.self at c.args.to c.separator_entry.result.now c.requires.flagged.0 c.requires.flagged.1 6 e.same_slice e.bytes c.requires.room f.0 (omega arith)
           (f.1 ∙ sym (ap (λ m. first_replacement m (drop at src)) third)) e.escaped e.stored e.quotes) step refl;
       place = sym step;
       stored = e.stored;
@@ -32,12 +32,12 @@ pub returns : goal.returns
 returns g c =
     let mode = mode_numbered g.row.MODE in let src : List ℕ = c.args.src.now in let at : ℕ = c.args.at in let e = c.escape-2.ensures in let b : ℕ = get_or src at 0 in
     let none = c.is_separator.ensures.none c.if-is_separator.false in
-    let needed = c.requires.flagged.needed in let entry = c.entry-entry.ensures in
+    let needed = c.requires.flagged.1 in let entry = c.entry-entry.ensures in
     let step : at + passed mode (drop at src) ≡ at + 1 = ap (λ k. at + k) (passed-alone mode src at none) in
     let six = (length-replacement mode b).1 in let count = entry.count ∙ entry-counts mode b needed in
     record {
       stretch =
-          ended (escaped_unit mode src c.args.target.now c.escape-2.new.self at c.args.to c.entry-entry.result.now.1 c.requires.flagged.inside needed c.entry-entry.result.now.0 e.same_slice e.bytes c.requires.room (ap length entry.bytes ∙ entry-long mode b needed) (omega (arith, count, six))
+          ended (escaped_unit mode src c.args.target.now c.escape-2.new.self at c.args.to c.entry-entry.result.now.1 c.requires.flagged.0 needed c.entry-entry.result.now.0 e.same_slice e.bytes c.requires.room (ap length entry.bytes ∙ entry-long mode b needed) (omega (arith, count, six))
           (ap (λ k. take k c.entry-entry.result.now.1) entry.count ∙ ap (take (entry_count mode b)) entry.bytes ∙ entry-front mode b needed ∙ sym (first-alone mode src at none)) e.escaped e.stored e.quotes) step refl;
       place = sym step;
       stored = e.stored;

@@ -15,10 +15,11 @@ escape-after-requires g c =
 pub returns-then-not-goes_on-clause-escaped : goal.returns-then-not-goes_on-clause-escaped
 returns-then-not-goes_on-clause-escaped g c =
     let i = c.run.invariant in let f = g.met.F.RunEnd.flagged c.run.run c.args.src.now c.args.stop c.run.next i.goes in
-    run-on f.0 c.escape-after.ensures i.so_far
+    let e = c.escape-after.ensures in run-on f.0 e.stretch e.place e.stored i.so_far
 
 pub run-preserved : goal.run-preserved
 run-preserved g c =
     let i = c.run.invariant in let f = g.met.F.RunEnd.flagged c.run.run c.args.src.now c.args.stop c.run.next i.goes in
     let goes = c.goes_on.ensures.goes c.if-not-goes_on.false in let n = g.met.F.RunEnd.flagged c.goes_on.new.self c.args.src.now c.args.stop c.escape-after.result.0 goes in
-    record { so_far = run-on f.0 c.escape-after.ensures i.so_far; goes = goes; room = run-room-on f.0 c.escape-after.ensures i.room n.1 }
+    let e = c.escape-after.ensures in
+    record { so_far = run-on f.0 e.stretch e.place e.stored i.so_far; goes = goes; room = run-room-on f.0 e.stretch e.place e.stored i.room n.1 }

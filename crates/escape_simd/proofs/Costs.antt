@@ -1,5 +1,5 @@
 -- How far the body has come in a text, and at what cost.
-use Rattle.escape_simd.proofs.Words.{◌≡◌, ℕ, ◌+◌, ◌-◌, ◌*◌, ◌/◌, ◌<◌, ◌≤◌, true, List, length, length-drop, take, drop, refl, ap, arith, le-div, take_all, Mode, bytes_of, Target, Cost, Escapes, HasRoom, Stretch, reach, rest_length, state}
+use Rattle.escape_simd.proofs.Words.{◌≡◌, ℕ, ◌+◌, ◌-◌, ◌*◌, ◌/◌, ◌<◌, ◌≤◌, true, List, length, length-drop, take, drop, refl, ap, arith, le-div, take_all, Mode, bytes_of, Target, Cost, Escapes, HasRoom, Stretch, reach, rest_length, State, state}
 use Rattle.std.proofs.Math.Nat.{div-mul-le_self}
 use Rattle.escape_simd.proofs.RestSteps.{rest-bounds}
 use Rattle.escape_simd.proofs.Stretches.{onward_to, reach-bounds, room-later, room-near, room-on}
@@ -9,11 +9,10 @@ use Rattle.escape_simd.proofs.Vectors.{escapes-ended, escapes-later, passed-to}
 -- whole ends at than those of its last bytes may.
 pub record BodySoFar {N : ℕ} (mode : Mode) (src : List ℕ) (old new : Target N) (at to end ticks_old ticks_new : ℕ) : Type 0 where
   pub stretch : Stretch mode (rest_length mode src at + reach true N) src old new 0 at to end
-  pub cost : Cost mode src 0 at (at / N) 0 old new ticks_old ticks_new
+  pub cost : Cost mode (at / N) 0 src (state old 0 to ticks_old) (state new at end ticks_new)
 
 -- one cost and the next
-cost-onward : {N : ℕ} {mode : Mode} {src : List ℕ} {at i next v1 v2 : ℕ} {old mid new : Target N} {t0 t1 t2 : ℕ} (vectors : ℕ) → v1 + v2 ≤ vectors
-    → Cost mode src at i v1 0 old mid t0 t1 → Cost mode src i next v2 0 mid new t1 t2 → Cost mode src at next vectors 0 old new t0 t2
+cost-onward : {N : ℕ} {mode : Mode} {src : List ℕ} {v1 v2 : ℕ} {old mid new : State N} (vectors : ℕ) → v1 + v2 ≤ vectors → Cost mode v1 0 src old mid → Cost mode v2 0 src mid new → Cost mode vectors 0 src old new
 cost-onward vectors few a b = omega arith
 
 module _ {N : ℕ} {mode : Mode} {src : List ℕ} {old mid : Target N} {at to end t0 t1 : ℕ} (so_far : BodySoFar mode src old mid at to end t0 t1) where

@@ -95,14 +95,14 @@ tail-rows text rows border passed next k is at inside = grind (arith, take_all, 
 -- The last bytes of a text from a place on, with zeros behind them
 module _ (mode : Mode) (slack n : ℕ) (text held : List ℕ) (next left k end : ℕ) (inside : next ≤ length text) (all : left ≡ length text - next) (is : held ≡ drop next text ++ zeros k) where
   -- they can be escaped as a vector
-  pub last-vector : (size : ℕ) → left ≤ n → n ≤ k → HasRoom mode slack text next (length text) end size → IsVectorAt mode n slack held 0 left end size
+  pub last-vector : (size : ℕ) → left ≤ n → n ≤ k → HasRoom mode slack text next (length text) end size → IsVectorAt mode n slack held 0 (0 + left) end size
   last-vector size few free room =
       let rest = drop next text in let long = length-drop next text in
       let front = rest-is mode (rest ++ zeros k) 0 ∙ ap length (inner-behind mode rest k) ∙ length-append (inner mode rest) (inner mode (zeros k)) in
       let back = rest-is mode (rest ++ zeros k) (0 + left) ∙ ap (λ xs. length (inner mode xs)) (drop_at rest (zeros k) (0 + left) (omega (arith, all, long))) in
       let none = (rest-bounds mode text (length text)).1 in
       record {
-        few = few;
+        few = omega (arith, few);
         inside = omega (arith, ap length is, length-held mode rest k, long, all, free);
         room = rw is (record { fits = omega (arith, room.fits, front, back, rest-is mode text next, none) });
       }

@@ -124,10 +124,11 @@ module _ {mode : Mode} {src : List ℕ} {valid at next : ℕ} {mask rest : MaskO
       }
 
   -- else it has ended
-  pub mask-ends : (none_set bits ≡ false → get_or bits next false ≡ false) → IsRunEnd mode src valid next rest
-  mask-ends unset =
+  pub mask-ends : next ≤ length src → (none_set bits ≡ false → get_or bits next false ≡ false) → IsRunEnd mode src valid next rest
+  mask-ends inside unset =
       let u = place-after in let there : 0 + next ≡ next = omega arith in
       record {
+        inside = inside;
         bytes = ap (λ m. m.bytes) cut ∙ r.bytes;
         from = omega (arith, behind, u);
         cleared = mask-cleared;

@@ -1,5 +1,5 @@
 -- How far the turns of a vector have come.
-use Rattle.escape_simd.proofs.Words.{◌≡◌, ℕ, ◌+◌, ◌-◌, ◌<◌, ◌≤◌, true, false, List, length, take, drop, get_or, refl, sym, ap, subst, ◌∙◌, arith, append_assoc, take-take, take-add, length-take-le, bytes_of, first_set, none_set, MaskOf, is_clear, lanes_of_mask, mask_from, told_by, Mode, needs_escape, stored_of, Target, run_count, run_count_after, Stretch, EscapedRun, Escapes, HasRunRoom, IsRunEnd, inl, HasRoom, IsFinished, IsFlaggedAt, IsRunAt, IsStored, IsVectorAt, IsVectorEnd, state, drop-take}
+use Rattle.escape_simd.proofs.Words.{◌≡◌, ℕ, ◌+◌, ◌-◌, ◌<◌, ◌≤◌, true, false, List, length, take, drop, get_or, refl, sym, ap, ◌∙◌, arith, append_assoc, take-take, take-add, length-take-le, bytes_of, first_set, none_set, MaskOf, is_clear, lanes_of_mask, mask_from, told_by, Mode, needs_escape, stored_of, Target, run_count, run_count_after, Passed, Stretch, EscapedRun, Escapes, HasRunRoom, IsRunEnd, inl, HasRoom, IsFlaggedAt, IsRunAt, IsStored, IsVectorAt, State, state, drop-take}
 use Rattle.escape_simd.proofs.Escapes.{reach-few}
 use Rattle.escape_simd.proofs.Texts.{runs_after-≤, runs_stop-here}
 use Rattle.escape_simd.proofs.Stretches.{onward_to, room-least, room-near, room-on, standing, stored_ahead, stretch-on}
@@ -14,6 +14,15 @@ pub record IsLeftAt (mode : Mode) (N slack : ℕ) (src : List ℕ) (valid next t
   pub inside : valid + N ≤ length src
   pub before : next < valid
   pub room : HasRoom mode slack src next valid to size
+
+-- The last clean bytes of a vector were passed, after a run of escapes.
+abbrev pub IsFinished : {N : ℕ} → Mode → ℕ → List ℕ → ℕ → State N → State N → Type 0
+IsFinished mode slack src border old new = record {
+  stretch : Stretch mode slack src old.target new.target old.at new.at old.to new.to;
+  passed : Passed mode src border new.at;
+  stored : stored_of new.target + run_count mode (drop new.at src) ≤ stored_of old.target + run_count_after mode true (drop old.at src) + 1;
+  classified : new.ticks + stored_of old.target ≡ old.ticks + stored_of new.target;
+}
 
 -- its lanes
 left-held : {mode : Mode} {N slack : ℕ} {src : List ℕ} {valid next to size : ℕ} {mask : MaskOf} → IsLeftAt mode N slack src valid next to size mask → HoldsFlags mode src 0 valid next (lanes_of_mask mode mask)
@@ -64,8 +73,7 @@ turns-begin {mode = mode} {slack = slack} {src = src} {old = old} {new = new} {v
     let held = mask-holds mode src 0 valid 0 mask (ap (λ m. m.bytes) is) (omega (arith, v.inside)) (omega (arith, ap (λ m. m.from) is)) in
     let first = (first-set mode src 0 valid 0 (lanes_of_mask mode mask) held some).0 in let ahead = ahead-front mode src new 0 valid to valid (omega arith) s.ahead in
     let stretch = stored_ahead mode slack src old new 0 valid to s (omega arith) in
-    let border : 0 + valid ≡ valid = omega arith in
-    let room : HasRoom mode slack src 0 valid to (length (bytes_of new)) = rw (sym s.same_slice.len) at (subst (λ k. HasRoom mode slack src 0 k to (length (bytes_of old))) border v.room) in
+    let room : HasRoom mode slack src 0 valid to (length (bytes_of new)) = rw (sym s.same_slice.len) at v.room in
     grind (arith, is)
 
 -- what is known of the first flagged byte of those that are left
@@ -110,16 +118,9 @@ module _ {N : ℕ} {mode : Mode} {slack : ℕ} {src : List ℕ} {old mid : Targe
     turn-rest_room : HasRoom mode slack src after valid reached (length (bytes_of new))
     turn-rest_room = record { fits = omega (arith, turn-stretch.limit, so_far.stretch.limit, so_far.left.room.fits, done.stretch.same_slice.len) }
 
-    -- where the mask has no more, the last clean bytes are left
-    pub turn-end : is_clear mode rest ≡ true → IsVectorEnd mode N slack src valid after reached (length (bytes_of new))
-    turn-end none = let u = turn-place in let w = so_far.left in record {
-      clean = λ p late early. held-none mode src 0 valid after (lanes_of_mask mode rest) (mask-holds mode src 0 valid after rest over.bytes (omega (arith, w.inside)) (omega (arith, over.from))) (omega arith) none p late (omega (arith, early));
-      start = done.stretch.inside;
-      inside = w.inside;
-      near = omega (arith, w.few, u, on);
-      over = over.over;
-      room = turn-rest_room;
-    }
+    -- the bytes that are left are a vector's
+    pub turn-left : IsVectorAt mode N slack src after valid reached (length (bytes_of new))
+    turn-left = let u = turn-place in let w = so_far.left in record { few = omega (arith, w.few, u, on); inside = w.inside; room = turn-rest_room }
 
     -- where it has some
     module _ (some : is_clear mode rest ≡ false) where
@@ -155,15 +156,18 @@ module _ {N : ℕ} {mode : Mode} {slack : ℕ} {src : List ℕ} {old mid : Targe
     turn-finished f = let s = onward_to slack turn-stretch f.stretch (omega (arith, stretch-on f.stretch, f.passed.whole)) (omega arith) in grind (arith, turn-runs)
 
 -- after the last escape of a vector, its last clean bytes were stored
-pub finished-stored : {N : ℕ} {mode : Mode} {slack : ℕ} {src : List ℕ} {old new : Target N} {border from to size ticks_old ticks_new : ℕ} → from < border → IsVectorEnd mode N slack src border from to size
+pub finished-stored : {N : ℕ} {mode : Mode} {slack : ℕ} {src : List ℕ} {old new : Target N} {border from to size : ℕ} {mask : MaskOf} (ticks_old ticks_new : ℕ)
+    → from < border → IsVectorAt mode N slack src from border to size → IsRunEnd mode src border from mask → is_clear mode mask ≡ true
     → IsStored slack src old new from (border - from) to → ticks_new ≡ ticks_old + 1 → IsFinished mode slack src border (state old from to ticks_old) (state new border (to + (border - from)) ticks_new)
-finished-stored {mode = mode} {slack = slack} {src = src} {old = old} {new = new} {border = border} {from = from} {to = to} before v s tick =
+finished-stored {mode = mode} {slack = slack} {src = src} {old = old} {new = new} {border = border} {from = from} {to = to} {mask = mask} ticks_old ticks_new before v r none s tick =
+    let held = mask-holds mode src 0 border from mask r.bytes (omega (arith, v.inside)) (omega (arith, r.from)) in
+    let clean : CleanFrom mode src from border = λ p late early. held-none mode src 0 border from (lanes_of_mask mode mask) held (omega arith) none p late (omega (arith, early)) in
     let ahead = ahead-front mode src new from border to (border - from) (omega arith) s.ahead in
-    let on = ahead-passed mode slack src new from border border to ahead (omega arith) (omega arith) (omega (arith, v.inside)) v.clean in
-    let all = onward_to slack (stored_ahead mode slack src old new from (border - from) to s v.start) on (omega arith) (omega arith) in
+    let on = ahead-passed mode slack src new from border border to ahead (omega arith) (omega arith) (omega (arith, v.inside)) clean in
+    let all = onward_to slack (stored_ahead mode slack src old new from (border - from) to s r.inside) on (omega arith) (omega arith) in
     grind (arith, runs_stop-here, ahead-runs)
 
 -- or there were none
-pub finished-over : {N : ℕ} {mode : Mode} {slack : ℕ} {src : List ℕ} {t : Target N} {border from to size ticks : ℕ} → border ≤ from → IsVectorEnd mode N slack src border from to size
+pub finished-over : {N : ℕ} {mode : Mode} {slack : ℕ} {src : List ℕ} (t : Target N) {border from : ℕ} (to ticks : ℕ) {mask : MaskOf} → border ≤ from → IsRunEnd mode src border from mask
     → IsFinished mode slack src border (state t from to ticks) (state t from to ticks)
-finished-over over v = grind (arith, standing, runs_after-≤)
+finished-over t to ticks over r = grind (arith, standing, runs_after-≤)

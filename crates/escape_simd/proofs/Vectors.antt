@@ -67,19 +67,19 @@ escapes-later {N} {mode} {slack} {border} {vectors} {asked} {old} {new} {next} {
     }
 
 -- a vector of a text, as the first of a text of its own
-pub vector-later : (mode : Mode) (n slack : ℕ) (src text : List ℕ) (at valid to size : ℕ) → text ≡ drop at src → IsVectorAt mode n slack src at valid to size → IsVectorAt mode n slack text 0 valid to size
+pub vector-later : (mode : Mode) (n slack : ℕ) (src text : List ℕ) (at valid to size : ℕ) → text ≡ drop at src → IsVectorAt mode n slack src at (at + valid) to size → IsVectorAt mode n slack text 0 valid to size
 vector-later mode n slack src text at valid to size is v =
-    record { few = v.few; inside = omega (arith, v.inside, ap length is, length-drop at src); room = room-later text valid (0 + valid) is refl v.room (omega arith) }
+    record { few = omega (arith, v.few); inside = omega (arith, v.inside, ap length is, length-drop at src); room = room-later text valid valid is refl v.room refl }
 
 -- a vector of which what came before it may have passed some bytes
-pub vector-left : (mode : Mode) (n : ℕ) (src : List ℕ) (at from to size : ℕ) → 16 ≤ n → Passed mode src at from → at + 2 * n ≤ length src → HasRoom mode n src from (at + n) to size → IsVectorAt mode n n src from (n - (from - at)) to size
+pub vector-left : (mode : Mode) (n : ℕ) (src : List ℕ) (at from to size : ℕ) → 16 ≤ n → Passed mode src at from → at + 2 * n ≤ length src → HasRoom mode n src from (at + n) to size → IsVectorAt mode n n src from (from + (n - (from - at))) to size
 vector-left mode n src at from to size several p inside room =
     let border : at + n ≡ from + (n - (from - at)) = omega (arith, p.whole, p.near, several) in
     record { few = omega arith; inside = omega (arith, inside, p.whole, p.near, several); room = subst (λ k. HasRoom mode n src from k to size) border room }
 
 -- a vector that is there can be stored
-pub vector-stores : {mode : Mode} {N slack : ℕ} {src : List ℕ} {at valid to size : ℕ} → IsVectorAt mode N slack src at valid to size → (valid ≤ N) × (at + N ≤ length src) × (to + valid + slack ≤ size)
-vector-stores v = let least = room-least (omega arith) (omega (arith, v.inside)) v.room in (v.few, omega (arith, v.inside), omega (arith, least))
+pub vector-stores : {mode : Mode} {N slack : ℕ} {src : List ℕ} {at border to size : ℕ} (valid : ℕ) → at + valid ≡ border → IsVectorAt mode N slack src at border to size → (valid ≤ N) × (at + N ≤ length src) × (to + valid + slack ≤ size)
+vector-stores valid ends v = let least = room-least (omega (arith, ends)) (omega (arith, v.inside)) v.room in (omega (arith, v.few, ends), omega (arith, v.inside, ends), omega (arith, least, ends))
 
 -- in script, e2 is one byte
 e2_count : length (replacement script 226) ≡ 1
@@ -112,7 +112,7 @@ alone-short mode n src at valid bits h short inside few p after before =
     let t = h.set (p - at) in let u = h.unset (p - at) in let s = short (p - at) in grind (arith, cases_Bool, not_lead, passed_clean-here)
 
 -- a vector that can be escaped by blocks
-module _ {N : ℕ} {mode : Mode} {slack : ℕ} {src : List ℕ} {at valid to size : ℕ} {mask : MaskOf} (is : mask ≡ whole_mask (take valid (drop at src))) (v : IsVectorAt mode N slack src at valid to size) (far : 16 ≤ slack) (several : 16 ≤ N) (narrow : N ≤ 64) where
+module _ {N : ℕ} {mode : Mode} {slack : ℕ} {src : List ℕ} {at to size : ℕ} {mask : MaskOf} (valid : ℕ) (is : mask ≡ whole_mask (take valid (drop at src))) (v : IsVectorAt mode N slack src at (at + valid) to size) (far : 16 ≤ slack) (several : 16 ≤ N) (narrow : N ≤ 64) where
   -- its lanes
   abbrev bits : List Bool
   bits = lanes_of_mask mode mask
@@ -141,7 +141,7 @@ module _ {N : ℕ} {mode : Mode} {slack : ℕ} {src : List ℕ} {at valid to siz
         → Escapes mode slack (at + valid) 1 1 src (state old at to ticks_old) (state new (at + valid) end ticks_new)
     vector-blocks n number paid s stored ticks =
         let told = told-held mode src at valid bits held in
-        let alone = alone-short mode N src at valid bits held short (omega (arith, v.inside)) v.few in
+        let alone = alone-short mode N src at valid bits held short (omega (arith, v.inside)) (omega (arith, v.few)) in
         let runs = gaps-paid_mask mode src bits at valid (omega (arith, v.inside)) (omega (arith, ap length number, length-bits_of 64 n, v.few, narrow)) told alone in
         record {
           stretch = widened slack far s;

@@ -1,5 +1,5 @@
 -- A whole text: its bytes between quotes, or with none.
-use Rattle.escape_simd.proofs.Words.{◌≡◌, ℕ, ◌+◌, ◌*◌, ◌/◌, ◌≤◌, true, false, List, [], ◌++◌, length, take, drop, refl, sym, ap, ◌∙◌, arith, append_assoc, length-append, le_refl, append-nil, drop_all, Mode, json, html, script, bytes_of, Target, inner, plain, bound, quote_of, quote_count, escaped_count, run_count, Cost, Stretch, reach, IsWritten, IsFormatted, IsInnerWritten, IsQuoted, IsWrittenAt, IsOnlyOutput, IsOfOneText}
+use Rattle.escape_simd.proofs.Words.{◌≡◌, ℕ, ◌+◌, ◌*◌, ◌/◌, ◌≤◌, true, false, List, [], ◌++◌, length, take, drop, refl, sym, ap, ◌∙◌, arith, append_assoc, length-append, le_refl, append-nil, drop_all, Mode, json, html, script, bytes_of, Target, inner, plain, bound, quote_of, quote_count, escaped_count, run_count, Cost, Stretch, reach, state, IsWritten, IsFormatted, IsInnerWritten, IsQuoted, IsWrittenAt, IsOnlyOutput, IsOfOneText}
 use Rattle.std.specs.Str.{IsUtf8, chars}
 use Rattle.escape_simd.proofs.OutputLemmas.{IsOnlyOutput-output, IsOfOneText-output}
 use Rattle.escape_simd.proofs.RestSteps.{rest-is}
@@ -72,7 +72,7 @@ module _ {N : ℕ} {mode : Mode} {text : List ℕ} {old first second new : Targe
       whole_written N mode text (bytes_of old) (bytes_of new) count (rw (plain-parts mode text) all)
 
   -- and its counts
-  pub whole_formatted : {t0 t1 : ℕ} → Cost mode text 0 (length text) (length text / N + 1) 0 first second t0 t1 → IsFormatted mode text old new count t0 t1
+  pub whole_formatted : {t0 t1 : ℕ} → Cost mode (length text / N + 1) 0 text (state first 0 opened t0) (state second (length text) close t1) → IsFormatted mode text old new count t0 t1
   whole_formatted c =
       let two = two_quotes mode in let s = between in
       let over : drop (length text) text ≡ [] = drop_all (length text) text (le_refl (length text)) in

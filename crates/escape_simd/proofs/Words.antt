@@ -29,6 +29,7 @@ unfoldable pub use Rattle.escape_lanes.specs.Spread.{flagged_blocks, put_apart}
 pub use Rattle.escape_lanes.specs.Spread.{IsBlock, flag_count}
 pub use Rattle.escape_lanes.specs.Written.{IsSameSlice, Writes, bytes_of, escaped_of, quotes_of, stored_of}
 pub use Rattle.escape_lanes.specs.declared.simd.target.Target.{Target}
+pub use Rattle.escape_simd.specs.Blocks.{AreShort, HasBlocks, IsBlockAt}
 pub use Rattle.escape_simd.specs.Escaping.{IsEscaping, IsHarmless, IsOneLine}
 pub use Rattle.escape_simd.specs.Formatted.{IsFormatted, IsInnerWritten, IsQuoted, IsWritten, IsWrittenAt}
 pub use Rattle.escape_simd.specs.Headline.{IsOnlyOutput}
@@ -47,4 +48,4 @@ pub use Rattle.escape_simd.specs.Runs.{escaped_count, run_count, run_count_after
 pub use Rattle.escape_simd.specs.Script.{HasNoRawMark, IsOnlyScript, IsSafeInScript, IsScriptFree, IsScriptItem, IsShortestScript, is_script_marked}
 pub use Rattle.escape_simd.specs.Spelling.{IsTextOf, Spells}
 unfoldable pub use Rattle.escape_simd.specs.Stretch.{rest_length}
-pub use Rattle.escape_simd.specs.Stretch.{AreTailMasks, AreShort, Cost, EscapedRun, Escapes, HasRunRoom, HasBlocks, HasRoom, IsBlockAt, IsByteWise, IsFinished, IsFlaggedAt, IsRunAt, IsRunEnd, IsStored, IsVectorAt, IsVectorEnd, Passed, Stretch, reach, run_end, run_reach, state}
+pub use Rattle.escape_simd.specs.Stretch.{AreTailMasks, Cost, State, EscapedRun, Escapes, HasRunRoom, HasRoom, IsByteWise, IsFlaggedAt, IsRunAt, IsRunEnd, IsStored, IsVectorAt, Passed, Stretch, reach, run_end, run_reach, state}

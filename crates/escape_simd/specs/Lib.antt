@@ -6,6 +6,7 @@ pub mod Modes
 pub mod Output
 pub mod Runs
 pub mod Stretch
+pub mod Blocks
 pub mod RunLaws
 pub mod Formatted
 pub mod Parts

@@ -4,9 +4,7 @@ use Rattle.std.specs.List.{prefix_len}
 use Rattle.escape_lanes.specs.Bits.{first_set}
 use Rattle.escape_lanes.specs.Masks.{MaskOf, is_clear, lanes_of_mask, whole_mask}
 use Rattle.escape_lanes.specs.Mode.{Mode, json, html, script}
-use Rattle.escape_lanes.specs.Replacement.{needs_escape, replacement}
-use Rattle.escape_lanes.specs.Short.{shortened}
-use Rattle.escape_lanes.specs.Spread.{flag_count, flagged_blocks}
+use Rattle.escape_lanes.specs.Replacement.{needs_escape}
 use Rattle.escape_lanes.specs.Written.{bytes_of, stored_of, escaped_of, quotes_of, IsSameSlice}
 use Rattle.escape_lanes.specs.declared.simd.target.Target.{Target}
 use Rattle.escape_simd.specs.Output.{inner, passed}
@@ -38,13 +36,6 @@ pub record Stretch {N : ℕ} (mode : Mode) (slack : ℕ) (src : List ℕ) (old n
   pub kept : drop (end + slack) (bytes_of new) ≡ drop (end + slack) (bytes_of old)
   pub escaped : escaped_of new + escaped_count mode (drop next src) ≡ escaped_of old + escaped_count mode (drop at src)
   pub quotes : quotes_of new ≡ quotes_of old
-
--- What a stretch of a text from `at` up to `next` may cost: a vector stored for each of its runs, and `vectors` more. As many
--- vectors are classified as are stored at least, and as may be stored at most. So many of them were classified before: `asked`.
-pub record Cost {N : ℕ} (mode : Mode) (src : List ℕ) (at next vectors asked : ℕ) (old new : Target N) (ticks_old ticks_new : ℕ) : Type 0 where
-  pub stored : stored_of new + run_count mode (drop next src) ≤ stored_of old + run_count mode (drop at src) + vectors
-  pub covered : ticks_old + stored_of new ≤ ticks_new + stored_of old + asked
-  pub classified : ticks_new + run_count mode (drop next src) + asked ≤ ticks_old + run_count mode (drop at src) + vectors
 
 -- what stands for a byte is told by that byte alone
 abbrev pub IsByteWise : Mode → Type 0
@@ -78,11 +69,18 @@ pub record State (N : ℕ) : Type 0 where
 abbrev pub state : {N : ℕ} → Target N → ℕ → ℕ → ℕ → State N
 state target at to ticks = record { target = target; at = at; to = to; ticks = ticks }
 
+-- What it may cost to come from one state to another: a vector stored for each run of the text between, and `vectors` more. As many
+-- vectors are classified as are stored at least, and as may be stored at most. So many of them were classified before: `asked`.
+pub record Cost {N : ℕ} (mode : Mode) (vectors asked : ℕ) (src : List ℕ) (old new : State N) : Type 0 where
+  pub stored : stored_of new.target + run_count mode (drop new.at src) ≤ stored_of old.target + run_count mode (drop old.at src) + vectors
+  pub covered : old.ticks + stored_of new.target ≤ new.ticks + stored_of old.target + asked
+  pub classified : new.ticks + run_count mode (drop new.at src) + asked ≤ old.ticks + run_count mode (drop old.at src) + vectors
+
 -- Text was escaped from one state to another, at this cost: all bytes before `border`, and what of a separator goes past it.
 pub record Escapes {N : ℕ} (mode : Mode) (slack border vectors asked : ℕ) (src : List ℕ) (old new : State N) : Type 0 where
   pub stretch : Stretch mode slack src old.target new.target old.at new.at old.to new.to
   pub passed : Passed mode src border new.at
-  pub cost : Cost mode src old.at new.at vectors asked old.target new.target old.ticks new.ticks
+  pub cost : Cost mode vectors asked src old new
 
 -- a byte of the text that needs an escape
 abbrev pub IsFlaggedAt : Mode → List ℕ → ℕ → Type 0
@@ -110,18 +108,19 @@ pub record IsRunAt (mode : Mode) (src : List ℕ) (valid at : ℕ) (mask : MaskO
 
 -- A run has ended at `next`: the mask tells of the bytes from there on, and flags none before. No flagged byte follows.
 pub record IsRunEnd (mode : Mode) (src : List ℕ) (valid next : ℕ) (mask : MaskOf) : Type 0 where
+  pub inside : next ≤ length src
   pub bytes : mask.bytes ≡ take valid src
   pub from : mask.from ≤ next
   pub cleared : (k : ℕ) → slice_index_or (lanes_of_mask mode mask) k false ≡ true → next ≤ k
   pub over : valid ≤ next → Passed mode src valid next
   pub stops : is_clear mode mask ≡ false → (next < valid) × (needs_escape mode (slice_index src next) ≡ false)
 
--- The text has `valid` bytes at `at`, at most a vector of N. A vector can be loaded from each place from `at` to their end, and
--- they have room.
-pub record IsVectorAt (mode : Mode) (N slack : ℕ) (src : List ℕ) (at valid to size : ℕ) : Type 0 where
-  pub few : valid ≤ N
-  pub inside : at + valid + N ≤ length src
-  pub room : HasRoom mode slack src at (at + valid) to size
+-- The text has the bytes from `at` up to `border`, at most a vector of N, and a vector can be loaded from each place from `at` to
+-- `border`. They have room.
+pub record IsVectorAt (mode : Mode) (N slack : ℕ) (src : List ℕ) (at border to size : ℕ) : Type 0 where
+  pub few : border ≤ at + N
+  pub inside : border + N ≤ length src
+  pub room : HasRoom mode slack src at border to size
 
 -- A vector was stored at `to`, whose first `left` lanes are the text's bytes from `from` on. Nothing changed further than
 -- `slack` bytes past these.
@@ -134,47 +133,8 @@ pub record IsStored {N : ℕ} (slack : ℕ) (src : List ℕ) (old new : Target N
   pub escaped : escaped_of new ≡ escaped_of old
   pub quotes : quotes_of new ≡ quotes_of old
 
--- All escapes of a vector that ends at `border` were written: its clean bytes from `from` on are left, or the rest of a separator
--- went past it. What is written is at `to`.
-pub record IsVectorEnd (mode : Mode) (N slack : ℕ) (src : List ℕ) (border from to size : ℕ) : Type 0 where
-  pub clean : (p : ℕ) → from ≤ p → p < border → needs_escape mode (slice_index src p) ≡ false
-  pub start : from ≤ length src
-  pub inside : border + N ≤ length src
-  pub near : border ≤ from + N
-  pub over : border ≤ from → Passed mode src border from
-  pub room : HasRoom mode slack src from border to size
-
--- These were passed, after a run of escapes.
-pub record IsFinished {N : ℕ} (mode : Mode) (slack : ℕ) (src : List ℕ) (border : ℕ) (old new : State N) : Type 0 where
-  pub stretch : Stretch mode slack src old.target new.target old.at new.at old.to new.to
-  pub passed : Passed mode src border new.at
-  pub stored : stored_of new.target + run_count mode (drop new.at src) ≤ stored_of old.target + run_count_after mode true (drop old.at src) + 1
-  pub classified : new.ticks + stored_of old.target ≡ old.ticks + stored_of new.target
-
 -- The masks of a short text: of its last vector, and where it has as many bytes as one vector, of its first one.
 pub record AreTailMasks (N : ℕ) (text : List ℕ) (first last : MaskOf) : Type 0 where
   pub few : length text < 2 * N
   pub front : N ≤ length text → first ≡ whole_mask (take N text)
   pub back : last ≡ whole_mask (drop (length text - N) text)
-
--- what stands for each flagged byte of n that needs an escape is two bytes: a reverse solidus, and a letter or the byte itself
-abbrev pub AreShort : Mode → ℕ → List ℕ → ℕ → List Bool → Type 0
-AreShort mode n src at bits =
-    (k : ℕ) → k < n → slice_index_or bits k false ≡ true → needs_escape mode (slice_index src (at + k)) ≡ true → length (replacement mode (slice_index src (at + k))) ≡ 2
-
--- A text's `valid` bytes at `at` can be escaped by blocks: each that needs an escape has a short one, and each other one is not
--- changed.
-pub record HasBlocks (mode : Mode) (src : List ℕ) (at valid to size : ℕ) : Type 0 where
-  pub some : 0 < valid
-  pub short : (k : ℕ) → k < valid → needs_escape mode (slice_index src (at + k)) ≡ true → length (replacement mode (slice_index src (at + k))) ≡ 2
-  pub kept : (b : ℕ) → needs_escape mode b ≡ false → shortened b ≡ b
-  pub few : valid ≤ 64
-  pub inside : at + valid + 16 ≤ length src
-  pub room : HasRoom mode 16 src at (at + valid) to size
-
--- The text's next eight bytes at `at`, or as many as a mask tells of if these are fewer, were escaped. `end` is the place after
--- eight. It counts as a vector where none is flagged.
-pub record IsBlockAt {N : ℕ} (mode : Mode) (mask : MaskOf) (src : List ℕ) (old new : Target N) (at to end : ℕ) : Type 0 where
-  pub stretch : Stretch mode 16 src old new at (at + min 8 (length mask.bytes)) to (end - (8 - min 8 (length mask.bytes)))
-  pub after : end ≡ to + 8 + flag_count (take 8 (lanes_of_mask mode mask))
-  pub stored : stored_of new + flagged_blocks 1 (lanes_of_mask mode mask) ≡ stored_of old + 1

@@ -1,9 +1,10 @@
 //! One vector of a text, by its mask: stored where it is clean, else escaped in blocks or by turns.
 ghost use Rattle.std.specs.Prelude.{◌≡◌, ◌+◌, ◌≤◌, true, false, length, take, drop};
 ghost use Rattle.escape_lanes.specs.Masks.{is_clear, whole_mask};
-ghost use Rattle.escape_lanes.specs.Written.{bytes_of};
+ghost use Rattle.escape_lanes.specs.Written.{bytes_of, stored_of};
 ghost use Rattle.escape_simd.specs.Modes.{mode_numbered};
-ghost use Rattle.escape_simd.specs.Stretch.{Escapes, IsFinished, IsVectorAt, IsVectorEnd, reach, state};
+ghost use Rattle.escape_simd.specs.Runs.{run_count, run_count_after};
+ghost use Rattle.escape_simd.specs.Stretch.{Escapes, IsRunEnd, IsVectorAt, Passed, Stretch, reach, state};
 
 use crate::simd::Classifier;
 use crate::simd::store::store;
@@ -27,13 +28,16 @@ fn finish_vector<V: LoadStore, const MODE: u8, const N: usize, const LAST: bool>
 ) -> (usize, usize)
     requires { (V.LANES ≡ N)
         × (border ≤ 64)
-        × (mask.bytes ≡ take border src.now)
-        × (mask.from ≤ from)
         × (is_clear (mode_numbered MODE) mask ≡ true)
-        × IsVectorEnd (mode_numbered MODE) N (reach LAST N)
-        src.now border from to (length (bytes_of target.old)) }
-    ensures { IsFinished (mode_numbered MODE) (reach LAST N)
-        src.now border (state target.old from to ticks.old) (state target.new result.0 result.1 ticks.new) }
+        × IsRunEnd (mode_numbered MODE) src.now border from mask
+        × IsVectorAt (mode_numbered MODE) N (reach LAST N)
+        src.now from border to (length (bytes_of target.old)) }
+    ensures stretch { Stretch (mode_numbered MODE) (reach LAST N)
+        src.now target.old target.new from result.0 to result.1 }
+    ensures passed { Passed (mode_numbered MODE) src.now border result.0 }
+    ensures stored { stored_of target.new + run_count (mode_numbered MODE) (drop result.0 src.now)
+        ≤ stored_of target.old + run_count_after (mode_numbered MODE) true (drop from src.now) + 1 }
+    ensures classified { ticks.new + stored_of target.old ≡ ticks.old + stored_of target.new }
 {
     if border <= from {
         return (from, to);
@@ -112,7 +116,7 @@ pub(crate) fn escape_by_mask<
 ) -> (usize, usize)
     requires { (mask ≡ whole_mask (take valid (drop at src.now)))
         × IsVectorAt (mode_numbered MODE) N (reach LAST N)
-        src.now at valid to (length (bytes_of target.old)) }
+        src.now at (at + valid) to (length (bytes_of target.old)) }
     ensures { Escapes (mode_numbered MODE) (reach LAST N) (at + valid) 1 1
         src.now (state target.old at to ticks.old) (state target.new result.0 result.1 ticks.new) }
 {

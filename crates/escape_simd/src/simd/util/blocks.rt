@@ -6,7 +6,8 @@ ghost use Rattle.escape_lanes.specs.Short.{shortened};
 ghost use Rattle.escape_lanes.specs.Spread.{flag_count, flagged_blocks};
 ghost use Rattle.escape_lanes.specs.Written.{bytes_of, stored_of};
 ghost use Rattle.escape_simd.specs.Modes.{mode_numbered};
-ghost use Rattle.escape_simd.specs.Stretch.{AreShort, HasBlocks, IsBlockAt, Stretch};
+ghost use Rattle.escape_simd.specs.Blocks.{AreShort, HasBlocks, IsBlockAt};
+ghost use Rattle.escape_simd.specs.Stretch.{Stretch};
 
 use escape_lanes::simd::escape_mask::EscapeMask;
 use escape_lanes::simd::lane_bits::{count_flagged, count_gaps, eight_lanes, is_flagged};

@@ -7,7 +7,7 @@ use Rattle.escape_simd.proofs.Vectors.{escapes-ended, escapes-later, vector-bloc
 use Rattle.escape_simd.proofs.simd.by_mask.escape_by_mask.Goals as goal
 
 pub store-requires : goal.store-requires
-store-requires g c = let s = vector-stores c.requires.1 in (omega arith, (omega arith, (g.met.V.Classifier.lane_count, ap told_by c.requires.0, ap (λ m. m.stored) c.requires.0, s.0, s.1, s.2)))
+store-requires g c = let s = vector-stores c.args.valid refl c.requires.1 in (omega arith, (omega arith, (g.met.V.Classifier.lane_count, ap told_by c.requires.0, ap (λ m. m.stored) c.requires.0, s.0, s.1, s.2)))
 
 pub returns-then-is_clear : goal.returns-then-is_clear
 returns-then-is_clear g c =
@@ -22,14 +22,14 @@ pub escape_blocks-end-requires : goal.escape_blocks-end-requires
 escape_blocks-end-requires g c =
     let v = c.requires.1 in let met = g.met.V.Classifier in let far = reach-bounds (not (nat_eq (value_of (number g.row.LAST)) 0)) g.row.N met.several in
     let short = rw c.bits-bits.ensures at (c.are_short.ensures c.if-are_short.true) in
-    (omega arith, (omega arith, (c.requires.0, v.few, met.sixteens, met.most, omega (arith, v.inside), vector-has_blocks c.requires.0 v (omega (arith, far)) met.several met.most short (sym c.is_clear.ensures ∙ c.if-is_clear.false))))
+    (omega arith, (omega arith, (c.requires.0, omega (arith, v.few), met.sixteens, met.most, omega (arith, v.inside), vector-has_blocks c.args.valid c.requires.0 v (omega (arith, far)) met.several met.most short (sym c.is_clear.ensures ∙ c.if-is_clear.false))))
 
 pub returns-then-are_short : goal.returns-then-are_short
 returns-then-are_short g c =
     let met = g.met.V.Classifier in let far = reach-bounds (not (nat_eq (value_of (number g.row.LAST)) 0)) g.row.N met.several in
     let short = rw c.bits-bits.ensures at (c.are_short.ensures c.if-are_short.true) in let paid = rw c.bits-bits.ensures at (c.are_paid.ensures c.if-are_paid.true) in
     let e = c.escape_blocks-end.ensures in
-    vector-blocks c.requires.0 c.requires.1 (omega (arith, far)) met.several met.most short c.bits-bits.result c.bits-bits.ensures paid e.stretch e.stored e.ticks
+    vector-blocks c.args.valid c.requires.0 c.requires.1 (omega (arith, far)) met.several met.most short c.bits-bits.result c.bits-bits.ensures paid e.stretch e.stored e.ticks
 
 pub escape_by_turns-next-requires : goal.escape_by_turns-next-requires
 escape_by_turns-next-requires g c =
@@ -50,7 +50,7 @@ escape_by_turns-next-requires g c =
     )
 
 -- the first bytes of a text, as they were escaped as a text of their own
-by-turns : {N : ℕ} {mode : Mode} {slack valid size : ℕ} {src : List ℕ} {at to end t0 t1 next : ℕ} {old new : Target N} → IsVectorAt mode N slack src at valid to size
+by-turns : {N : ℕ} {mode : Mode} {slack valid size : ℕ} {src : List ℕ} {at to end t0 t1 next : ℕ} {old new : Target N} → IsVectorAt mode N slack src at (at + valid) to size
     → Escapes mode slack valid 1 1 (take (length src - at) (drop at src)) (state old 0 to t0) (state new next end t1) → Escapes mode slack (at + valid) 1 1 src (state old at to t0) (state new (at + next) end t1)
 by-turns {src = src} {at = at} v e = escapes-later src (take (length src - at) (drop at src)) at (take_all (length src - at) (drop at src) (omega (arith, length-drop at src))) (omega (arith, v.inside)) e
 

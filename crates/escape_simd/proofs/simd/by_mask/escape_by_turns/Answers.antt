@@ -1,12 +1,12 @@
 use Rattle.escape_simd.proofs.Words.{◌∙◌, not, nat_eq, ap, sym, arith, is_clear, lanes_of_mask, mode_numbered, told_by, used_up}
 use denote.Param.{number, value_of}
 use Rattle.escape_simd.proofs.Stretches.{reach-bounds}
-use Rattle.escape_simd.proofs.Turns.{turns-begin, turn-place, turn-run, turn-room, turn-told, turn-end, turn-stores, turn-finished, turn-stored}
+use Rattle.escape_simd.proofs.Turns.{turns-begin, turn-place, turn-run, turn-room, turn-told, turn-left, turn-stores, turn-finished, turn-stored}
 use Rattle.escape_simd.proofs.Vectors.{vector-stores}
 use Rattle.escape_simd.proofs.simd.by_mask.escape_by_turns.Goals as goal
 
 pub store-requires : goal.store-requires
-store-requires g c = let s = vector-stores c.requires.5 in (omega arith, (omega arith, (c.requires.0, ap told_by c.requires.3, ap (λ m. m.stored) c.requires.3, s.0, s.1, s.2)))
+store-requires g c = let s = vector-stores c.args.valid (omega arith) c.requires.5 in (omega arith, (omega arith, (c.requires.0, ap told_by c.requires.3, ap (λ m. m.stored) c.requires.3, s.0, s.1, s.2)))
 
 pub turns-init : goal.turns-init
 turns-init g c =
@@ -25,7 +25,7 @@ escape_run-after-requires g c = (omega arith, turn-run c.turns.invariant c.first
 pub finish_vector-requires : goal.finish_vector-requires
 finish_vector-requires g c =
     let e = c.escape_run-after.ensures in let clear = sym c.is_clear.ensures ∙ c.if-is_clear.true in
-    (omega arith, (omega arith, (c.requires.0, omega (arith, c.requires.2, c.requires.5.few), e.ended.bytes, e.ended.from, clear, turn-end c.turns.invariant c.first_offset-flagged.ensures e.escaped e.some e.ended clear)))
+    (omega arith, (omega arith, (c.requires.0, omega (arith, c.requires.2, c.requires.5.few), clear, e.ended, turn-left c.turns.invariant c.first_offset-flagged.ensures e.escaped e.some e.ended)))
 
 pub returns-then-is_clear : goal.returns-then-is_clear
 returns-then-is_clear g c = let e = c.escape_run-after.ensures in turn-finished c.turns.invariant c.first_offset-flagged.ensures e.escaped e.some e.ended c.finish_vector.ensures

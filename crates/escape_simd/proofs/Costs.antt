@@ -8,7 +8,7 @@ use Rattle.escape_simd.proofs.Vectors.{escapes-ended, escapes-later, passed-to}
 -- The bytes before `at` were passed, at a cost of a vector for each run and each whole vector. No write reached further past what the
 -- whole ends at than those of its last bytes may.
 pub record BodySoFar {N : ℕ} (mode : Mode) (src : List ℕ) (old new : Target N) (at to end ticks_old ticks_new : ℕ) : Type 0 where
-  pub stretch : Stretch mode (rest_length mode src at + reach true N) src old new 0 at to end
+  pub stretch : Stretch mode (rest_length mode src at + reach true N) src old new (0, to) (at, end)
   pub cost : Cost mode (at / N) 0 src (state old 0 to ticks_old) (state new at end ticks_new)
 
 -- one cost and the next

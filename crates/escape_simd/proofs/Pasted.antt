@@ -12,7 +12,7 @@ counted n = grind (arith, nat_tests)
 
 -- Eight bytes were written, of which the first k are the text's that are escaped: these are a stretch of it
 block-stretch : {N : ℕ} (mode : Mode) → KeepsClean mode → (src : List ℕ) (old new : Target N) (at k to end : ℕ) (flags : List Bool) → length flags ≡ 8 → AreMarked mode flags k (drop at src) → 0 < k
-    → IsBlock flags (map shortened (take 8 (drop at src))) old new to end → to + 16 ≤ length (bytes_of old) → Stretch mode 16 src old new at (at + k) to (to + (k + flag_count flags))
+    → IsBlock flags (map shortened (take 8 (drop at src))) old new to end → to + 16 ≤ length (bytes_of old) → Stretch mode 16 src old new (at, to) (at + k, to + (k + flag_count flags))
 block-stretch mode clean src old new at k to end flags eight marked some w room =
     let bytes : List ℕ = map shortened (take 8 (drop at src)) in
     let fill : List ℕ = replicate (8 - flag_count flags) 0x5c in
@@ -84,7 +84,7 @@ paid-lanes mode left same = ap₂ (λ bytes from. lanes_of_mask mode (mask_from 
 -- Of the text's `valid` bytes at `at`, with these flags, those of so many blocks were escaped, and the blocks end at `end`. The last
 -- one may have more bytes. A block without a flag counts as a vector.
 pub record AreDone {N : ℕ} (mode : Mode) (src : List ℕ) (bits : List Bool) (old new : Target N) (at valid to end blocks : ℕ) : Type 0 where
-  pub stretch : Stretch mode 16 src old new at (at + min (8 * blocks) valid) to (end - (8 * blocks - valid))
+  pub stretch : Stretch mode 16 src old new (at, to) (at + min (8 * blocks) valid, end - (8 * blocks - valid))
   pub far : to + 8 * blocks ≤ end
   pub stored : stored_of new + flagged_blocks blocks bits ≡ stored_of old + blocks
   pub few : blocks ≤ (valid + 7) / 8
@@ -172,7 +172,7 @@ module _ {mode : Mode} {src : List ℕ} {at valid to size : ℕ} {whole : MaskOf
   -- the last block
   module _ {N : ℕ} {old new : Target N} {end blocks : ℕ} (d : AreDone mode src all old new at valid to end blocks) (over : valid ≤ 8 * blocks) where
     -- all of it is a stretch
-    pub done-stretch : Stretch mode 16 src old new at (at + valid) to (end - (8 * blocks - valid))
+    pub done-stretch : Stretch mode 16 src old new (at, to) (at + valid, end - (8 * blocks - valid))
     done-stretch = grind (arith, nat_tests, ended)
 
     -- no block after it has a flag

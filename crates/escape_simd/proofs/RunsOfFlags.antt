@@ -25,7 +25,7 @@ run-begins {N} {mode} {src} {at} t to f = record {
 }
 
 -- one byte more was escaped
-module _ {N : ℕ} {mode : Mode} {src : List ℕ} {mid new : Target N} {next end after reached : ℕ} (f : IsFlaggedAt mode src next) (stretch : Stretch mode (run_reach mode) src mid new next after end reached) (place : after ≡ next + passed mode (drop next src)) (stored : stored_of new ≡ stored_of mid) where
+module _ {N : ℕ} {mode : Mode} {src : List ℕ} {mid new : Target N} {next end after reached : ℕ} (f : IsFlaggedAt mode src next) (stretch : Stretch mode (run_reach mode) src mid new (next, end) (after, reached)) (place : after ≡ next + passed mode (drop next src)) (stored : stored_of new ≡ stored_of mid) where
   -- the place after it
   pub run-after : (next < after) × (after ≤ next + 3)
   run-after = omega (arith, place, one≤passed mode (drop next src))

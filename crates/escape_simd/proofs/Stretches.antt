@@ -20,17 +20,17 @@ pub drop_further : (xs ys : List ℕ) (i j : ℕ) → i ≤ j → drop i xs ≡ 
 drop_further xs ys i j h e = grind (arith, drop-drop (j - i) i xs, drop-drop (j - i) i ys)
 
 -- no byte of the text
-pub standing : {N : ℕ} (mode : Mode) (slack : ℕ) (src : List ℕ) (t : Target N) (at to : ℕ) → at ≤ length src → Stretch mode slack src t t at at to to
+pub standing : {N : ℕ} (mode : Mode) (slack : ℕ) (src : List ℕ) (t : Target N) (at to : ℕ) → at ≤ length src → Stretch mode slack src t t (at, to) (at, to)
 standing mode slack src t at to inside = grind arith
 
 -- it ends no earlier than it began
-pub stretch-on : {N : ℕ} {mode : Mode} {slack : ℕ} {src : List ℕ} {old new : Target N} {at next to end : ℕ} → Stretch mode slack src old new at next to end → (to + (next - at) ≤ end) × (end ≤ to + 6 * (next - at))
+pub stretch-on : {N : ℕ} {mode : Mode} {slack : ℕ} {src : List ℕ} {old new : Target N} {at next to end : ℕ} → Stretch mode slack src old new (at, to) (next, end) → (to + (next - at) ≤ end) × (end ≤ to + 6 * (next - at))
 stretch-on {mode = mode} {src = src} {at = at} {next = next} s = grind (arith, rest-between mode src at next s.forward s.inside)
 
 -- Room
 
 -- what has room has it where a stretch ends
-pub room-on : {N : ℕ} {mode : Mode} {slack more : ℕ} {src : List ℕ} {old new : Target N} {at next to end stop : ℕ} → Stretch mode slack src old new at next to end → HasRoom mode more src at stop to (length (bytes_of old)) → HasRoom mode more src next stop end (length (bytes_of new))
+pub room-on : {N : ℕ} {mode : Mode} {slack more : ℕ} {src : List ℕ} {old new : Target N} {at next to end stop : ℕ} → Stretch mode slack src old new (at, to) (next, end) → HasRoom mode more src at stop to (length (bytes_of old)) → HasRoom mode more src next stop end (length (bytes_of new))
 room-on s h = record { fits = omega (arith, s.limit, s.same_slice.len, h.fits) }
 
 -- and up to a nearer place, for the bytes behind that one and as many more
@@ -53,17 +53,17 @@ room-later {mode} {slack} {src} {at} {stop} text i j is ends h same =
 
 -- one stretch, and then the next: no write reaches further past the end of both than `more`
 pub onward_to : {N : ℕ} {mode : Mode} {slack slack2 : ℕ} {src : List ℕ} {old mid new : Target N} {at i next to p end : ℕ} (more : ℕ)
-    → Stretch mode slack src old mid at i to p → Stretch mode slack2 src mid new i next p end → p + slack ≤ end + more → slack2 ≤ more → Stretch mode more src old new at next to end
+    → Stretch mode slack src old mid (at, to) (i, p) → Stretch mode slack2 src mid new (i, p) (next, end) → p + slack ≤ end + more → slack2 ≤ more → Stretch mode more src old new (at, to) (next, end)
 onward_to more a b h l = grind (arith, drop_further)
 
 -- and with the same reach
 pub onward : {N : ℕ} {mode : Mode} {slack : ℕ} {src : List ℕ} {old mid new : Target N} {at i next to p end : ℕ}
-    → Stretch mode slack src old mid at i to p → Stretch mode slack src mid new i next p end → Stretch mode slack src old new at next to end
+    → Stretch mode slack src old mid (at, to) (i, p) → Stretch mode slack src mid new (i, p) (next, end) → Stretch mode slack src old new (at, to) (next, end)
 onward {slack = slack} a b = let on = stretch-on b in onward_to slack a b (omega (arith, on)) (omega arith)
 
 -- writes that may reach further
 pub widened : {N : ℕ} {mode : Mode} {slack : ℕ} {src : List ℕ} {old new : Target N} {at next to end : ℕ} (more : ℕ)
-    → slack ≤ more → Stretch mode slack src old new at next to end → Stretch mode more src old new at next to end
+    → slack ≤ more → Stretch mode slack src old new (at, to) (next, end) → Stretch mode more src old new (at, to) (next, end)
 widened more h s = grind (arith, drop_further)
 
 -- what stands before a place within a piece that was pasted in
@@ -79,7 +79,7 @@ pub pasted : {N : ℕ} (mode : Mode) (slack : ℕ) (src : List ℕ) (old new : T
     → take count piece ++ inner mode (drop next src) ≡ inner mode (drop at src) → n ≤ count + slack
     → escaped_of new + escaped_count mode (drop next src) ≡ escaped_of old + escaped_count mode (drop at src)
     → quotes_of new ≡ quotes_of old
-    → Stretch mode slack src old new at next to (to + count)
+    → Stretch mode slack src old new (at, to) (next, to + count)
 pasted mode slack src old new at next to count piece n same written room long some forward inside stands low escaped quotes =
     let l = ap length stands in
     grind (arith, front-paste, drop_further, drop-paste, append_assoc, length-append {A = ℕ}, length-take-le {A = ℕ}, rest-is)
@@ -94,7 +94,7 @@ pub escaped_unit : {N : ℕ} (mode : Mode) (src : List ℕ) (old new : Target N)
     → (count : ℕ) → IsSameSlice old new → bytes_of new ≡ paste (bytes_of old) to entry 8 → to + 8 ≤ length (bytes_of old) → length entry ≡ 8
     → count ≤ 8 → take count entry ≡ first_replacement mode (drop i src)
     → escaped_of new ≡ escaped_of old + 1 → stored_of new ≡ stored_of old → quotes_of new ≡ quotes_of old
-    → Stretch mode (run_reach mode) src old new i (i + passed mode (drop i src)) to (to + count)
+    → Stretch mode (run_reach mode) src old new (i, to) (i + passed mode (drop i src), to + count)
 escaped_unit mode src old new i to entry inside needed count same written room long six front escaped stored quotes =
     let l = length-drop i src in let fits = passed≤length mode (drop i src) (omega arith) in let c = sym (length-take-le count entry (omega arith)) ∙ ap length front in
     pasted mode (run_reach mode) src old new i (i + passed mode (drop i src)) to count entry 8 same written room (omega arith) six (omega arith) (omega arith)
@@ -102,21 +102,21 @@ escaped_unit mode src old new i to entry inside needed count same written room l
 
 -- a vector that was stored, and passed no byte yet
 pub stored_ahead : {N : ℕ} (mode : Mode) (slack : ℕ) (src : List ℕ) (old new : Target N) (from left to : ℕ) → IsStored slack src old new from left to
-    → from ≤ length src → Stretch mode (left + slack) src old new from from to to
+    → from ≤ length src → Stretch mode (left + slack) src old new (from, to) (from, to)
 stored_ahead mode slack src old new from left to s inside = grind arith
 
 -- a stretch up to places that are equal
 pub ended : {N : ℕ} {mode : Mode} {slack : ℕ} {src : List ℕ} {old new : Target N} {at next i to end p : ℕ}
-    → Stretch mode slack src old new at next to end → next ≡ i → end ≡ p → Stretch mode slack src old new at i to p
+    → Stretch mode slack src old new (at, to) (next, end) → next ≡ i → end ≡ p → Stretch mode slack src old new (at, to) (i, p)
 ended s e f = rw (e, f) at s
 
 -- one stretch, and the next from places that are equal
 pub onward_at : {N : ℕ} {mode : Mode} {slack : ℕ} {src : List ℕ} {old mid new : Target N} {at i j next to p q end : ℕ}
-    → Stretch mode slack src old mid at i to p → Stretch mode slack src mid new j next q end → i ≡ j → p ≡ q → Stretch mode slack src old new at next to end
+    → Stretch mode slack src old mid (at, to) (i, p) → Stretch mode slack src mid new (j, q) (next, end) → i ≡ j → p ≡ q → Stretch mode slack src old new (at, to) (next, end)
 onward_at a b e f = onward (rw (e, f) at a) b
 
 -- a stretch of a text from a place on, as a text of its own
-pub stretch-later : {N : ℕ} {mode : Mode} {slack : ℕ} {old new : Target N} {next to end : ℕ} (src : List ℕ) (at : ℕ) → at ≤ length src → Stretch mode slack (drop at src) old new 0 next to end → Stretch mode slack src old new at (at + next) to end
+pub stretch-later : {N : ℕ} {mode : Mode} {slack : ℕ} {old new : Target N} {next to end : ℕ} (src : List ℕ) (at : ℕ) → at ≤ length src → Stretch mode slack (drop at src) old new (0, to) (next, end) → Stretch mode slack src old new (at, to) (at + next, end)
 stretch-later {N} {mode} {slack} {old} {new} {next} {to} {end} src at inside s =
     let there : drop next (drop at src) ≡ drop (at + next) src = drop-drop next at src in let count = length-drop at src in
     let r0 = rest-is mode (drop at src) 0 in let r1 = rest-is mode (drop at src) next ∙ ap (λ xs. length (inner mode xs)) there in
@@ -129,7 +129,7 @@ inner-cut true xs ys = flat_map-append (replacement html) xs ys
 inner-cut false xs ys = flat_map-append (replacement json) xs ys
 
 -- what a stretch wrote in these modes, and where it ended
-module _ {N : ℕ} (is_html : Bool) {slack : ℕ} {src : List ℕ} {old new : Target N} {at next to end : ℕ} (s : Stretch (mode_of is_html) slack src old new at next to end) where
+module _ {N : ℕ} (is_html : Bool) {slack : ℕ} {src : List ℕ} {old new : Target N} {at next to end : ℕ} (s : Stretch (mode_of is_html) slack src old new (at, to) (next, end)) where
   -- the escaping of the rest, cut at its end
   parts : inner (mode_of is_html) (drop at src) ≡ inner (mode_of is_html) (slice_range src at next) ++ inner (mode_of is_html) (drop next src)
   parts = ap (inner (mode_of is_html)) (drop_split src at next s.forward) ∙ inner-cut is_html (slice_range src at next) (drop next src)

@@ -18,7 +18,7 @@ pub record IsLeftAt (mode : Mode) (N slack : ℕ) (src : List ℕ) (valid next t
 -- The last clean bytes of a vector were passed, after a run of escapes.
 abbrev pub IsFinished : {N : ℕ} → Mode → ℕ → List ℕ → ℕ → State N → State N → Type 0
 IsFinished mode slack src border old new = record {
-  stretch : Stretch mode slack src old.target new.target old.at new.at old.to new.to;
+  stretch : Stretch mode slack src old.target new.target (old.at, old.to) (new.at, new.to);
   passed : Passed mode src border new.at;
   stored : stored_of new.target + run_count mode (drop new.at src) ≤ stored_of old.target + run_count_after mode true (drop old.at src) + 1;
   classified : new.ticks + stored_of old.target ≡ old.ticks + stored_of new.target;
@@ -43,7 +43,7 @@ pub record TurnsSoFar {N : ℕ} (mode : Mode) (slack : ℕ) (src : List ℕ) (ol
   pub eight : 8 ≤ slack
   pub left : IsLeftAt mode N slack src valid next end (length (bytes_of new)) mask
   pub some : is_clear mode mask ≡ false
-  pub stretch : Stretch mode (valid - next + slack) src old new 0 next to end
+  pub stretch : Stretch mode (valid - next + slack) src old new (0, to) (next, end)
   pub ahead : CleanAhead mode src new next valid end
   pub stored : stored_of new + run_count mode (drop next src) ≤ stored_of old + run_count mode src + 1
   pub classified : ticks_new + stored_of old + 1 ≡ ticks_old + stored_of new
@@ -57,7 +57,7 @@ ahead-front mode src target from border to left whole same count within clean =
 
 -- what clean bytes that stand in a target are passed as
 pub ahead-passed : {N : ℕ} (mode : Mode) (slack : ℕ) (src : List ℕ) (target : Target N) (from border next to : ℕ) → CleanAhead mode src target from border to → from ≤ next → next ≤ border → border ≤ length src → CleanFrom mode src from next
-    → Stretch mode slack src target target from next to (to + (next - from))
+    → Stretch mode slack src target target (from, to) (next, to + (next - from))
 ahead-passed mode slack src target from border next to ahead forward before inside clean =
     let stands = ahead (next - from) (omega arith) (λ p late early. clean p late (omega (arith, early))) in
     grind (arith, take-add, append_assoc, clean_inner mode src from next forward clean, clean_rest mode src from next forward clean, clean_escaped mode src from next forward clean)
@@ -104,7 +104,7 @@ module _ {N : ℕ} {mode : Mode} {slack : ℕ} {src : List ℕ} {old mid : Targe
 
   module _ {new : Target N} {after reached : ℕ} {rest : MaskOf} (done : EscapedRun mode src mid new flagged after (end + (flagged - next)) reached) (on : flagged < after) (over : IsRunEnd mode src valid after rest) where
     -- all that was passed up to here
-    turn-stretch : Stretch mode (valid - after + slack) src old new 0 after to reached
+    turn-stretch : Stretch mode (valid - after + slack) src old new (0, to) (after, reached)
     turn-stretch =
         let p = turn-place in let h = stretch-on done.stretch in let few = reach-few mode in
         let clean = ahead-passed mode (valid - flagged + slack) src mid next valid flagged end so_far.ahead p.1 (omega arith) (omega (arith, so_far.left.inside)) p.3 in

@@ -14,7 +14,7 @@ passed-to mode src border = grind arith
 
 -- clean bytes that were stored are passed
 pub clean-stored : {N : ℕ} (mode : Mode) (slack : ℕ) (src : List ℕ) (old new : Target N) (at valid to : ℕ) → at + valid ≤ length src → CleanFrom mode src at (at + valid) → IsStored slack src old new at valid to
-    → Stretch mode slack src old new at (at + valid) to (to + valid)
+    → Stretch mode slack src old new (at, to) (at + valid, to + valid)
 clean-stored mode slack src old new at valid to inside clean s =
     let p = ahead-passed mode slack src new at (at + valid) (at + valid) to (ahead-front mode src new at (at + valid) to valid (omega arith) s.ahead) (omega arith) (omega arith) inside clean in
     onward_to slack (stored_ahead mode slack src old new at valid to s (omega (arith, inside))) (ended p refl (omega arith)) (omega arith) (omega arith)
@@ -137,7 +137,7 @@ module _ {N : ℕ} {mode : Mode} {slack : ℕ} {src : List ℕ} {at to size : �
 
     -- it was, and its runs pay for what was stored
     pub vector-blocks : {old new : Target N} {end ticks_old ticks_new : ℕ} (n : ℕ) → bits_of 64 n ≡ bits → (valid + 7) / 8 ≤ flagged_blocks 8 bits + gaps false (take valid bits) + 1
-        → Stretch mode 16 src old new at (at + valid) to end → stored_of new + flagged_blocks 8 bits ≡ stored_of old + (valid + 7) / 8 → ticks_new ≡ ticks_old + ((valid + 7) / 8 - (flagged_blocks 8 bits + 1))
+        → Stretch mode 16 src old new (at, to) (at + valid, end) → stored_of new + flagged_blocks 8 bits ≡ stored_of old + (valid + 7) / 8 → ticks_new ≡ ticks_old + ((valid + 7) / 8 - (flagged_blocks 8 bits + 1))
         → Escapes mode slack (at + valid) 1 1 src (state old at to ticks_old) (state new (at + valid) end ticks_new)
     vector-blocks n number paid s stored ticks =
         let told = told-held mode src at valid bits held in

@@ -35,7 +35,7 @@ length-plain mode text =
     omega (arith, two_quotes mode, ap length (plain-parts mode text), length-append (quote_of mode ++ inner mode text) (quote_of mode), length-append (quote_of mode) (inner mode text))
 
 -- all bytes of a text were passed: what stands for it is there
-pub all-inner : {N : ℕ} {mode : Mode} {slack : ℕ} {text : List ℕ} {old new : Target N} {to end : ℕ} → Stretch mode slack text old new 0 (length text) to end → IsWrittenAt slack (inner mode text) (bytes_of old) (bytes_of new) to end
+pub all-inner : {N : ℕ} {mode : Mode} {slack : ℕ} {text : List ℕ} {old new : Target N} {to end : ℕ} → Stretch mode slack text old new (0, to) (length text, end) → IsWrittenAt slack (inner mode text) (bytes_of old) (bytes_of new) to end
 all-inner {N} {mode} {slack} {text} {old} {new} {to} {end} s =
     let none : inner mode (drop (length text) text) ≡ [] = ap (inner mode) (drop_all (length text) text (omega arith)) ∙ inner-nil mode in
     record { ends = grind (arith, s.limit, rest-is); written = grind (arith, s.bytes, append-nil); kept = s.kept }
@@ -64,7 +64,7 @@ quoted-before {lanes} {mode} {text} {old} {mid} {new} {opened} {count} several a
 
 -- the bytes of a text were escaped to a target, between quotation marks
 module _ {N : ℕ} {mode : Mode} {text : List ℕ} {old first second new : Target N} {opened close count : ℕ}
-    (before : IsQuoted mode old first 0 opened) (between : Stretch mode (reach true N) text first second 0 (length text) opened close) (after : IsQuoted mode second new close count) where
+    (before : IsQuoted mode old first 0 opened) (between : Stretch mode (reach true N) text first second (0, opened) (length text, close)) (after : IsQuoted mode second new close count) where
   pub target_written : IsWritten N mode text (bytes_of old) (bytes_of new) count
   target_written =
       let inside = all-inner between in let more = reach true N in

@@ -27,6 +27,6 @@ pub record HasBlocks (mode : Mode) (src : List ℕ) (at valid to size : ℕ) : T
 -- The text's next eight bytes at `at`, or as many as a mask tells of if these are fewer, were escaped. `end` is the place after
 -- eight. It counts as a vector where none is flagged.
 pub record IsBlockAt {N : ℕ} (mode : Mode) (mask : MaskOf) (src : List ℕ) (old new : Target N) (at to end : ℕ) : Type 0 where
-  pub stretch : Stretch mode 16 src old new at (at + min 8 (length mask.bytes)) to (end - (8 - min 8 (length mask.bytes)))
+  pub stretch : Stretch mode 16 src old new (at, to) (at + min 8 (length mask.bytes), end - (8 - min 8 (length mask.bytes)))
   pub after : end ≡ to + 8 + flag_count (take 8 (lanes_of_mask mode mask))
   pub stored : stored_of new + flagged_blocks 1 (lanes_of_mask mode mask) ≡ stored_of old + 1

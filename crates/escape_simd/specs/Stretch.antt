@@ -23,18 +23,18 @@ rest_length mode src at = length (inner mode (drop at src))
 pub record HasRoom (mode : Mode) (slack : ℕ) (src : List ℕ) (at stop to size : ℕ) : Type 0 where
   pub fits : to + rest_length mode src at + slack ≤ size + rest_length mode src stop
 
--- The bytes of a text from `at` up to `next` were escaped into a target from `to` up to `end`. No write
--- reached further than `slack` bytes past `end`.
-pub record Stretch {N : ℕ} (mode : Mode) (slack : ℕ) (src : List ℕ) (old new : Target N) (at next to end : ℕ) : Type 0 where
+-- The bytes of a text were escaped into a target, from a place of both up to another: each is a place of the text and one of the
+-- target. No write reached further than `slack` bytes past the end.
+pub record Stretch {N : ℕ} (mode : Mode) (slack : ℕ) (src : List ℕ) (old new : Target N) (start end : ℕ × ℕ) : Type 0 where
   pub same_slice : IsSameSlice old new
-  pub forward : at ≤ next
-  pub inside : next ≤ length src
+  pub forward : start.0 ≤ end.0
+  pub inside : end.0 ≤ length src
   -- what the whole ends at stays the same
-  pub limit : end + rest_length mode src next ≡ to + rest_length mode src at
+  pub limit : end.1 + rest_length mode src end.0 ≡ start.1 + rest_length mode src start.0
   -- what is written and what is yet to be written stay one text
-  pub bytes : take end (bytes_of new) ++ inner mode (drop next src) ≡ take to (bytes_of old) ++ inner mode (drop at src)
-  pub kept : drop (end + slack) (bytes_of new) ≡ drop (end + slack) (bytes_of old)
-  pub escaped : escaped_of new + escaped_count mode (drop next src) ≡ escaped_of old + escaped_count mode (drop at src)
+  pub bytes : take end.1 (bytes_of new) ++ inner mode (drop end.0 src) ≡ take start.1 (bytes_of old) ++ inner mode (drop start.0 src)
+  pub kept : drop (end.1 + slack) (bytes_of new) ≡ drop (end.1 + slack) (bytes_of old)
+  pub escaped : escaped_of new + escaped_count mode (drop end.0 src) ≡ escaped_of old + escaped_count mode (drop start.0 src)
   pub quotes : quotes_of new ≡ quotes_of old
 
 -- what stands for a byte is told by that byte alone
@@ -78,7 +78,7 @@ pub record Cost {N : ℕ} (mode : Mode) (vectors asked : ℕ) (src : List ℕ) (
 
 -- Text was escaped from one state to another, at this cost: all bytes before `border`, and what of a separator goes past it.
 pub record Escapes {N : ℕ} (mode : Mode) (slack border vectors asked : ℕ) (src : List ℕ) (old new : State N) : Type 0 where
-  pub stretch : Stretch mode slack src old.target new.target old.at new.at old.to new.to
+  pub stretch : Stretch mode slack src old.target new.target (old.at, old.to) (new.at, new.to)
   pub passed : Passed mode src border new.at
   pub cost : Cost mode vectors asked src old new
 
@@ -92,7 +92,7 @@ HasRunRoom mode src at stop to size = HasRoom mode 8 src at stop to size ⊎ (to
 
 -- The bytes of a text from `at` up to `next` were escaped, none but such as belong to one run.
 pub record EscapedRun {N : ℕ} (mode : Mode) (src : List ℕ) (old new : Target N) (at next to end : ℕ) : Type 0 where
-  pub stretch : Stretch mode (run_reach mode) src old new at next to end
+  pub stretch : Stretch mode (run_reach mode) src old new (at, to) (next, end)
   pub stored : stored_of new ≡ stored_of old
   pub run : run_count_after mode true (drop next src) + 1 ≡ run_count mode (drop at src)
   pub alone : IsByteWise mode → (run_end mode src next ≡ run_end mode src at) × (escaped_of new ≡ escaped_of old + (next - at))

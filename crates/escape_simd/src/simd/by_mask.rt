@@ -33,7 +33,7 @@ fn finish_vector<V: LoadStore, const MODE: u8, const N: usize, const LAST: bool>
         × IsVectorAt (mode_numbered MODE) N (reach LAST N)
         src.now from border to (length (bytes_of target.old)) }
     ensures stretch { Stretch (mode_numbered MODE) (reach LAST N)
-        src.now target.old target.new from result.0 to result.1 }
+        src.now target.old target.new (from, to) result }
     ensures passed { Passed (mode_numbered MODE) src.now border result.0 }
     ensures stored { stored_of target.new + run_count (mode_numbered MODE) (drop result.0 src.now)
         ≤ stored_of target.old + run_count_after (mode_numbered MODE) true (drop from src.now) + 1 }

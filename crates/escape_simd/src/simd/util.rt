@@ -29,7 +29,7 @@ pub(crate) fn escape<const MODE: u8, const N: usize>(
     requires flagged { IsFlaggedAt (mode_numbered MODE) src.now at }
     requires room { to + 8 ≤ length (bytes_of target.old) }
     ensures stretch { Stretch (mode_numbered MODE) (run_reach (mode_numbered MODE))
-        src.now target.old target.new at result.0 to result.1 }
+        src.now target.old target.new (at, to) result }
     ensures place { result.0 ≡ at + passed (mode_numbered MODE) (drop at src.now) }
     ensures stored { stored_of target.new ≡ stored_of target.old }
 {

@@ -122,7 +122,7 @@ pub(crate) fn escape_blocks<const MODE: u8, const N: usize>(
         × (at + N ≤ length src.now)
         × HasBlocks (mode_numbered MODE) src.now at valid to (length (bytes_of target.old)) }
     ensures stretch { Stretch (mode_numbered MODE) 16
-        src.now target.old target.new at (at + valid) to result }
+        src.now target.old target.new (at, to) (at + valid, result) }
     ensures stored { stored_of target.new + flagged_blocks 8 (lanes_of_mask (mode_numbered MODE) mask.entry)
         ≡ stored_of target.old + (valid + 7) / 8 }
     ensures ticks { ticks.new ≡ ticks.old

@@ -10,10 +10,12 @@ import os
 import pickle
 import random
 import re
+import shutil
 import subprocess
 import sys
 import threading
 import time
+from importlib.metadata import distribution
 
 import escape_simd as library
 
@@ -504,6 +506,18 @@ def test_names():
     for name in library.__all__:
         assert name in hinted and (name == "__version__" or getattr(library, name).__doc__), name
     assert os.path.exists(os.path.join(folder, "py.typed"))
+
+
+def test_wheel():
+    """the wheel's tag has the newest version of glibc's symbols that its files need"""
+    if not shutil.which("readelf"):
+        raise Skipped("there is no readelf")
+    wheel = distribution("escape-simd")
+    files = [str(file.locate()) for file in wheel.files if ".so" in file.name]
+    needed = subprocess.check_output(["readelf", "--version-info", "--wide", *files], universal_newlines=True)
+    newest = max(int(number) for number in re.findall(r"Name: GLIBC_2\.(\d+)", needed))
+    tag = re.search(r"^Tag: (.*)$", wheel.read_text("WHEEL"), re.M).group(1)
+    assert tag.endswith("-manylinux_2_%d_%s" % (max(newest, 5), os.uname().machine)), tag
 
 
 def test_what_it_says():

@@ -526,6 +526,15 @@ def test_what_it_says():
     assert tried and not failed
 
 
+def test_page():
+    """the examples of docs/C.md"""
+    with open(os.path.join(os.path.dirname(C), "docs", "C.md")) as page:
+        examples = re.findall(r"^(\w+\(.*\)) +# (b?'.*')$", page.read(), re.M)
+    assert len(examples) == 4
+    for call, output in examples:
+        assert eval(call, vars(library).copy()) == ast.literal_eval(output), call
+
+
 def main():
     counts = {"passed": 0, "failed": 0, "skipped": 0}
     for test in [test for name, test in list(globals().items()) if name.startswith("test_")]:

@@ -1,6 +1,6 @@
 //! Numbers as bit masks, lowest bits first.
 ghost use Rattle.std.specs.Prelude.{◌≡◌};
-ghost use Rattle.escape_lanes.specs.Bits.{bits_of, nibbles_of, length-bits_of, length-lanes_of};
+ghost use Rattle.escape_lanes.specs.Bits.{bits_of, nibbles_of, length-bits_of};
 ghost use Rattle.escape_lanes.specs.Lanes.{AreBytes, flagged_lanes};
 
 use crate::simd::needs;
@@ -100,23 +100,32 @@ impl BitMask for u64 {
     }
 }
 
-/// Sixteen lanes of four bits each, as a vector of bytes narrowed to half its width gives them.
-///
-/// Lane `i` is bits `4i` to `4i + 3`. It is set where they aren't all zero.
+/// Sixteen lanes, told by four bits each: a lane is set where its four bits aren't all zero.
 #[derive(Drop)]
 pub struct NeonBits {
-    nibbles: u64,
+    // Bit `i` is set where lane `i` is.
+    lanes: u16,
 }
 
 impl NeonBits {
-    /// Returns the sixteen lanes of a number.
+    /// Returns the sixteen lanes of a number: lane `i` is bits `4i` to `4i + 3`.
     ///
     /// `NeonBits::new(0x200).first_offset()` is 2.
     #[inline(always)]
     pub fn new(nibbles: u64) -> Self
         ensures { ⟦<NeonBits as BitMask>⟧.bits result ≡ nibbles_of 16 nibbles }
     {
-        NeonBits { nibbles }
+        NeonBits {
+            lanes: needs::flag_bits(&flags_of_nibbles(nibbles)) as u16,
+        }
+    }
+
+    /// Returns the sixteen lanes of a number with one bit for each.
+    #[inline(always)]
+    pub(crate) fn of(lanes: u16) -> Self
+        ensures { ⟦<NeonBits as BitMask>⟧.bits result ≡ bits_of 16 lanes }
+    {
+        NeonBits { lanes }
     }
 
     /// Returns one bit for each lane, the first lane's lowest.
@@ -124,7 +133,7 @@ impl NeonBits {
     pub(crate) fn lane_bits(&self) -> u16
         ensures { bits_of 16 result ≡ ⟦<NeonBits as BitMask>⟧.bits self.now }
     {
-        needs::flag_bits(&flags_of_nibbles(self.nibbles)) as u16
+        self.lanes
     }
 }
 
@@ -144,34 +153,27 @@ impl BitMask for NeonBits {
 
     ghost LEN = { 16 };
 
-    ghost bits = { λ m. nibbles_of 16 m.nibbles };
+    ghost bits = { λ m. bits_of 16 m.lanes };
 
-    ghost count = { λ m. length-lanes_of 4 16 m.nibbles };
+    ghost count = { λ m. length-bits_of 16 m.lanes };
 
     #[inline(always)]
     fn first_offset(&self) -> usize {
-        (self.nibbles.trailing_zeros() / 4) as usize
+        self.lanes.first_offset()
     }
 
     #[inline(always)]
     fn as_little_endian(&self) -> Self {
-        NeonBits {
-            nibbles: self.nibbles,
-        }
+        NeonBits::of(self.lanes)
     }
 
     #[inline(always)]
     fn all_zero(&self) -> bool {
-        self.nibbles == 0
+        self.lanes.all_zero()
     }
 
     #[inline(always)]
     fn clear_high_bits(&self, n: usize) -> Self {
-        if n == 16 {
-            return NeonBits { nibbles: 0 };
-        }
-        NeonBits {
-            nibbles: self.nibbles & (u64::MAX >> (4 * n)),
-        }
+        NeonBits::of(self.lanes.clear_high_bits(n))
     }
 }

@@ -1,4 +1,4 @@
-//! 16 bytes in a vector of `std::simd`, with four bits a lane in the bit mask. HTML is classified
+//! 16 bytes in a vector of `std::simd`, with [`NeonBits`] as the bit mask. HTML is classified
 //! by nibble tables.
 ghost use Rattle.std.specs.Prelude.{◌≡◌, ◌+◌, map, refl};
 ghost use Rattle.std.proofs.Common.{lit≤};

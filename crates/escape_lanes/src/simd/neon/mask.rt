@@ -1,9 +1,8 @@
-//! What a comparison of two vectors returns, and four bits for each lane of it.
+//! What a comparison of two vectors returns, and its bit mask.
 ghost use Rattle.std.specs.Prelude.{◌≡◌, ◌||◌, ◌&&◌, nat_eq};
 ghost use Rattle.std.specs.Simd.Lanes.{zip2};
 ghost use Rattle.std.proofs.Common.{◌∙◌};
 ghost use Rattle.std.proofs.lemmas.List.{length-map};
-ghost use Rattle.escape_lanes.specs.Bits.{nibbles_of};
 ghost use Rattle.escape_lanes.specs.Lanes.{AreWhole, set_lanes};
 
 use crate::simd::bits::NeonBits;
@@ -83,23 +82,11 @@ impl Mask for Mask128 {
     }
 }
 
-/// Returns four bits for each lane of a mask, the first lane's lowest.
-#[inline(always)]
-fn nibbles(mask: &u8x16) -> u64
-    requires { AreWhole 255 16 mask.now }
-    ensures { nibbles_of 16 result ≡ set_lanes 255 mask.now }
-{
-    // The middle byte of two neighbouring lanes has four bits of each.
-    let pairs = u16x8::from_le_bytes(*mask) >> u16x8::splat(4);
-    let bytes = (pairs & u16x8::splat(0x88)).cast::<u8>();
-    u64x1::from_le_bytes(bytes).to_array()[0]
-}
-
-/// Returns four bits for each lane of a mask, the first lane's lowest, as a bit mask.
+/// Returns the lanes of a mask as a bit mask.
 #[inline(always)]
 pub(super) fn bits(mask: &u8x16) -> NeonBits
     requires { AreWhole 255 16 mask.now }
     ensures { ⟦<NeonBits as BitMask>⟧.bits result ≡ set_lanes 255 mask.now }
 {
-    NeonBits::new(nibbles(mask))
+    NeonBits::of(lanes::bits(mask) as u16)
 }

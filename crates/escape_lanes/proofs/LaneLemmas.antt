@@ -5,8 +5,7 @@ use Rattle.std.proofs.Math.Pow.{pow_mono}
 use Rattle.std.proofs.lemmas.Bool.{agree_below, agree_below_at}
 use Rattle.std.proofs.lemmas.List.{length-map, length-take-le, get_or-map, map_more, ext_get_or}
 use Rattle.std.proofs.lemmas.Bool.Decides.{nat_tests}
-use Rattle.std.proofs.lemmas.Nat.{and_mod, and_or_self, and_shr, or_disjoint, or_mod, or_shr}
-use Rattle.std.specs.Int.Bits.{and_zero_l, and_zero_r, or_add_and}
+use Rattle.std.proofs.lemmas.Nat.{and_mod, and_shr, or_mod, or_shr}
 use Rattle.std.proofs.lemmas.Simd.{get_or-zip2, put_chunk_is, length-zip2, tops_compared, bitmask_splat, mask_l-lt}
 use Rattle.std.specs.Simd.Lanes.{zip2, sel_l, mask_l, put_chunk, top}
 use mir.Syntax.{w8}
@@ -40,40 +39,6 @@ made one n xs bs h e l =
       lanes = lanes;
     }
 
--- an or with 0 on the left
-zero_or : (n : ℕ) → bit_or 0 n ≡ n
-zero_or n = omega (arith, or_disjoint 0 n (and_zero_l n))
-
--- an or with 0 on the right
-or_zero : (n : ℕ) → bit_or n 0 ≡ n
-or_zero n = omega (arith, or_disjoint n 0 (and_zero_r n))
-
--- an and of a number with itself
-and_self : (n : ℕ) → bit_and n n ≡ n
-and_self n = rw (zero_or n) at (and_or_self n 0)
-
--- an or of a number with itself
-or_self : (n : ℕ) → bit_or n n ≡ n
-or_self n = omega (arith, or_add_and n n, and_self n)
-
--- an or of two masks, as the mask of what either has
-or-mask : (one : ℕ) (ps qs : List Bool) → zip2 bit_or (mask_lanes one ps) (mask_lanes one qs) ≡ mask_lanes one (zip2 ◌||◌ ps qs)
-or-mask one [] qs = refl
-or-mask one (p ∷ ps) [] = refl
-or-mask one (true ∷ ps) (true ∷ qs) = rw (or_self one, or-mask one ps qs) refl
-or-mask one (true ∷ ps) (false ∷ qs) = rw (or_zero one, or-mask one ps qs) refl
-or-mask one (false ∷ ps) (true ∷ qs) = rw (zero_or one, or-mask one ps qs) refl
-or-mask one (false ∷ ps) (false ∷ qs) = ap (λ ys. 0 ∷ ys) (or-mask one ps qs)
-
--- an and of two masks, as the mask of what both have
-and-mask : (one : ℕ) (ps qs : List Bool) → zip2 bit_and (mask_lanes one ps) (mask_lanes one qs) ≡ mask_lanes one (zip2 ◌&&◌ ps qs)
-and-mask one [] qs = refl
-and-mask one (p ∷ ps) [] = refl
-and-mask one (true ∷ ps) (true ∷ qs) = rw (and_self one, and-mask one ps qs) refl
-and-mask one (true ∷ ps) (false ∷ qs) = rw (and_zero_r one, and-mask one ps qs) refl
-and-mask one (false ∷ ps) (true ∷ qs) = rw (and_zero_l one, and-mask one ps qs) refl
-and-mask one (false ∷ ps) (false ∷ qs) = ap (λ ys. 0 ∷ ys) (and-mask one ps qs)
-
 -- as many lanes in both as in one
 length-both : {X Y : Type 0} (f : X → X → Y) (n : ℕ) (xs ys : List X) → length xs ≡ n → length ys ≡ n → length (zip2 f xs ys) ≡ n
 length-both f n xs ys l r = length-zip2 f xs ys (l ∙ sym r) ∙ l
@@ -81,20 +46,6 @@ length-both f n xs ys l r = length-zip2 f xs ys (l ∙ sym r) ∙ l
 -- a truth value for each lane of a mask
 length-set : (one n : ℕ) (xs : List ℕ) → AreWhole one n xs → length (set_lanes one xs) ≡ n
 length-set one n xs l = length-map xs (λ b. nat_eq b one) ∙ l.full
-
--- two masks, lane by lane
-module _ (one n : ℕ) (xs ys : List ℕ) (h : 0 < one) (l : AreWhole one n xs) (r : AreWhole one n ys) where
-  -- the or of both
-  pub either : IsMask one n (zip2 bit_or xs ys) (zip2 ◌||◌ (set_lanes one xs) (set_lanes one ys))
-  either =
-      let e = ap (λ zs. zip2 bit_or zs ys) l.whole ∙ ap (λ zs. zip2 bit_or (mask_lanes one (set_lanes one xs)) zs) r.whole ∙ or-mask one (set_lanes one xs) (set_lanes one ys) in
-      made one n _ _ h e (length-both ◌||◌ n _ _ (length-set one n xs l) (length-set one n ys r))
-
-  -- the and of both
-  pub both : IsMask one n (zip2 bit_and xs ys) (zip2 ◌&&◌ (set_lanes one xs) (set_lanes one ys))
-  both =
-      let e = ap (λ zs. zip2 bit_and zs ys) l.whole ∙ ap (λ zs. zip2 bit_and (mask_lanes one (set_lanes one xs)) zs) r.whole ∙ and-mask one (set_lanes one xs) (set_lanes one ys) in
-      made one n _ _ h e (length-both ◌&&◌ n _ _ (length-set one n xs l) (length-set one n ys r))
 
 -- a choice between all bits and none
 chosen : (bs : List Bool) (n : ℕ) → length bs ≡ n → sel_l bs (replicate n 255) (replicate n 0) ≡ mask_lanes 255 bs
@@ -192,16 +143,16 @@ bit-and (suc zero) (suc (suc q)) hp hq = absurd (omega arith)
 bit-and (suc (suc p)) q hp hq = absurd (omega arith)
 
 -- an or of two numbers, bit by bit
-pub bits-or : (k m n : ℕ) → bits_of k (bit_or m n) ≡ zip2 ◌||◌ (bits_of k m) (bits_of k n)
+pub bits_or : (k m n : ℕ) → bits_of k (bit_or m n) ≡ zip2 ◌||◌ (bits_of k m) (bits_of k n)
 unfolding bits_of
-bits-or zero m n = refl
-bits-or (suc k) m n = rw (or_mod m n 1, or_shr m n 1, bit-or (m % 2) (n % 2) (omega arith) (omega arith), bits-or k (m / 2) (n / 2)) refl
+bits_or zero m n = refl
+bits_or (suc k) m n = rw (or_mod m n 1, or_shr m n 1, bit-or (m % 2) (n % 2) (omega arith) (omega arith), bits_or k (m / 2) (n / 2)) refl
 
 -- the same for an and
-pub bits-and : (k m n : ℕ) → bits_of k (bit_and m n) ≡ zip2 ◌&&◌ (bits_of k m) (bits_of k n)
+pub bits_and : (k m n : ℕ) → bits_of k (bit_and m n) ≡ zip2 ◌&&◌ (bits_of k m) (bits_of k n)
 unfolding bits_of
-bits-and zero m n = refl
-bits-and (suc k) m n = rw (and_mod m n 1, and_shr m n 1, bit-and (m % 2) (n % 2) (omega arith) (omega arith), bits-and k (m / 2) (n / 2)) refl
+bits_and zero m n = refl
+bits_and (suc k) m n = rw (and_mod m n 1, and_shr m n 1, bit-and (m % 2) (n % 2) (omega arith) (omega arith), bits_and k (m / 2) (n / 2)) refl
 
 -- two vectors, joined lane by lane
 zipped : (f : ℕ → ℕ → ℕ) (n : ℕ) (xs ys zs : List ℕ) → length xs ≡ n → length ys ≡ n → length zs ≡ n

@@ -9,6 +9,7 @@ pub mod escape_mask;
 mod front;
 mod halves;
 pub mod lane_bits;
+pub mod lane_mask;
 mod lanes;
 pub mod last;
 pub mod mask;
@@ -21,6 +22,7 @@ pub mod target;
 mod ticks;
 pub mod traits;
 pub mod v128;
+pub mod vector;
 mod writes;
 
 pub use classifier::Classifier;

@@ -8,89 +8,30 @@ ghost use Rattle.escape_lanes.specs.Mode.{mode_of};
 ghost use Rattle.escape_lanes.specs.Nibble.{at_low_half, at_high_half};
 ghost use Rattle.escape_lanes.specs.Replacement.{needs_escape};
 
-mod mask;
 mod script;
 
 use crate::simd::classifier::Classifier;
+use crate::simd::lane_mask::LaneMask;
 use crate::simd::last::{self, LoadLast};
 use crate::simd::mode::{is_quoted, is_script};
+use crate::simd::needs;
 use crate::simd::target::Ticks;
 use crate::simd::traits::{BitMask, Simd};
-use crate::simd::{lanes, needs};
+use crate::simd::vector::Vector;
 use crate::tables::HTML_CANDIDATE_TAB;
-pub use mask::Mask256;
-use mask::bits;
 pub use script::script_mask;
 use std::simd::prelude::*;
 
 /// A vector of 32 bytes.
-#[derive(Debug, Clone, Copy)]
-pub struct Simd256u {
-    lanes: u8x32,
-    ghost are_bytes: { AreBytes 32 lanes },
-}
+pub type Simd256u = Vector<1, 32>;
 
-impl Simd for Simd256u {
-    const LANES: usize = 32;
-
-    type Element = u8;
-
-    type Mask = Mask256;
-
-    ghost LANES = { 32 };
-
-    ghost lanes = { λ v. v.lanes };
-
-    ghost number = { λ e. e };
-
-    ghost width = { λ v. v.are_bytes.full };
-
-    ghost bytes = { λ v. v.are_bytes.small };
-
-    ghost mask_width = { refl };
-
-    ghost few = { lit≤ tt };
-
-    #[inline(always)]
-    fn loadu(src: &[u8]) -> Self {
-        Simd256u {
-            lanes: lanes::load(src),
-        }
-    }
-
-    #[inline(always)]
-    fn storeu(&self, dst: &mut [u8]) {
-        lanes::store(&self.lanes, dst);
-    }
-
-    #[inline(always)]
-    fn eq(&self, rhs: &Self) -> Mask256 {
-        Mask256 {
-            bits: bits(&lanes::eq(&self.lanes, &rhs.lanes)),
-        }
-    }
-
-    #[inline(always)]
-    fn splat(elem: u8) -> Self {
-        Simd256u {
-            lanes: lanes::splat(elem),
-        }
-    }
-
-    #[inline(always)]
-    fn le(&self, rhs: &Self) -> Mask256 {
-        Mask256 {
-            bits: bits(&lanes::le(&self.lanes, &rhs.lanes)),
-        }
-    }
-}
+/// A truth value for each lane of a [`Simd256u`].
+pub type Mask256 = LaneMask<1, 32>;
 
 impl LoadLast for Simd256u {
     #[inline(always)]
     fn load_last(src: &[u8], count: usize) -> Self {
-        Simd256u {
-            lanes: last::last_32(src, count),
-        }
+        Vector::of(last::last_32(src, count))
     }
 }
 
@@ -145,10 +86,11 @@ pub fn escaped_mask<const HTML: bool>(v: &Simd256u, ticks: &mut Ticks) -> u32
     ensures tick { ticks.new ≡ ticks.old + 1 }
 {
     ticks.tick();
+    let lanes = v.lanes();
     let flags = if HTML {
-        needs::html_needs_by_candidates(&v.lanes, &by_low_half(&v.lanes, &HTML_CANDIDATE_TAB))
+        needs::html_needs_by_candidates(&lanes, &by_low_half(&lanes, &HTML_CANDIDATE_TAB))
     } else {
-        needs::json_needs(&v.lanes)
+        needs::json_needs(&lanes)
     };
     needs::flag_bits(&flags) as u32
 }

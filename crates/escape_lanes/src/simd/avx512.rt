@@ -8,88 +8,30 @@ ghost use Rattle.escape_lanes.specs.Mode.{mode_of};
 ghost use Rattle.escape_lanes.specs.Nibble.{at_low_half, at_high_half};
 ghost use Rattle.escape_lanes.specs.Replacement.{needs_escape};
 
-mod mask;
 mod script;
 
 use crate::simd::classifier::Classifier;
+use crate::simd::lane_mask::LaneMask;
 use crate::simd::last::{self, LoadLast};
 use crate::simd::mode::{is_quoted, is_script};
+use crate::simd::needs;
 use crate::simd::target::Ticks;
 use crate::simd::traits::{BitMask, Simd};
-use crate::simd::{lanes, needs};
+use crate::simd::vector::Vector;
 use crate::tables::HTML_CANDIDATE_TAB;
-pub use mask::Mask512;
 pub use script::script_mask;
 use std::simd::prelude::*;
 
 /// A vector of 64 bytes.
-#[derive(Debug, Clone, Copy)]
-pub struct Simd512u {
-    lanes: u8x64,
-    ghost are_bytes: { AreBytes 64 lanes },
-}
+pub type Simd512u = Vector<1, 64>;
 
-impl Simd for Simd512u {
-    const LANES: usize = 64;
-
-    type Element = u8;
-
-    type Mask = Mask512;
-
-    ghost LANES = { 64 };
-
-    ghost lanes = { λ v. v.lanes };
-
-    ghost number = { λ e. e };
-
-    ghost width = { λ v. v.are_bytes.full };
-
-    ghost bytes = { λ v. v.are_bytes.small };
-
-    ghost mask_width = { refl };
-
-    ghost few = { lit≤ tt };
-
-    #[inline(always)]
-    fn loadu(src: &[u8]) -> Self {
-        Simd512u {
-            lanes: lanes::load(src),
-        }
-    }
-
-    #[inline(always)]
-    fn storeu(&self, dst: &mut [u8]) {
-        lanes::store(&self.lanes, dst);
-    }
-
-    #[inline(always)]
-    fn eq(&self, rhs: &Self) -> Mask512 {
-        Mask512 {
-            bits: lanes::bits(&lanes::eq(&self.lanes, &rhs.lanes)),
-        }
-    }
-
-    #[inline(always)]
-    fn splat(elem: u8) -> Self {
-        Simd512u {
-            lanes: lanes::splat(elem),
-        }
-    }
-
-    #[inline(always)]
-    fn le(&self, rhs: &Self) -> Mask512 {
-        Mask512 {
-            bits: lanes::bits(&lanes::le(&self.lanes, &rhs.lanes)),
-        }
-    }
-}
+/// A truth value for each lane of a [`Simd512u`].
+pub type Mask512 = LaneMask<1, 64>;
 
 impl LoadLast for Simd512u {
     #[inline(always)]
     fn load_last(src: &[u8], count: usize) -> Self {
-        Simd512u {
-            lanes: last::last_64(src, count),
-        }
+        Vector::of(last::last_64(src, count))
     }
 }
 
@@ -144,10 +86,11 @@ pub fn escaped_mask<const HTML: bool>(v: &Simd512u, ticks: &mut Ticks) -> u64
     ensures tick { ticks.new ≡ ticks.old + 1 }
 {
     ticks.tick();
+    let lanes = v.lanes();
     let flags = if HTML {
-        needs::html_needs_by_candidates(&v.lanes, &by_low_half(&v.lanes, &HTML_CANDIDATE_TAB))
+        needs::html_needs_by_candidates(&lanes, &by_low_half(&lanes, &HTML_CANDIDATE_TAB))
     } else {
-        needs::json_needs(&v.lanes)
+        needs::json_needs(&lanes)
     };
     needs::flag_bits(&flags)
 }

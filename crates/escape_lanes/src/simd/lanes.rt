@@ -2,7 +2,7 @@
 //!
 //! A mask is a vector of bytes, 0xff in each lane that is set and 0 in the others, since the masks
 //! of `std::simd` have no `Debug`.
-ghost use Rattle.std.specs.Prelude.{◌≡◌, ◌||◌, ◌&&◌, ◌++◌, ◌<◌, ◌≤◌, ◌^◌, length, take, drop, replicate, nat_eq, nat_le};
+ghost use Rattle.std.specs.Prelude.{◌≡◌, ◌++◌, ◌<◌, ◌≤◌, ◌^◌, length, take, drop, replicate, nat_eq, nat_le};
 ghost use Rattle.std.specs.Simd.Lanes.{zip2};
 ghost use Rattle.escape_lanes.specs.Bits.{bits_of};
 ghost use Rattle.escape_lanes.specs.Lanes.{AreBytes, AreWhole, set_lanes};
@@ -58,28 +58,6 @@ pub(crate) fn le<const N: usize>(a: &Simd<u8, N>, b: &Simd<u8, N>) -> Simd<u8, N
     ensures lanes { set_lanes 255 result ≡ zip2 nat_le a.now b.now }
 {
     a.simd_le(*b).select(Simd::splat(255), Simd::splat(0))
-}
-
-/// Returns the lanes that are set in either mask.
-#[inline(always)]
-pub(crate) fn or<const N: usize>(a: &Simd<u8, N>, b: &Simd<u8, N>) -> Simd<u8, N>
-    requires left { AreWhole 255 N a.now }
-    requires right { AreWhole 255 N b.now }
-    ensures whole { AreWhole 255 N result }
-    ensures lanes { set_lanes 255 result ≡ zip2 ◌||◌ (set_lanes 255 a.now) (set_lanes 255 b.now) }
-{
-    *a | *b
-}
-
-/// Returns the lanes that are set in both masks.
-#[inline(always)]
-pub(crate) fn and<const N: usize>(a: &Simd<u8, N>, b: &Simd<u8, N>) -> Simd<u8, N>
-    requires left { AreWhole 255 N a.now }
-    requires right { AreWhole 255 N b.now }
-    ensures whole { AreWhole 255 N result }
-    ensures lanes { set_lanes 255 result ≡ zip2 ◌&&◌ (set_lanes 255 a.now) (set_lanes 255 b.now) }
-{
-    *a & *b
 }
 
 /// Returns one bit for each lane of a mask, the first lane's lowest.

@@ -4,12 +4,12 @@
 ghost use Rattle.std.specs.Prelude.{◌≡◌, ◌||◌, ℕ, ◌<◌, ◌≤◌, ◌^◌, ◌%◌, length, map, nat_eq, nat_le, slice_index, bit_and, bit_xor, ◌-◌};
 ghost use Rattle.std.specs.Simd.Lanes.{zip2};
 ghost use Rattle.escape_lanes.specs.Bits.{bits_of};
-ghost use Rattle.escape_lanes.specs.Lanes.{AreBytes, AreWhole, set_lanes, flagged_lanes, is_one_of};
+ghost use Rattle.escape_lanes.specs.Lanes.{AreBytes, flagged_lanes, is_one_of};
 ghost use Rattle.escape_lanes.specs.Mode.{json, html, script};
 ghost use Rattle.escape_lanes.specs.Nibble.{html_flags, html_candidate, script_low, script_high};
 ghost use Rattle.escape_lanes.specs.Replacement.{needs_escape};
 
-use crate::simd::lanes::{eq, le, splat};
+use crate::simd::lanes::{eq, splat};
 use std::simd::prelude::*;
 
 /// Returns one bit for each lane that is flagged, the first lane's lowest.
@@ -46,16 +46,6 @@ pub(crate) fn one_of<const N: usize>(one: &Simd<u8, N>, other: &Simd<u8, N>) -> 
     ensures lanes { flagged_lanes result ≡ zip2 is_one_of (flagged_lanes one.now) (flagged_lanes other.now) }
 {
     *one ^ *other
-}
-
-/// A mask that is set where a lane is flagged.
-#[inline(always)]
-pub(crate) fn flag_mask<const N: usize>(flags: &Simd<u8, N>) -> Simd<u8, N>
-    requires { AreBytes N flags.now }
-    ensures whole { AreWhole 255 N result }
-    ensures lanes { set_lanes 255 result ≡ flagged_lanes flags.now }
-{
-    le(&splat(0x80), flags)
 }
 
 /// Returns flags where the lane is `byte`.

@@ -7,91 +7,33 @@ ghost use Rattle.escape_lanes.specs.Mode.{mode_of};
 ghost use Rattle.escape_lanes.specs.Nibble.{at_low_half, at_high_half, html_flags};
 ghost use Rattle.escape_lanes.specs.Replacement.{needs_escape};
 
-mod mask;
 mod script;
 
 use crate::simd::bits::NeonBits;
 use crate::simd::classifier::Classifier;
+use crate::simd::lane_mask::LaneMask;
 use crate::simd::last::{self, LoadLast};
 use crate::simd::mask::Mask;
 use crate::simd::mode::{is_quoted, is_script};
+use crate::simd::needs;
 use crate::simd::target::Ticks;
 use crate::simd::traits::{BitMask, Simd};
-use crate::simd::{lanes, needs};
+use crate::simd::vector::Vector;
 use crate::tables::{HTML_HI_NIBBLE_TAB, HTML_LO_NIBBLE_TAB};
-pub use mask::Mask128;
 pub use script::script_mask;
 pub(crate) use script::script_needs;
 use std::simd::prelude::*;
 
 /// A vector of 16 bytes.
-#[derive(Debug, Clone, Copy)]
-pub struct Simd128u {
-    lanes: u8x16,
-    ghost are_bytes: { AreBytes 16 lanes },
-}
+pub type Simd128u = Vector<4, 16>;
 
-impl Simd for Simd128u {
-    const LANES: usize = 16;
-
-    type Element = u8;
-
-    type Mask = Mask128;
-
-    ghost LANES = { 16 };
-
-    ghost lanes = { λ v. v.lanes };
-
-    ghost number = { λ e. e };
-
-    ghost width = { λ v. v.are_bytes.full };
-
-    ghost bytes = { λ v. v.are_bytes.small };
-
-    ghost mask_width = { refl };
-
-    ghost few = { lit≤ tt };
-
-    #[inline(always)]
-    fn loadu(src: &[u8]) -> Self {
-        Simd128u {
-            lanes: lanes::load(src),
-        }
-    }
-
-    #[inline(always)]
-    fn storeu(&self, dst: &mut [u8]) {
-        lanes::store(&self.lanes, dst);
-    }
-
-    #[inline(always)]
-    fn eq(&self, rhs: &Self) -> Mask128 {
-        Mask128 {
-            lanes: lanes::eq(&self.lanes, &rhs.lanes),
-        }
-    }
-
-    #[inline(always)]
-    fn splat(elem: u8) -> Self {
-        Simd128u {
-            lanes: lanes::splat(elem),
-        }
-    }
-
-    #[inline(always)]
-    fn le(&self, rhs: &Self) -> Mask128 {
-        Mask128 {
-            lanes: lanes::le(&self.lanes, &rhs.lanes),
-        }
-    }
-}
+/// A truth value for each lane of a [`Simd128u`].
+pub type Mask128 = LaneMask<4, 16>;
 
 impl LoadLast for Simd128u {
     #[inline(always)]
     fn load_last(src: &[u8], count: usize) -> Self {
-        Simd128u {
-            lanes: last::last_16(src, count),
-        }
+        Vector::of(last::last_16(src, count))
     }
 }
 
@@ -155,14 +97,13 @@ pub fn escaped_mask_vec<const HTML: bool>(v: &Simd128u, ticks: &mut Ticks) -> Ma
     ensures tick { ticks.new ≡ ticks.old + 1 }
 {
     ticks.tick();
+    let lanes = v.lanes();
     let flags = if HTML {
-        needs::html_needs(&v.lanes, &nibble_flags(&v.lanes))
+        needs::html_needs(&lanes, &nibble_flags(&lanes))
     } else {
-        needs::json_needs(&v.lanes)
+        needs::json_needs(&lanes)
     };
-    Mask128 {
-        lanes: needs::flag_mask(&flags),
-    }
+    LaneMask::new(needs::flag_bits(&flags))
 }
 
 /// Returns the bit mask of [`escaped_mask_vec`], which is called once, so it ticks once.

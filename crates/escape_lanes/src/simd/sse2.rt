@@ -6,87 +6,29 @@ ghost use Rattle.escape_lanes.specs.Lanes.{AreBytes, flagged_lanes};
 ghost use Rattle.escape_lanes.specs.Mode.{html, mode_of};
 ghost use Rattle.escape_lanes.specs.Replacement.{needs_escape};
 
-mod mask;
 mod script;
 
 use crate::simd::classifier::Classifier;
+use crate::simd::lane_mask::LaneMask;
 use crate::simd::last::{self, LoadLast};
 use crate::simd::mode::{is_quoted, is_script};
+use crate::simd::needs;
 use crate::simd::target::Ticks;
 use crate::simd::traits::{BitMask, Simd};
-use crate::simd::{lanes, needs};
-pub use mask::Mask128;
+use crate::simd::vector::Vector;
 pub use script::script_mask;
 use std::simd::prelude::*;
 
 /// A vector of 16 bytes.
-#[derive(Debug, Clone, Copy)]
-pub struct Simd128u {
-    lanes: u8x16,
-    ghost are_bytes: { AreBytes 16 lanes },
-}
+pub type Simd128u = Vector<1, 16>;
 
-impl Simd for Simd128u {
-    const LANES: usize = 16;
-
-    type Element = u8;
-
-    type Mask = Mask128;
-
-    ghost LANES = { 16 };
-
-    ghost lanes = { λ v. v.lanes };
-
-    ghost number = { λ e. e };
-
-    ghost width = { λ v. v.are_bytes.full };
-
-    ghost bytes = { λ v. v.are_bytes.small };
-
-    ghost mask_width = { refl };
-
-    ghost few = { lit≤ tt };
-
-    #[inline(always)]
-    fn loadu(src: &[u8]) -> Self {
-        Simd128u {
-            lanes: lanes::load(src),
-        }
-    }
-
-    #[inline(always)]
-    fn storeu(&self, dst: &mut [u8]) {
-        lanes::store(&self.lanes, dst);
-    }
-
-    #[inline(always)]
-    fn eq(&self, rhs: &Self) -> Mask128 {
-        Mask128 {
-            lanes: lanes::eq(&self.lanes, &rhs.lanes),
-        }
-    }
-
-    #[inline(always)]
-    fn splat(elem: u8) -> Self {
-        Simd128u {
-            lanes: lanes::splat(elem),
-        }
-    }
-
-    #[inline(always)]
-    fn le(&self, rhs: &Self) -> Mask128 {
-        Mask128 {
-            lanes: lanes::le(&self.lanes, &rhs.lanes),
-        }
-    }
-}
+/// A truth value for each lane of a [`Simd128u`].
+pub type Mask128 = LaneMask<1, 16>;
 
 impl LoadLast for Simd128u {
     #[inline(always)]
     fn load_last(src: &[u8], count: usize) -> Self {
-        Simd128u {
-            lanes: last::last_16(src, count),
-        }
+        Vector::of(last::last_16(src, count))
     }
 }
 
@@ -141,10 +83,11 @@ pub fn escaped_mask<const HTML: bool>(v: &Simd128u, ticks: &mut Ticks) -> u16
     ensures tick { ticks.new ≡ ticks.old + 1 }
 {
     ticks.tick();
+    let lanes = v.lanes();
     let flags = if HTML {
-        html_needs(&v.lanes)
+        html_needs(&lanes)
     } else {
-        needs::json_needs(&v.lanes)
+        needs::json_needs(&lanes)
     };
     needs::flag_bits(&flags) as u16
 }

@@ -32,5 +32,5 @@ pub fn script_mask(v: &Simd256u, ticks: &mut Ticks) -> u32
     ensures tick { ticks.new ≡ ticks.old + 1 }
 {
     ticks.tick();
-    needs::flag_bits(&script_needs(&v.lanes)) as u32
+    needs::flag_bits(&script_needs(&v.lanes())) as u32
 }

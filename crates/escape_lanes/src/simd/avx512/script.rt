@@ -32,5 +32,5 @@ pub fn script_mask(v: &Simd512u, ticks: &mut Ticks) -> u64
     ensures tick { ticks.new ≡ ticks.old + 1 }
 {
     ticks.tick();
-    needs::flag_bits(&script_needs(&v.lanes))
+    needs::flag_bits(&script_needs(&v.lanes()))
 }

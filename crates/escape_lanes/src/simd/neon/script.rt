@@ -6,7 +6,6 @@ ghost use Rattle.escape_lanes.specs.Replacement.{needs_escape};
 
 use crate::simd::bits::NeonBits;
 use crate::simd::needs;
-use crate::simd::neon::mask::bits;
 use crate::simd::neon::{Simd128u, by_high_half, by_low_half};
 use crate::simd::target::Ticks;
 use crate::simd::traits::{BitMask, Simd};
@@ -34,5 +33,5 @@ pub fn script_mask(v: &Simd128u, ticks: &mut Ticks) -> NeonBits
     ensures tick { ticks.new ≡ ticks.old + 1 }
 {
     ticks.tick();
-    bits(&needs::flag_mask(&script_needs(&v.lanes)))
+    NeonBits::of(needs::flag_bits(&script_needs(&v.lanes())) as u16)
 }

@@ -19,5 +19,5 @@ pub fn script_mask(v: &Simd128u, ticks: &mut Ticks) -> u16
     ensures tick { ticks.new ≡ ticks.old + 1 }
 {
     ticks.tick();
-    needs::flag_bits(&script_needs(&v.lanes)) as u16
+    needs::flag_bits(&script_needs(&v.lanes())) as u16
 }

@@ -24,6 +24,7 @@ impl BitOr for Mask128 {
     ghost bitor_gives = { λ a b c. bits_of 16 c.bits ≡ zip2 ◌||◌ (bits_of 16 a.bits) (bits_of 16 b.bits) };
 
     #[inline(always)]
+    #[tactic(auto, using(crate::proofs::LaneLemmas::bits_or))]
     fn bitor(self, rhs: Mask128) -> Mask128 {
         Mask128 {
             bits: self.bits | rhs.bits,
@@ -37,6 +38,7 @@ impl BitAnd for Mask128 {
     ghost bitand_gives = { λ a b c. bits_of 16 c.bits ≡ zip2 ◌&&◌ (bits_of 16 a.bits) (bits_of 16 b.bits) };
 
     #[inline(always)]
+    #[tactic(auto, using(crate::proofs::LaneLemmas::bits_and))]
     fn bitand(self, rhs: Mask128) -> Mask128 {
         Mask128 {
             bits: self.bits & rhs.bits,
@@ -48,6 +50,7 @@ impl BitOrAssign for Mask128 {
     ghost bitor_assign_gives = { λ a b c. bits_of 16 c.bits ≡ zip2 ◌||◌ (bits_of 16 a.bits) (bits_of 16 b.bits) };
 
     #[inline(always)]
+    #[tactic(auto, using(crate::proofs::LaneLemmas::bits_or))]
     fn bitor_assign(&mut self, rhs: Mask128) {
         self.bits |= rhs.bits;
     }

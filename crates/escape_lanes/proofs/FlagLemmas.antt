@@ -7,7 +7,7 @@ use Rattle.std.proofs.lemmas.Nat.{and_le_l, or_shr, or_of_8, xor_lt, xor_shr, xo
 use Rattle.std.proofs.lemmas.Simd.{get_or-zip2, length-zip2, map-map, splat_is_map, tops_compared, zip2_of_maps, zip2_splat, zip2_splat_left}
 use Rattle.std.specs.Simd.Lanes.{zip2, sel_l, top}
 use mir.Syntax.{w8}
-use Rattle.escape_lanes.specs.Lanes.{AreBytes, mask_lanes, flagged_lanes, is_one_of}
+use Rattle.escape_lanes.specs.Lanes.{AreBelow, AreBytes, mask_lanes, flagged_lanes, is_one_of}
 use Rattle.escape_lanes.proofs.LaneLemmas.{IsMask, bit-or, bit-xor, map-agree, map-bytes}
 
 -- the lanes xs are flags that are set where bs is
@@ -15,9 +15,9 @@ pub record AreFlags (n : ℕ) (xs : List ℕ) (bs : List Bool) : Type 0 where
   pub bytes : AreBytes n xs
   pub lanes : flagged_lanes xs ≡ bs
 
--- what was computed byte by byte from bytes is bytes
-bytes-map : (f : ℕ → ℕ) → ((b : ℕ) → b < 256 → f b < 256) → (n : ℕ) (v : List ℕ) → AreBytes n v → AreBytes n (map f v)
-bytes-map f small n v bytes = record {
+-- what was computed byte by byte is below the bound of each
+pub below-map : (bound : ℕ) (f : ℕ → ℕ) → ((b : ℕ) → b < 256 → f b < bound) → (n : ℕ) (v : List ℕ) → AreBytes n v → AreBelow bound n (map f v)
+below-map bound f small n v bytes = record {
   full = length-map v f ∙ bytes.full;
   small = λ k h. rw (get_or-map f v k 0 0 (omega (arith, bytes.full))) (small (get_or v k 0) (bytes.small k h));
 }
@@ -28,7 +28,7 @@ bytes-by f n v xs bytes is small =
     let below : (b : ℕ) → b < 256 → f b < 256 = λ b h.
     let test : nat_lt (f b) 256 ≡ true = agree_below_at (λ b. nat_lt (f b) 256) (λ b. true) 256 b small h in
     grind (arith, nat_tests) in
-    rw is (bytes-map f below n v bytes)
+    rw is (below-map 256 f below n v bytes)
 
 -- it flags the lanes that pass a test, likewise
 pub flags-by : (f : ℕ → ℕ) (need : ℕ → Bool) (n : ℕ) (v xs : List ℕ) → AreBytes n v → xs ≡ map f v
@@ -69,11 +69,11 @@ splat_left t n y xs full = zip2_splat_left t y n xs full ∙ sym (zip2_splat (λ
 
 -- some bits of each lane
 pub bytes-and : (n : ℕ) (v : List ℕ) (m : ℕ) → AreBytes n v → AreBytes n (zip2 bit_and v (replicate n m))
-bytes-and n v m bytes = rw (zip2_splat bit_and v n m bytes.full) (bytes-map (λ b. bit_and b m) (λ b h. omega (arith, and_le_l b m)) n v bytes)
+bytes-and n v m bytes = rw (zip2_splat bit_and v n m bytes.full) (below-map 256 (λ b. bit_and b m) (λ b h. omega (arith, and_le_l b m)) n v bytes)
 
 -- some bits of each lane flipped
 pub bytes-xor : (n : ℕ) (v : List ℕ) (m : ℕ) → m < 256 → AreBytes n v → AreBytes n (zip2 bit_xor v (replicate n m))
-bytes-xor n v m h bytes = rw (zip2_splat bit_xor v n m bytes.full) (bytes-map (λ b. bit_xor b m) (λ b l. xor_lt 8 b m l h) n v bytes)
+bytes-xor n v m h bytes = rw (zip2_splat bit_xor v n m bytes.full) (below-map 256 (λ b. bit_xor b m) (λ b l. xor_lt 8 b m l h) n v bytes)
 
 -- a choice, lane by lane
 chosen-map : (c : ℕ → Bool) (p q : ℕ → ℕ) (v : List ℕ) → sel_l (map c v) (map p v) (map q v) ≡ map (λ b. cond (c b) (p b) (q b)) v
@@ -114,7 +114,7 @@ pub flags-at_most : (n : ℕ) (v : List ℕ) (m : ℕ) → m < 128 → (bytes : 
 flags-at_most n v m h bytes =
     let is = left-lanes n v bytes (128 + m) in
     record {
-      bytes = rw is (bytes-map (left_of (128 + m)) (λ b l. left-lt (128 + m) b) n v bytes);
+      bytes = rw is (below-map 256 (left_of (128 + m)) (λ b l. left-lt (128 + m) b) n v bytes);
       lanes = ap flagged_lanes is ∙ map-map (λ b. nat_le 0x80 b) (left_of (128 + m)) v ∙ map-agree (λ b. nat_le 0x80 (left_of (128 + m) b)) (λ b. nat_le b m) (λ b l. left-most m b h l) n v bytes;
     }
 

@@ -5,77 +5,59 @@ use Rattle.std.proofs.lemmas.Nat.{and_le_r}
 use Rattle.std.proofs.lemmas.Simd.{swz_l, SwzOk, SwzOk-from_below, length-swz_l, get_or-swz_l_below, zip2_splat, zip2_of_maps, map-map, Each1-from_get_or}
 use Rattle.std.specs.Simd.Lanes.{zip2}
 use mir.Syntax.{w8}
-use Rattle.escape_lanes.specs.Lanes.{AreBytes}
+use Rattle.escape_lanes.specs.Lanes.{AreBelow, AreBytes}
 use Rattle.escape_lanes.specs.Mode.{html}
 use Rattle.escape_lanes.specs.Nibble.{at_low_half, at_high_half, html_flags, html_candidate}
 use Rattle.escape_lanes.specs.Replacement.{needs_escape}
+use Rattle.escape_lanes.proofs.FlagLemmas.{below-map}
 use Rattle.escape_lanes.proofs.LaneLemmas.{map-bytes}
 
--- look-ups at the places p b below 16, one for each lane b of a vector
-module _ (p : ℕ → ℕ) (small : (b : ℕ) → b < 256 → p b < 16) (n : ℕ) (v : List ℕ) (bytes : AreBytes n v) (blocks : n % 16 ≡ 0) where
-  -- each place, read from the list of places
-  place : (i : ℕ) → i < n → get_or (map p v) i 0 ≡ p (get_or v i 0)
-  place i h = get_or-map p v i 0 0 (omega (arith, bytes.full))
-
-  -- each place is below 16
-  below : (i : ℕ) → i < n → get_or (map p v) i 0 < 16
-  below i h = rw (place i h) (small (get_or v i 0) (bytes.small i h))
-
-  -- the look-ups stay within their blocks
-  places_ok : SwzOk w8 16 n 0 (map p v)
+-- look-ups at places below 16, one for each lane of a vector
+module _ (n : ℕ) (js : List ℕ) (places : AreBelow 16 n js) (blocks : n % 16 ≡ 0) where
+  -- they stay within their blocks
+  pub places_ok : SwzOk w8 16 n 0 js
   places_ok =
-      let l : length (map p v) ≡ n = length-map v p ∙ bytes.full in
-      SwzOk-from_below w8 16 (n / 16) n 0 (map p v) (omega arith) (omega arith)
-      (Each1-from_get_or (λ j. j < 16) (map p v) 0 (λ i h. below i (omega arith)))
+      let l = places.full in
+      SwzOk-from_below w8 16 (n / 16) n 0 js (omega arith) (omega arith)
+      (Each1-from_get_or (λ j. j < 16) js 0 (λ i h. places.small i (omega arith)))
 
   -- in the table s, which t has in each of its blocks of sixteen
-  looked_up : (t s : List ℕ) → ((k : ℕ) → k < n → slice_index t k ≡ slice_index s (k % 16)) → swz_l w8 16 t 0 (map p v) ≡ map (λ b. slice_index s (p b)) v
+  pub looked_up : (t s : List ℕ) → ((k : ℕ) → k < n → slice_index t k ≡ slice_index s (k % 16)) → swz_l w8 16 t 0 js ≡ map (slice_index s) js
   looked_up t s again =
-      let l : length (map p v) ≡ n = length-map v p ∙ bytes.full in
-      let m : length (map (λ b. slice_index s (p b)) v) ≡ n = length-map v (λ b. slice_index s (p b)) ∙ bytes.full in
-      ext_get_or 0 _ _ (length-swz_l w8 16 t 0 (map p v) ∙ l ∙ sym m) (λ i h.
-      let lt : i < n = omega (arith, length-swz_l w8 16 t 0 (map p v)) in
-      let j : get_or (map p v) i 0 < 16 = below i lt in
-      let k : 16 * ((0 + i) / 16) + get_or (map p v) i 0 < n = omega arith in
-      let e : (16 * ((0 + i) / 16) + get_or (map p v) i 0) % 16 ≡ get_or (map p v) i 0 = omega arith in
-      get_or-swz_l_below w8 16 t 0 (map p v) i (omega arith) j
+      let l = length-swz_l w8 16 t 0 js in
+      ext_get_or 0 _ _ (l ∙ sym (length-map js (slice_index s))) (λ i h.
+      let lt : i < n = omega (arith, l, places.full) in
+      let j : get_or js i 0 < 16 = places.small i lt in
+      let k : 16 * ((0 + i) / 16) + get_or js i 0 < n = omega arith in
+      let e : (16 * ((0 + i) / 16) + get_or js i 0) % 16 ≡ get_or js i 0 = omega arith in
+      get_or-swz_l_below w8 16 t 0 js i (omega (arith, l)) j
       ∙ again _ k
-      ∙ ap (λ x. slice_index s x) (e ∙ place i lt)
-      ∙ sym (get_or-map (λ b. slice_index s (p b)) v i 0 0 (omega (arith, bytes.full))))
+      ∙ ap (slice_index s) e
+      ∙ sym (get_or-map (slice_index s) js i 0 0 (omega (arith, l))))
 
--- the low half of a byte is below 16
-low_place : (b : ℕ) → b < 256 → bit_and b 15 < 16
-low_place b h = omega (arith, and_le_r b 15)
-
--- the high half of a byte is below 16
-high_place : (b : ℕ) → b < 256 → b / 16 < 16
-high_place b h = omega arith
-
--- the look-ups of the classifiers
-module _ (n : ℕ) (v : List ℕ) (bytes : AreBytes n v) (blocks : n % 16 ≡ 0) where
-  -- the places by the low half
+-- the places of the halves of bytes
+module _ (n : ℕ) (v : List ℕ) (bytes : AreBytes n v) where
+  -- by the low half
   low : zip2 bit_and v (replicate n 15) ≡ map (λ b. bit_and b 15) v
   low = zip2_splat bit_and v n 15 bytes.full
 
-  -- the places by the high half
+  -- by the high half
   high : zip2 (λ a b. a / 2 ^ b) v (replicate n 4) ≡ map (λ b. b / 16) v
   high = zip2_splat (λ a b. a / 2 ^ b) v n 4 bytes.full
 
-  -- look-ups by the low half are safe
-  pub low_ok : SwzOk w8 16 n 0 (zip2 bit_and v (replicate n 15))
-  low_ok = rw low (places_ok (λ b. bit_and b 15) low_place n v bytes blocks)
+  -- each is below 16
+  pub low_places : AreBelow 16 n (zip2 bit_and v (replicate n 15))
+  low_places = rw low (below-map 16 (λ b. bit_and b 15) (λ b h. omega (arith, and_le_r b 15)) n v bytes)
 
-  -- look-ups by the high half are safe
-  pub high_ok : SwzOk w8 16 n 0 (zip2 (λ a b. a / 2 ^ b) v (replicate n 4))
-  high_ok = rw high (places_ok (λ b. b / 16) high_place n v bytes blocks)
+  pub high_places : AreBelow 16 n (zip2 (λ a b. a / 2 ^ b) v (replicate n 4))
+  high_places = rw high (below-map 16 (λ b. b / 16) (λ b h. omega arith) n v bytes)
 
-  -- the look-up by the low half
-  pub low-looked_up : (t s : List ℕ) → ((k : ℕ) → k < n → slice_index t k ≡ slice_index s (k % 16)) → swz_l w8 16 t 0 (zip2 bit_and v (replicate n 15)) ≡ map (at_low_half s) v
-  low-looked_up t s again = ap (λ js. swz_l w8 16 t 0 js) low ∙ looked_up (λ b. bit_and b 15) low_place n v bytes blocks t s again
+  -- what a table has there
+  pub low-looked_up : (s : List ℕ) → map (slice_index s) (zip2 bit_and v (replicate n 15)) ≡ map (at_low_half s) v
+  low-looked_up s = ap (map (slice_index s)) low ∙ map-map (slice_index s) (λ b. bit_and b 15) v
 
-  -- the look-up by the high half
-  pub high-looked_up : (t s : List ℕ) → ((k : ℕ) → k < n → slice_index t k ≡ slice_index s (k % 16)) → swz_l w8 16 t 0 (zip2 (λ a b. a / 2 ^ b) v (replicate n 4)) ≡ map (at_high_half s) v
-  high-looked_up t s again = ap (λ js. swz_l w8 16 t 0 js) high ∙ looked_up (λ b. b / 16) high_place n v bytes blocks t s again
+  pub high-looked_up : (s : List ℕ) → map (slice_index s) (zip2 (λ a b. a / 2 ^ b) v (replicate n 4)) ≡ map (at_high_half s) v
+  high-looked_up s = ap (map (slice_index s)) high ∙ map-map (slice_index s) (λ b. b / 16) v
 
 -- the comparison of the flags with 0
 module _ (n : ℕ) (v flags : List ℕ) (bytes : AreBytes n v) (e : flags ≡ map html_flags v) where

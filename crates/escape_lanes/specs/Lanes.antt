@@ -1,10 +1,14 @@
 -- Vectors and masks as lists of lanes.
 use Rattle.std.specs.Prelude.{◌≡◌, ℕ, ◌<◌, Bool, List, length, map, not, nat_eq, nat_le, slice_index_or, if◌then◌else◌}
 
--- n lanes, each a byte
-pub record AreBytes (n : ℕ) (lanes : List ℕ) : Type 0 where
+-- n lanes, each below a bound
+pub record AreBelow (bound n : ℕ) (lanes : List ℕ) : Type 0 where
   pub full : length lanes ≡ n
-  pub small : (k : ℕ) → k < n → slice_index_or lanes k 0 < 256
+  pub small : (k : ℕ) → k < n → slice_index_or lanes k 0 < bound
+
+-- n lanes, each a byte
+abbrev pub AreBytes : ℕ → List ℕ → Type 0
+AreBytes = AreBelow 256
 
 -- A mask in lanes has one number, `one`, in each lane that is set, and 0 in the others.
 

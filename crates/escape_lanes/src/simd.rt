@@ -3,6 +3,7 @@
 pub mod avx2;
 pub mod avx512;
 pub mod bits;
+mod by_width;
 pub mod classifier;
 mod down;
 pub mod escape_mask;

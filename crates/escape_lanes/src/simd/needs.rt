@@ -6,10 +6,15 @@ ghost use Rattle.std.specs.Simd.Lanes.{zip2};
 ghost use Rattle.escape_lanes.specs.Bits.{bits_of};
 ghost use Rattle.escape_lanes.specs.Lanes.{AreBytes, flagged_lanes, is_one_of};
 ghost use Rattle.escape_lanes.specs.Mode.{json, html, script};
-ghost use Rattle.escape_lanes.specs.Nibble.{html_flags, html_candidate, script_low, script_high};
+ghost use Rattle.escape_lanes.specs.Nibble.{at_low_half, at_high_half};
 ghost use Rattle.escape_lanes.specs.Replacement.{needs_escape};
 
+use crate::simd::by_width::ByWidth;
 use crate::simd::lanes::{eq, splat};
+use crate::tables::{
+    HTML_CANDIDATE_TAB, HTML_HI_NIBBLE_TAB, HTML_LO_NIBBLE_TAB, SCRIPT_HI_NIBBLE_TAB,
+    SCRIPT_LO_NIBBLE_TAB,
+};
 use std::simd::prelude::*;
 
 /// Returns one bit for each lane that is flagged, the first lane's lowest.
@@ -140,55 +145,66 @@ pub(crate) fn repeated<const N: usize>(table: &[u8; 16]) -> Simd<u8, N>
     Simd::from_array(lanes)
 }
 
-/// Returns flags where HTML needs an escape, by the bits that both nibble tables have for each lane.
-///
-/// Each kernel looks them up itself, since `std::simd` has no look-up at a width that is a
-/// parameter.
+/// Returns what the table has for the low half of each lane.
 #[inline(always)]
-pub(crate) fn html_needs<const N: usize>(v: &Simd<u8, N>, flags: &Simd<u8, N>) -> Simd<u8, N>
-    requires bytes { AreBytes N v.now }
-    requires flags { flags.now ≡ map html_flags v.now }
+fn by_low_half<const N: usize>(v: &Simd<u8, N>, table: &[u8; 16]) -> Simd<u8, N>
+where
+    Simd<u8, N>: ByWidth<N>,
+    requires { AreBytes N v.now }
+    ensures { result ≡ map (at_low_half table.now) v.now }
+{
+    <Simd<u8, N> as ByWidth<N>>::look_up(table, &(*v & Simd::splat(15)))
+}
+
+/// Returns what the table has for the high half of each lane.
+#[inline(always)]
+fn by_high_half<const N: usize>(v: &Simd<u8, N>, table: &[u8; 16]) -> Simd<u8, N>
+where
+    Simd<u8, N>: ByWidth<N>,
+    requires { AreBytes N v.now }
+    ensures { result ≡ map (at_high_half table.now) v.now }
+{
+    <Simd<u8, N> as ByWidth<N>>::look_up(table, &(*v >> Simd::splat(4)))
+}
+
+/// Returns flags where HTML needs an escape, by the bits that both nibble tables have for each lane.
+#[inline(always)]
+pub(crate) fn html_needs<const N: usize>(v: &Simd<u8, N>) -> Simd<u8, N>
+where
+    Simd<u8, N>: ByWidth<N>,
+    requires { AreBytes N v.now }
     ensures bytes { AreBytes N result }
     ensures lanes { flagged_lanes result ≡ map (needs_escape html) v.now }
 {
+    let flags = by_low_half(v, &HTML_LO_NIBBLE_TAB) & by_high_half(v, &HTML_HI_NIBBLE_TAB);
     flags
         .simd_ne(Simd::splat(0))
         .select(Simd::splat(255), Simd::splat(0))
 }
 
-/// Returns flags where a script literal has to look at the byte, by the sum of what the nibble tables have
-/// for each lane.
-///
-/// Each kernel looks them up itself, as it does those of HTML.
-#[inline(always)]
-pub(crate) fn script_needs<const N: usize>(
-    v: &Simd<u8, N>,
-    low: &Simd<u8, N>,
-    high: &Simd<u8, N>,
-) -> Simd<u8, N>
-    requires bytes { AreBytes N v.now }
-    requires low { low.now ≡ map script_low v.now }
-    requires high { high.now ≡ map script_high v.now }
-    ensures bytes { AreBytes N result }
-    ensures lanes { flagged_lanes result ≡ map (needs_escape script) v.now }
-{
-    *low + *high
-}
-
 /// Returns flags where HTML needs an escape, by the candidate of each lane: the lane is one of the six
 /// bytes exactly where it is its candidate.
-///
-/// Each kernel looks the candidates up itself, as it does the flags.
 #[inline(always)]
-pub(crate) fn html_needs_by_candidates<const N: usize>(
-    v: &Simd<u8, N>,
-    candidates: &Simd<u8, N>,
-) -> Simd<u8, N>
-    requires bytes { AreBytes N v.now }
-    requires candidates { candidates.now ≡ map html_candidate v.now }
+pub(crate) fn html_needs_by_candidates<const N: usize>(v: &Simd<u8, N>) -> Simd<u8, N>
+where
+    Simd<u8, N>: ByWidth<N>,
+    requires { AreBytes N v.now }
     ensures bytes { AreBytes N result }
     ensures lanes { flagged_lanes result ≡ map (needs_escape html) v.now }
 {
-    v.simd_eq(*candidates)
+    v.simd_eq(by_low_half(v, &HTML_CANDIDATE_TAB))
         .select(Simd::splat(255), Simd::splat(0))
+}
+
+/// Returns flags where a script literal has to look at the byte, by the sum of what the nibble tables have
+/// for each lane.
+#[inline(always)]
+pub(crate) fn script_needs<const N: usize>(v: &Simd<u8, N>) -> Simd<u8, N>
+where
+    Simd<u8, N>: ByWidth<N>,
+    requires { AreBytes N v.now }
+    ensures bytes { AreBytes N result }
+    ensures lanes { flagged_lanes result ≡ map (needs_escape script) v.now }
+{
+    by_low_half(v, &SCRIPT_LO_NIBBLE_TAB) + by_high_half(v, &SCRIPT_HI_NIBBLE_TAB)
 }

@@ -1,22 +1,17 @@
 //! 16 bytes in a vector of `std::simd`. HTML is classified by three compares.
-ghost use Rattle.std.specs.Prelude.{◌≡◌, ◌+◌, map, nat_le, refl};
-ghost use Rattle.std.proofs.Common.{◌∙◌, lit≤};
-ghost use Rattle.std.proofs.lemmas.List.{length-map};
+ghost use Rattle.std.specs.Prelude.{◌≡◌, ◌+◌, map, refl};
+ghost use Rattle.std.proofs.Common.{lit≤};
 ghost use Rattle.escape_lanes.specs.Lanes.{AreBytes, flagged_lanes};
-ghost use Rattle.escape_lanes.specs.Mode.{html, mode_of};
+ghost use Rattle.escape_lanes.specs.Mode.{html, script, mode_of};
 ghost use Rattle.escape_lanes.specs.Replacement.{needs_escape};
-
-mod script;
 
 use crate::simd::classifier::Classifier;
 use crate::simd::lane_mask::LaneMask;
-use crate::simd::last::{self, LoadLast};
 use crate::simd::mode::{is_quoted, is_script};
 use crate::simd::needs;
 use crate::simd::target::Ticks;
 use crate::simd::traits::{BitMask, Simd};
 use crate::simd::vector::Vector;
-pub use script::script_mask;
 use std::simd::prelude::*;
 
 /// A vector of 16 bytes.
@@ -24,13 +19,6 @@ pub type Simd128u = Vector<1, 16>;
 
 /// A truth value for each lane of a [`Simd128u`].
 pub type Mask128 = LaneMask<1, 16>;
-
-impl LoadLast for Simd128u {
-    #[inline(always)]
-    fn load_last(src: &[u8], count: usize) -> Self {
-        Vector::of(last::last_16(src, count))
-    }
-}
 
 impl<const MODE: u8> Classifier<MODE, 16> for Simd128u {
     const LOOKS_UP: bool = false;
@@ -90,4 +78,16 @@ pub fn escaped_mask<const HTML: bool>(v: &Simd128u, ticks: &mut Ticks) -> u16
         needs::json_needs(&lanes)
     };
     needs::flag_bits(&flags) as u16
+}
+
+/// Returns which lanes of `v` have bytes that a script literal has to look at. It ticks once.
+///
+/// Where `v` begins with the bytes of `a<b`, lane 1 is set.
+#[inline(always)]
+pub fn script_mask(v: &Simd128u, ticks: &mut Ticks) -> u16
+    ensures lanes { ⟦<u16 as BitMask>⟧.bits result ≡ map (needs_escape script) (⟦<Simd128u as Simd>⟧.lanes v.now) }
+    ensures tick { ticks.new ≡ ticks.old + 1 }
+{
+    ticks.tick();
+    needs::flag_bits(&needs::script_needs(&v.lanes())) as u16
 }

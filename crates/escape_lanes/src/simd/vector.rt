@@ -3,8 +3,10 @@ ghost use Rattle.std.specs.Prelude.{◌≡◌};
 ghost use Rattle.std.proofs.Common.{rules};
 ghost use Rattle.escape_lanes.specs.Lanes.{AreBytes};
 
+use crate::simd::by_width::ByWidth;
 use crate::simd::lane_mask::{HasBits, LaneMask};
 use crate::simd::lanes;
+use crate::simd::last::LoadLast;
 use crate::simd::traits::Simd;
 
 /// A vector of `N` bytes. Its bit mask has `BITS` bits for each lane: one, or four in
@@ -85,5 +87,16 @@ where
     #[inline(always)]
     fn le(&self, rhs: &Self) -> LaneMask<BITS, N> {
         LaneMask::of(&lanes::le(&self.lanes(), &rhs.lanes()))
+    }
+}
+
+impl<const BITS: u8, const N: usize> LoadLast for Vector<BITS, N>
+where
+    LaneMask<BITS, N>: HasBits<N>,
+    std::simd::Simd<u8, N>: ByWidth<N>,
+{
+    #[inline(always)]
+    fn load_last(src: &[u8], count: usize) -> Self {
+        Vector::of(<std::simd::Simd<u8, N> as ByWidth<N>>::last(src, count))
     }
 }

@@ -1,12 +1,10 @@
 -- Lanes of vectors and of masks, at every width.
-use native.Mathlib.Nat.{pow-suc}
-use Rattle.std.proofs.Common.{take, ◌≡◌, ℕ, ◌<◌, ◌≤◌, ◌^◌, ◌+◌, ◌*◌, ◌/◌, ◌%◌, Bool, true, false, cond, ◌||◌, ◌&&◌, List, [], ◌∷◌, ◌++◌, length, drop, replicate, map, nat_eq, bit_or, bit_and, bit_xor, get_or, refl, sym, ap, ◌∙◌, zero, suc, arith}
-use Rattle.std.proofs.Math.Pow.{pow_mono}
+use Rattle.std.proofs.Common.{◌≡◌, ℕ, ◌<◌, ◌≤◌, ◌^◌, ◌+◌, ◌*◌, ◌/◌, ◌%◌, Bool, true, false, cond, ◌||◌, ◌&&◌, List, [], ◌∷◌, ◌++◌, length, drop, replicate, map, nat_eq, bit_or, bit_and, bit_xor, get_or, refl, sym, ap, ◌∙◌, zero, suc, arith}
 use Rattle.std.proofs.lemmas.Bool.{agree_below, agree_below_at}
-use Rattle.std.proofs.lemmas.List.{length-map, length-take-le, get_or-map, map_more, ext_get_or}
+use Rattle.std.proofs.lemmas.List.{length-map, get_or-map, ext_get_or}
 use Rattle.std.proofs.lemmas.Bool.Decides.{nat_tests}
 use Rattle.std.proofs.lemmas.Nat.{and_mod, and_shr, or_mod, or_shr}
-use Rattle.std.proofs.lemmas.Simd.{get_or-zip2, put_chunk_is, length-zip2, tops_compared, bitmask_splat, mask_l-lt}
+use Rattle.std.proofs.lemmas.Simd.{put_chunk_is, length-zip2, tops_compared, bitmask_splat, mask_l-lt}
 use Rattle.std.specs.Simd.Lanes.{zip2, sel_l, mask_l, put_chunk, top}
 use mir.Syntax.{w8}
 use Rattle.escape_lanes.specs.Bits.{bits_of}
@@ -153,55 +151,3 @@ pub bits_and : (k m n : ℕ) → bits_of k (bit_and m n) ≡ zip2 ◌&&◌ (bits
 unfolding bits_of
 bits_and zero m n = refl
 bits_and (suc k) m n = rw (and_mod m n 1, and_shr m n 1, bit-and (m % 2) (n % 2) (omega arith) (omega arith), bits_and k (m / 2) (n / 2)) refl
-
--- two vectors, joined lane by lane
-zipped : (f : ℕ → ℕ → ℕ) (n : ℕ) (xs ys zs : List ℕ) → length xs ≡ n → length ys ≡ n → length zs ≡ n
-    → ((k : ℕ) → k < n → get_or zs k 0 ≡ f (get_or xs k 0) (get_or ys k 0)) → zs ≡ zip2 f xs ys
-zipped f n xs ys zs l r m at =
-    let z = length-both f n xs ys l r in
-    ext_get_or 0 zs (zip2 f xs ys) (m ∙ sym z) (λ k h.
-    at k (omega arith) ∙ sym (get_or-zip2 f xs ys k 0 0 0 (omega arith) (omega arith)))
-
--- a mask of 0 and 1 that was made by a test of the lanes of two vectors
-pub tested : (t : ℕ → ℕ → Bool) (n : ℕ) (xs ys zs : List ℕ) → length xs ≡ n → length ys ≡ n → length zs ≡ n
-    → ((k : ℕ) → k < n → get_or zs k 0 ≡ cond (t (get_or xs k 0) (get_or ys k 0)) 1 0) → IsMask 1 n zs (zip2 t xs ys)
-tested t n xs ys zs l r m at =
-    made 1 n zs (zip2 t xs ys) (omega arith) (zipped (λ a b. cond (t a b) 1 0) n xs ys zs l r m at ∙ tests xs ys) (length-both t n xs ys l r)
-  where
-    tests : (left right : List ℕ) → zip2 (λ a b. cond (t a b) 1 0) left right ≡ mask_lanes 1 (zip2 t left right)
-    tests [] right = refl
-    tests (a ∷ left) [] = refl
-    tests (a ∷ left) (b ∷ right) = ap (λ cs. cond (t a b) 1 0 ∷ cs) (tests left right)
-
--- one more bit, above the others
-mask-snoc : (bs : List Bool) (b : Bool) → mask_l (bs ++ b ∷ []) ≡ mask_l bs + cond b 1 0 * 2 ^ length bs
-mask-snoc [] b = omega arith
-mask-snoc (c ∷ bs) true = omega (arith, mask-snoc bs true, pow-suc 2 (length bs))
-mask-snoc (c ∷ bs) false = omega (arith, mask-snoc bs false)
-
--- the number that has a bit for each of the first lanes of a mask of 0 and 1
-module _ (n : ℕ) (xs : List ℕ) (whole : AreWhole 1 n xs) (k : ℕ) (h : k < n) where
-  -- a lane is 1 where it is set
-  value : cond (nat_eq (get_or xs k 0) 1) 1 0 ≡ get_or xs k 0
-  value =
-      let r : k < length xs = omega (arith, whole.full) in
-      let e = ap (λ ys. get_or ys k 0) whole.whole in
-      sym (e ∙ get_or-map (λ b. cond b 1 0) (set_lanes 1 xs) k false 0 (omega (arith, length-set 1 n xs whole)) ∙ ap (λ b. cond b 1 0) (get_or-map (λ b. nat_eq b 1) xs k 0 false r))
-
-  -- a truth value for each of the first lanes
-  counted_to : (j : ℕ) → j ≤ n → length (set_lanes 1 (take j xs)) ≡ j
-  counted_to j l = length-map (take j xs) (λ b. nat_eq b 1) ∙ length-take-le j xs (omega (arith, whole.full))
-
-  -- one more lane
-  pub weighed : mask_l (set_lanes 1 (take (k + 1) xs)) ≡ mask_l (set_lanes 1 (take k xs)) + get_or xs k 0 * 2 ^ k
-  weighed =
-      ap mask_l (map_more (λ b. nat_eq b 1) xs k 0 (omega (arith, whole.full)))
-      ∙ mask-snoc (set_lanes 1 (take k xs)) (nat_eq (get_or xs k 0) 1)
-      ∙ rw (counted_to k (omega arith), value) refl
-
-  -- the number fits 16 bits
-  pub weighed-lt : n ≤ 16 → mask_l (set_lanes 1 (take (k + 1) xs)) < 65536
-  weighed-lt few =
-      let small = rw (counted_to (k + 1) (omega arith)) at (mask_l-lt (set_lanes 1 (take (k + 1) xs))) in
-      let most : 2 ^ (k + 1) ≤ 2 ^ 16 = pow_mono {i = k + 1} {j = 16} (omega arith) in
-      omega (arith, small, most)

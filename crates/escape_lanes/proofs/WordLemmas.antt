@@ -1,10 +1,9 @@
 -- Words as eight lanes: what arithmetic on a word does to its lanes, and its flags.
-use Rattle.std.proofs.Common.{◌≡◌, ℕ, zero, suc, ◌+◌, ◌*◌, ◌/◌, ◌%◌, ◌^◌, ◌≤◌, ◌<◌, Bool, true, false, cond, ◌||◌, List, [], ◌∷◌, ◌++◌, length, take, drop, map, replicate, nat_eq, nat_le, nat_lt, bit_and, bit_or, bit_xor, get_or, refl, sym, ap, ap₂, ◌∙◌, arith, length-append, length-drop}
-use native.Mathlib.Nat.{pow-suc, mul_assoc, mul_left_comm}
+use Rattle.std.proofs.Common.{◌≡◌, ℕ, zero, suc, ◌+◌, ◌-◌, ◌*◌, ◌/◌, ◌%◌, ◌^◌, ◌≤◌, ◌<◌, Bool, true, cond, List, [], ◌∷◌, ◌++◌, length, take, drop, map, replicate, nat_eq, nat_le, nat_lt, bit_and, bit_or, bit_xor, get_or, refl, sym, ap, ap₂, ◌∙◌, arith, length-append, length-drop}
+use native.Mathlib.Nat.{pow-suc, mul_left_comm}
 use Rattle.std.proofs.Math.Seq.{take-append_seam, drop-append_seam}
 use Rattle.std.proofs.lemmas.Bool.{agree_below, agree_below_at, eqb-true}
-use Rattle.std.proofs.lemmas.Bool.Decides.{nat_tests}
-use Rattle.std.proofs.lemmas.List.{length-map, map-append, map-id, take-append-drop, drop-drop}
+use Rattle.std.proofs.lemmas.List.{append-nil, length-map, map-append, map-id, take-append-drop, drop-drop}
 use Rattle.std.proofs.lemmas.Nat.{and_block, and_le_r, le_bytes_8, and_mod, and_shr, or_mod, or_shr, xor_lt, xor_mod, xor_shr}
 use Rattle.std.proofs.lemmas.Simd.{Each1-replicate, mask_l-lt, splat_is_map, zip2_of_maps, zip2_splat}
 use Rattle.std.proofs.lemmas.Slice.{take-put_mid, drop-put_mid}
@@ -12,13 +11,14 @@ use Rattle.std.specs.Int.{w64, from_le_bytes}
 use Rattle.std.specs.Int.Bits.{and_zero_r, or_shifted_r}
 use Rattle.std.specs.Simd.Lanes.{Each1, digits_l, number_l, zip2, mask_l}
 use borrow.Rule.Slice.PartMut.{put_mid}
-use Rattle.escape_lanes.specs.Bits.{bits_of, none_set}
+use Rattle.escape_lanes.specs.Bits.{bits_of}
 use Rattle.escape_lanes.specs.Lanes.{flagged_lanes, mask_lanes}
 use Rattle.escape_lanes.specs.Mode.{Mode}
 use Rattle.escape_lanes.specs.Replacement.{needs_escape}
 use Rattle.escape_lanes.specs.Words.{lanes_of_word, lanes_of_words, word-bytes}
-use Rattle.escape_lanes.proofs.FlagLemmas.{flags-by, flags-joined}
+use Rattle.escape_lanes.proofs.FlagLemmas.{flags-by}
 use Rattle.escape_lanes.proofs.LaneLemmas.{bits-mask}
+use Rattle.escape_lanes.proofs.LastLemmas.{AreSmall, digits-number, number-lt}
 
 -- ---- a word and its bytes
 
@@ -44,6 +44,15 @@ word-to_bytes x =
 -- the lanes of a word that was read from eight bytes
 pub word-from_bytes : (bs : List ℕ) (x : ℕ) → length bs ≡ 8 → ((i : ℕ) → get_or bs i 0 < 256) → x ≡ from_le_bytes w64 bs → lanes_of_word x ≡ bs
 word-from_bytes bs x full small is = sym (word-to_bytes x) ∙ le_bytes_8 bs x full small is
+
+-- the lanes of a word that was read as a number of eight bytes
+pub word-read : (bs : List ℕ) → length bs ≡ 8 → AreSmall bs → lanes_of_word (number_l 256 bs % 2 ^ 64) ≡ bs
+unfolding lanes_of_word
+word-read bs full small =
+    let below : number_l 256 bs < 256 ^ 8 = rw full at (number-lt bs small) in
+    let whole : number_l 256 bs % 2 ^ 64 ≡ number_l 256 bs = omega (arith, below) in
+    let none : 8 - length bs ≡ 0 = omega (arith, full) in
+    ap (digits_l 256 8) whole ∙ digits-number 8 bs small (omega (arith, full)) ∙ ap (λ (k : ℕ). bs ++ replicate k 0) none ∙ append-nil bs
 
 -- ---- arithmetic on lanes
 
@@ -173,20 +182,6 @@ pub word-tops : (x : ℕ) → bit_and x 9259542123273814144 ≡ number_l 256 (ma
 unfolding lanes_of_word
 word-tops x = digits-tops 8 x
 
--- such a number is 0 where no lane is set
-mask-zero : (bs : List Bool) → nat_eq (number_l 256 (mask_lanes 128 bs)) 0 ≡ none_set bs
-unfolding none_set
-mask-zero [] = refl
-mask-zero (true ∷ bs) = grind (arith, nat_tests)
-mask-zero (false ∷ bs) =
-    let n : ℕ = number_l 256 (mask_lanes 128 bs) in
-    let above : nat_eq (0 + 256 * n) 0 ≡ nat_eq n 0 = grind (arith, nat_tests) in
-    rw above (mask-zero bs)
-
--- whether no lane of a word is flagged
-pub word-none : (x : ℕ) → nat_eq (bit_and x 9259542123273814144) 0 ≡ none_set (flagged_lanes (lanes_of_word x))
-word-none x = rw (word-tops x) (mask-zero (flagged_lanes (lanes_of_word x)))
-
 -- the top byte of the product that brings the top bits together
 abbrev gathered : ℕ → ℕ
 gathered tops = tops * 567382630219905 % 18446744073709551616 / 72057594037927936
@@ -229,85 +224,9 @@ bits-both low high bs cs l h is_low is_high =
     let fits : high * 256 % 65536 ≡ high * 256 = omega arith in
     rw (fits, or_shifted_r high 8 low l, ← is_low, ← is_high) (bits-append 8 8 low high l)
 
--- the bytes of two numbers, one after the other
-digits-append : (j k low high : ℕ) → low < 256 ^ j → digits_l 256 (j + k) (low + 256 ^ j * high) ≡ digits_l 256 j low ++ digits_l 256 k high
-digits-append zero k low high h =
-    let count : 0 + k ≡ k = omega arith in
-    let whole : low + 256 ^ 0 * high ≡ high = omega (arith, h) in
-    rw (count, whole) refl
-digits-append (suc j) k low high h =
-    let count : suc j + k ≡ suc (j + k) = omega arith in
-    let power : 256 ^ suc j ≡ 256 * 256 ^ j = omega (arith, pow-suc 256 j) in
-    let above : 256 ^ suc j * high ≡ 256 * (256 ^ j * high) = rw power (mul_assoc 256 (256 ^ j) high) in
-    let below : low / 256 < 256 ^ j = omega (arith, h, power) in
-    let first : (low + 256 ^ suc j * high) % 256 ≡ low % 256 = omega (arith, above) in
-    let rest : (low + 256 ^ suc j * high) / 256 ≡ low / 256 + 256 ^ j * high = omega (arith, above) in
-    rw (count, first, rest, digits-append j k (low / 256) high below) refl
-
--- the lanes of two words, as the bytes of the number that they are digits of
-pub words-number : (words : List ℕ) → length words ≡ 2 → get_or words 0 0 < 2 ^ 64 → lanes_of_words (get_or words 0 0) (get_or words 1 0) ≡ digits_l 256 16 (number_l (2 ^ 64) words)
-unfolding lanes_of_word
-words-number [] two h = absurd (omega arith)
-words-number (low ∷ []) two h = absurd (omega arith)
-words-number (low ∷ high ∷ []) two h =
-    let number : low + 2 ^ 64 * (high + 2 ^ 64 * 0) ≡ low + 256 ^ 8 * high = omega arith in
-    rw number (sym (digits-append 8 8 low high h))
-words-number (low ∷ high ∷ more ∷ words) two h = absurd (omega arith)
-
--- a lane between others that is set
-none-set_between : (bs cs : List Bool) → none_set (bs ++ true ∷ cs) ≡ false
-unfolding none_set
-none-set_between [] cs = refl
-none-set_between (true ∷ bs) cs = refl
-none-set_between (false ∷ bs) cs = none-set_between bs cs
-
--- and one that is clear
-none-clear_between : (bs cs : List Bool) → none_set (bs ++ false ∷ cs) ≡ none_set (bs ++ cs)
-unfolding none_set
-none-clear_between [] cs = refl
-none-clear_between (true ∷ bs) cs = refl
-none-clear_between (false ∷ bs) cs = none-clear_between bs cs
-
--- whether no lane is set of two lists joined one by one, or one after the other
-none-joined : (bs cs : List Bool) → length bs ≡ length cs → none_set (zip2 ◌||◌ bs cs) ≡ none_set (bs ++ cs)
-unfolding none_set
-none-joined [] [] h = refl
-none-joined [] (c ∷ cs) h = absurd (omega arith)
-none-joined (b ∷ bs) [] h = absurd (omega arith)
-none-joined (true ∷ bs) (c ∷ cs) h = refl
-none-joined (false ∷ bs) (true ∷ cs) h = sym (none-set_between bs cs)
-none-joined (false ∷ bs) (false ∷ cs) h = none-joined bs cs (omega arith) ∙ sym (none-clear_between bs cs)
-
--- lists, joined one by one in two parts
-zip2-append : {X Y : Type 0} (f : X → X → Y) (ps qs rs ss : List X) → length ps ≡ length rs → zip2 f (ps ++ qs) (rs ++ ss) ≡ zip2 f ps rs ++ zip2 f qs ss
-zip2-append f [] qs [] ss h = refl
-zip2-append f [] qs (r ∷ rs) ss h = absurd (omega arith)
-zip2-append f (p ∷ ps) qs [] ss h = absurd (omega arith)
-zip2-append f (p ∷ ps) qs (r ∷ rs) ss h = ap (λ ys. f p r ∷ ys) (zip2-append f ps qs rs ss (omega arith))
-
--- as many flags as lanes
-length-flagged : (x : ℕ) → length (flagged_lanes (lanes_of_word x)) ≡ 8
-length-flagged x = length-map (lanes_of_word x) (λ b. nat_le 0x80 b) ∙ (word-bytes x).full
-
 -- the flags of two words
 pub flagged-words : (low high : ℕ) → flagged_lanes (lanes_of_words low high) ≡ flagged_lanes (lanes_of_word low) ++ flagged_lanes (lanes_of_word high)
 flagged-words low high = map-append (λ b. nat_le 0x80 b) (lanes_of_word low) (lanes_of_word high)
-
--- the flags of an or of two words
-flagged-or : (x y : ℕ) → flagged_lanes (lanes_of_word (bit_or x y)) ≡ zip2 ◌||◌ (flagged_lanes (lanes_of_word x)) (flagged_lanes (lanes_of_word y))
-flagged-or x y = ap flagged_lanes (or-words x y) ∙ (flags-joined 8 (lanes_of_word x) (lanes_of_word y) (word-bytes x) (word-bytes y)).lanes
-
--- the flags of two words, and of two others, joined
-pub words-joined : (a b c d : ℕ) → flagged_lanes (lanes_of_words (bit_or a c) (bit_or b d)) ≡ zip2 ◌||◌ (flagged_lanes (lanes_of_words a b)) (flagged_lanes (lanes_of_words c d))
-words-joined a b c d =
-    rw (flagged-words (bit_or a c) (bit_or b d), flagged-words a b, flagged-words c d, flagged-or a c, flagged-or b d)
-    (sym (zip2-append ◌||◌ (flagged_lanes (lanes_of_word a)) (flagged_lanes (lanes_of_word b)) (flagged_lanes (lanes_of_word c)) (flagged_lanes (lanes_of_word d)) (length-flagged a ∙ sym (length-flagged c))))
-
--- whether no lane of two words is flagged
-pub words-none : (low high : ℕ) → none_set (flagged_lanes (lanes_of_word (bit_or low high))) ≡ none_set (flagged_lanes (lanes_of_words low high))
-words-none low high =
-    ap none_set (flagged-or low high) ∙ none-joined (flagged_lanes (lanes_of_word low)) (flagged_lanes (lanes_of_word high)) (length-flagged low ∙ sym (length-flagged high))
-    ∙ ap none_set (sym (flagged-words low high))
 
 -- two words, stored one after the other at the front of a slice
 pub words-stored : (low high d : List ℕ) → length low ≡ 8 → length high ≡ 8 → 16 ≤ length d → put_mid 8 8 (low ++ drop 8 d) high ≡ (low ++ high) ++ drop 16 d

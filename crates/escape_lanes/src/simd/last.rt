@@ -2,7 +2,7 @@
 //!
 //! They never pass through memory: a copy of a number of bytes that is known only at run time is a
 //! call, and a vector that is loaded from words just written has to wait for all of them.
-ghost use Rattle.std.specs.Prelude.{◌≡◌, ◌+◌, ◌*◌, ◌-◌, ◌<◌, ◌≤◌, ◌^◌, ◌++◌, length, take, drop, replicate};
+ghost use Rattle.std.specs.Prelude.{◌≡◌, ◌+◌, ◌*◌, ◌-◌, ◌<◌, ◌≤◌, ◌++◌, length, take, drop, replicate};
 ghost use Rattle.std.specs.Simd.Lanes.{number_l};
 ghost use Rattle.escape_lanes.specs.Lanes.{AreBytes};
 
@@ -24,24 +24,6 @@ pub trait LoadLast: LoadStore {
         ensures { Self.lanes result ≡ drop (length src.now - count) src.now ++ replicate (Self.LANES - count) 0 };
 }
 
-/// Returns the eight bytes from `at` on, as a number.
-#[inline(always)]
-fn eight(src: &[u8], at: usize) -> u64
-    requires { at + 8 ≤ length src.now }
-    ensures { result ≡ number_l 256 (take 8 (drop at src.now)) }
-{
-    u64x1::from_le_bytes(lanes::load(&src[at..])).to_array()[0]
-}
-
-/// Returns the four bytes from `at` on, as a number.
-#[inline(always)]
-fn four(src: &[u8], at: usize) -> u64
-    requires { at + 4 ≤ length src.now }
-    ensures { result ≡ number_l 256 (take 4 (drop at src.now)) }
-{
-    u32x1::from_le_bytes(lanes::load(&src[at..])).to_array()[0] as u64
-}
-
 /// Returns the last `count` bytes, three at most, as a number.
 ///
 /// The first, the middle and the last one are all of them, and may be the same one.
@@ -58,49 +40,6 @@ fn up_to_three(src: &[u8], count: usize) -> u64
     let middle = (src[at + count / 2] as u64) << (8 * (count / 2));
     let last = (src[at + count - 1] as u64) << (8 * (count - 1));
     src[at] as u64 | (middle | last)
-}
-
-/// Returns the last `count` bytes, four to seven, as a number.
-///
-/// Two words of four have them all. The bytes that are in both stand at one place.
-#[inline(always)]
-fn four_to_seven(src: &[u8], count: usize) -> u64
-    requires several { 4 ≤ count }
-    requires few { count < 8 }
-    requires inside { count ≤ length src.now }
-    ensures { result ≡ number_l 256 (drop (length src.now - count) src.now) }
-{
-    four(src, src.len() - count) | (four(src, src.len() - 4) << (8 * (count - 4)))
-}
-
-/// Returns the last `count` bytes past the first eight of them, as a number.
-///
-/// They are the later ones of the text's last eight.
-#[inline(always)]
-fn past_eight(src: &[u8], count: usize) -> u64
-    requires several { 8 ≤ count }
-    requires few { count < 16 }
-    requires inside { count ≤ length src.now }
-    ensures { result ≡ number_l 256 (drop (length src.now - (count - 8)) src.now) }
-{
-    // In two steps, since a shift by all 64 bits is none.
-    (eight(src, src.len() - 8) >> (8 * (15 - count))) >> 8
-}
-
-/// Returns the last `count` bytes as two numbers of eight, for a vector of plain words.
-#[inline(always)]
-pub(crate) fn words(src: &[u8], count: usize) -> [u64; 2]
-    requires few { count < 16 }
-    requires inside { count ≤ length src.now }
-    ensures { number_l (2 ^ 64) result ≡ number_l 256 (drop (length src.now - count) src.now) }
-{
-    if 8 <= count {
-        [eight(src, src.len() - count), past_eight(src, count)]
-    } else if 4 <= count {
-        [four_to_seven(src, count), 0]
-    } else {
-        [up_to_three(src, count), 0]
-    }
 }
 
 // For each length of 4 to 15, where its bytes lie in four words of four bytes that overlap, and zeros after them.

@@ -1,9 +1,8 @@
 //! 16 bytes in two words, by plain arithmetic on all lanes of a word at once. The compiler makes
 //! operations on vectors of it where there are any.
-ghost use Rattle.std.specs.Prelude.{◌≡◌, ◌+◌, ◌<◌, ◌≤◌, ◌^◌, length, map, nat_le, refl, take, drop, replicate, bit_and, bit_xor};
-ghost use Rattle.std.proofs.Common.{◌∙◌, lit≤};
-ghost use Rattle.std.proofs.lemmas.List.{length-map};
-ghost use Rattle.escape_lanes.specs.Bits.{bits_of, none_set};
+ghost use Rattle.std.specs.Prelude.{◌≡◌, ◌+◌, ◌<◌, ◌≤◌, ◌^◌, length, map, refl, take, drop, replicate, bit_and, bit_xor};
+ghost use Rattle.std.proofs.Common.{lit≤};
+ghost use Rattle.escape_lanes.specs.Bits.{bits_of};
 ghost use Rattle.escape_lanes.specs.Lanes.{flagged_lanes};
 ghost use Rattle.escape_lanes.specs.Mode.{json, html, mode_of};
 ghost use Rattle.escape_lanes.specs.Replacement.{needs_escape};
@@ -13,13 +12,14 @@ mod mask;
 mod script;
 
 use crate::simd::classifier::Classifier;
+use crate::simd::lanes;
 use crate::simd::last::{self, LoadLast};
 use crate::simd::mode::{is_quoted, is_script};
 use crate::simd::target::Ticks;
 use crate::simd::traits::{BitMask, Simd};
 pub use mask::Mask128;
-use mask::{bits, eq, le};
 pub use script::script_mask;
+use std::simd::prelude::{u8x16, u64x1};
 
 /// A vector of 16 bytes.
 #[derive(Debug, Drop)]
@@ -29,30 +29,13 @@ pub struct Simd128u {
     high: u64,
 }
 
-/// Returns eight bytes as a word, the first one lowest.
-#[inline(always)]
-fn word(bytes: [u8; 8]) -> u64
-    ensures { lanes_of_word result ≡ bytes }
-{
-    u64::from_le_bytes(bytes)
-}
-
 /// Returns the eight bytes from `at` on, as a word.
 #[inline(always)]
 fn word_at(src: &[u8], at: usize) -> u64
     requires { at + 8 ≤ length src.now }
     ensures { lanes_of_word result ≡ take 8 (drop at src.now) }
 {
-    word([
-        src[at],
-        src[at + 1],
-        src[at + 2],
-        src[at + 3],
-        src[at + 4],
-        src[at + 5],
-        src[at + 6],
-        src[at + 7],
-    ])
+    u64x1::from_le_bytes(lanes::load(&src[at..])).to_array()[0]
 }
 
 /// Returns the word with the byte in each of its lanes.
@@ -60,7 +43,7 @@ fn word_at(src: &[u8], at: usize) -> u64
 fn each_lane(byte: u8) -> u64
     ensures { lanes_of_word result ≡ replicate 8 byte }
 {
-    word([byte; 8])
+    u64::from_le_bytes([byte; 8])
 }
 
 /// Returns the eight bytes of a word.
@@ -73,12 +56,12 @@ fn bytes_of(word: u64) -> [u8; 8]
 
 /// Returns the lanes of both words.
 #[inline(always)]
-fn lanes_of(v: &Simd128u) -> [u8; 16]
+fn lanes_of(v: &Simd128u) -> u8x16
     ensures { result ≡ lanes_of_words v.now.low v.now.high }
 {
     let mut lanes = [0; 16];
     v.storeu(&mut lanes);
-    lanes
+    u8x16::from_array(lanes)
 }
 
 /// The top bit of each lane of a word.
@@ -142,7 +125,7 @@ impl Simd for Simd128u {
     #[inline(always)]
     fn eq(&self, rhs: &Self) -> Mask128 {
         Mask128 {
-            bits: bits(&eq(&lanes_of(self), &lanes_of(rhs))),
+            bits: lanes::bits(&lanes::eq(&lanes_of(self), &lanes_of(rhs))) as u16,
         }
     }
 
@@ -157,7 +140,7 @@ impl Simd for Simd128u {
     #[inline(always)]
     fn le(&self, rhs: &Self) -> Mask128 {
         Mask128 {
-            bits: bits(&le(&lanes_of(self), &lanes_of(rhs))),
+            bits: lanes::bits(&lanes::le(&lanes_of(self), &lanes_of(rhs))) as u16,
         }
     }
 }
@@ -165,8 +148,7 @@ impl Simd for Simd128u {
 impl LoadLast for Simd128u {
     #[inline(always)]
     fn load_last(src: &[u8], count: usize) -> Self {
-        let [low, high] = last::words(src, count);
-        Simd128u { low, high }
+        Simd128u::loadu(&last::last_16(src, count).to_array())
     }
 }
 

@@ -1,4 +1,4 @@
-"""Builds the wheel and the source archive of escape_simd: what pip calls, and tools/wheel and ./release:
+"""Builds the wheel and the source archive of escape_simd: what pip, ./release and c/tests/python call:
 
     python backend.py build_wheel|build_sdist FOLDER    prints the path of what it wrote
 

@@ -1,4 +1,4 @@
-"""Tests of the package escape_simd, which tools/wheel --test installs. Prints `passed NAME`, `failed NAME` or `skipped
+"""Tests of the package escape_simd, which c/tests/python installs. Prints `passed NAME`, `failed NAME` or `skipped
 NAME` for each test, and at the end `N passed, M failed, K skipped`."""
 
 import ast

@@ -200,8 +200,8 @@ is_fresh() {
   [ -z "$(find "${sources[@]}" -newer "$built" -print -quit)" ]
 }
 
-# build CRATE LEVEL: proves and builds a program or a static library, unless that was done since the last edit of a
-# source, and sets built to its file. Says on standard error how far it is, and what disk was taken. What an interrupted
+# build CRATE LEVEL: proves and builds a program, a static library or another library's tests, unless that was done since
+# the last edit of a source, and sets built to its file. Says on standard error how far it is, and what disk was taken. What an interrupted
 # call has proved is kept.
 build() {
   local crates status=0
@@ -220,10 +220,16 @@ build() {
 build_anew() {
   local log=$top/.build/$1-$2.log began=$top/.build/$1-$2.began made=$top/crates/$1/out started=$SECONDS words=(--cpu "$2")
   [ "$2" != aarch64 ] || words=(--target aarch64-unknown-linux-gnu)
-  if is_program "$1"; then words=(run "${words[@]}") made+=/$1; else words=(lib "${words[@]}") made+=/lib$1.a; fi
+  if is_program "$1"; then
+    words=(run "${words[@]}") made+=/$1
+  elif is_library "$1"; then
+    words=(test "${words[@]}") made+=/$1_tests
+  else
+    words=(lib "${words[@]}") made+=/lib$1.a
+  fi
   say "proving and building $1 for $2, once. It writes to crates/*/out and .build, and the log is $log"
   touch "$began" && rm -f "$made" || return
-  # A program is run when it is built. What it does there is nothing to the build.
+  # Programs and tests are run when they are built. What they do there is nothing to the build.
   (cd "$top/crates/$1" && rt "${words[@]}" </dev/null 2>&1) | tee "$log" | tell_progress "$started"
   if [ ! -e "$made" ]; then
     { grep ' error: \|: not proved$' "$log" || tail -n 5 "$log"; } | head -n 5 >&2

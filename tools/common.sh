@@ -241,19 +241,13 @@ build_anew() {
 }
 
 # tell_progress STARTED: reads what rt prints, and says on standard error at which crate it is, how many of its functions
-# are proved, and how many seconds passed: a line for each crate, and one every half minute.
+# are proved, and how many seconds passed.
 tell_progress() {
-  local line number crate= functions= told=-30 far='so far: ([0-9]+) of ([0-9]+) functions'
+  local line number crate= far='so far: ([0-9]+ of [0-9]+ functions)'
   while IFS= read -r line; do
     for number in "${!crates[@]}"; do
-      if [[ $line == "rt: chose "* && ${line##* for } = "${crates[number]}" ]]; then
-        crate="crate $((number + 1)) of ${#crates[@]}, ${crates[number]}" functions= told=-30
-      fi
+      [[ $line != "rt: chose "*" for ${crates[number]}" ]] || crate="crate $((number + 1)) of ${#crates[@]}, ${crates[number]}"
     done
-    [[ ! $line =~ $far ]] || functions=", ${BASH_REMATCH[1]} of ${BASH_REMATCH[2]} functions"
-    if [ -n "$crate" ] && [ $((SECONDS - told)) -ge 30 ]; then
-      say "$crate$functions, $((SECONDS - $1)) seconds"
-      told=$SECONDS
-    fi
+    [[ ! $line =~ $far ]] || say "$crate, ${BASH_REMATCH[1]}, $((SECONDS - $1)) seconds"
   done
 }

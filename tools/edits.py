@@ -23,6 +23,11 @@ def path_of(edit):
     return must_fail if must_fail.exists() else TOP / "tools/bodies" / f"{crate}.{name}.edit"
 
 
+def says_answer(path):
+    """Whether the edit says that an answer by hand alone refuses it."""
+    return "refused: by an answer\n" in path.read_text()
+
+
 def edited(folder, path):
     """The texts of the crate in the folder that the edit of that path changes, by their files, as it leaves them."""
     texts = {}

@@ -23,10 +23,6 @@ none_set-at (false ∷ bs) (suc k) h = none_set-at bs k h
 none_set-at (false ∷ bs) zero h = refl
 none_set-at bs k h = grind (arith, get_or_past)
 
--- and the first one is no later
-pub first_set-least : (bs : List Bool) (k : ℕ) → get_or bs k false ≡ true → first_set bs ≤ k
-first_set-least bs k set = grind (arith, first_set-before)
-
 -- cleared lanes are not set
 pub none_set-replicate : (n i : ℕ) → get_or (replicate n false) i false ≡ false
 none_set-replicate n i = grind (arith, get_or_past, length-replicate, get_or-replicate)
@@ -38,11 +34,6 @@ get_or-clear_first n k bs h = grind (arith, get_or-append_right, length-replicat
 -- one of those
 pub get_or-cleared_first : (n k : ℕ) (bs : List Bool) → k < n → get_or (clear_first n bs) k false ≡ false
 get_or-cleared_first n k bs h = grind (arith, get_or_append_left, length-replicate, none_set-replicate)
-
--- a lane of a mask that was moved down
-pub get_or-shifted : (c k : ℕ) (bs : List Bool) → get_or (drop c bs ++ replicate c false) k false ≡ get_or bs (c + k) false
-get_or-shifted c k bs =
-    grind (arith, length-drop {A = ℕ}, get_or-append_right, none_set-replicate, get_or_past, get_or_append_left, get_or-drop)
 
 -- clean bytes, told one by one
 abbrev pub CleanFrom : Mode → List ℕ → ℕ → ℕ → Type 0

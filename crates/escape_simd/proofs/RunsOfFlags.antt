@@ -4,7 +4,7 @@ use Rattle.escape_simd.proofs.Escapes.{entry-counts, passed-after}
 use Rattle.escape_simd.proofs.ReplacementLemmas.{length-replacement}
 use Rattle.escape_simd.proofs.Texts.{escaped-here, first-here, next-here, one≤passed, run_end-here}
 use Rattle.escape_simd.proofs.Stretches.{onward, room-least, standing, stretch-on}
-use Rattle.escape_simd.proofs.Lanes.{CleanFrom, HoldsFlags, cleared-later, first-set, first_set-here, first_set-least, mask-holds, none-before}
+use Rattle.escape_simd.proofs.Lanes.{CleanFrom, HoldsFlags, cleared-later, first-set, first_set-before, first_set-here, mask-holds, none-before}
 
 -- A run
 
@@ -66,13 +66,6 @@ uncounted mode b count is none = grind (arith, entry-counts, length-replacement)
 
 -- A run by its flags
 
--- where some lane is set, the first one is a lane
-first_set-inside : (bs : List Bool) → none_set bs ≡ false → first_set bs < length bs
-unfolding first_set none_set
-first_set-inside [] some = absurd (true≢false some)
-first_set-inside (true ∷ bs) some = omega arith
-first_set-inside (false ∷ bs) some = omega (arith, first_set-inside bs some)
-
 -- what a mask tells after one byte of it
 module _ {mode : Mode} {src : List ℕ} {valid at next : ℕ} {mask rest : MaskOf} (r : IsRunAt mode src valid at mask) (place : next ≡ at + passed mode (drop at src)) (cut : rest ≡ mask_from mask.bytes (first_set (lanes_of_mask mode mask) + 1) mask.stored) where
   -- its lanes
@@ -105,27 +98,22 @@ module _ {mode : Mode} {src : List ℕ} {valid at next : ℕ} {mask rest : MaskO
   mask-left : none_set bits ≡ false → next < valid
   mask-left some = omega (arith, (first-set mode src 0 valid next bits mask-flags some).0, mask-cleared (first_set bits) (first_set-here bits some))
 
-  -- and the next is a lane of the mask
-  pub mask-below : (n : ℕ) → bits_of 64 n ≡ bits → none_set bits ≡ false → next < 64
-  mask-below n is some =
-      let f = first_set-inside bits some in omega (arith, mask-cleared (first_set bits) (first_set-here bits some), f, ap length is, length-bits_of 64 n)
-
-  -- where it is set, the run goes on
-  pub mask-goes : none_set bits ≡ false → get_or bits next false ≡ true → IsRunAt mode src valid next rest
-  mask-goes some set =
-      let t = mask-flags.set next set in let there : 0 + next ≡ next = omega arith in
+  -- where the next lane is the first that is set, the run goes on
+  pub mask-goes : none_set bits ≡ false → first_set bits ≡ next → IsRunAt mode src valid next rest
+  mask-goes some first =
+      let t = first-set mode src 0 valid next bits mask-flags some in let there : 0 + first_set bits ≡ next = omega (arith, first) in
       record {
         bytes = ap (λ m. m.bytes) cut ∙ r.bytes;
         some = some;
-        first = omega (arith, first_set-least bits next set, mask-cleared (first_set bits) (first_set-here bits some));
-        flagged = (omega (arith, t, r.inside), rw there at t.1);
-        before = t.0;
+        first = sym first;
+        flagged = (omega (arith, t, first, r.inside), rw there at t.1);
+        before = omega (arith, t, first);
         inside = r.inside;
       }
 
   -- else it has ended
-  pub mask-ends : next ≤ length src → (none_set bits ≡ false → get_or bits next false ≡ false) → IsRunEnd mode src valid next rest
-  mask-ends inside unset =
+  pub mask-ends : next ≤ length src → (none_set bits ≡ false → first_set bits ≡ next → ⊥) → IsRunEnd mode src valid next rest
+  mask-ends inside other =
       let u = place-after in let there : 0 + next ≡ next = omega arith in
       record {
         inside = inside;
@@ -138,5 +126,7 @@ module _ {mode : Mode} {src : List ℕ} {valid at next : ℕ} {mask rest : MaskO
           exact = λ one. omega (arith, past, u, r.before, place, one (drop at src));
           clean = λ p late early. mask-between p (omega (arith, late, r.before)) early;
         };
-        stops = λ some. (mask-left some, rw there at (mask-flags.unset next (unset some) (omega arith) (mask-left some)));
+        stops = λ some.
+            let later = mask-cleared (first_set bits) (first_set-here bits some) in let not_here = other some in let before : next < first_set bits = grind (arith, later, not_here) in
+            (mask-left some, rw there at (mask-flags.unset next (first_set-before bits next before) (omega arith) (mask-left some)));
       }

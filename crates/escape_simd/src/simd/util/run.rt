@@ -1,14 +1,11 @@
 //! How far a run of escapes goes: as its mask tells, or its bytes.
-ghost use Rattle.std.specs.Prelude.{◌≡◌, ℕ, ◌+◌, ◌<◌, ◌≤◌, true, false, List, length, drop, slice_index_or};
-ghost use Rattle.escape_lanes.specs.Bits.{bits_of};
+ghost use Rattle.std.specs.Prelude.{◌≡◌, ℕ, ◌+◌, ◌<◌, ◌≤◌, true, false, List, length, drop};
 ghost use Rattle.escape_simd.specs.Modes.{mode_numbered};
 ghost use Rattle.escape_simd.specs.Output.{passed};
 ghost use Rattle.escape_simd.specs.Stretch.{IsFlaggedAt, IsRunAt, IsRunEnd, run_end};
 ghost use Rattle.escape_simd.specs.RunLaws.{entry-flagged};
 
-use escape_lanes::simd::BitMask;
 use escape_lanes::simd::escape_mask::EscapeMask;
-use escape_lanes::simd::lane_bits::shift_lanes;
 use escape_lanes::simd::mode::entry;
 
 /// What tells whether a run goes on.
@@ -32,15 +29,6 @@ pub(crate) trait RunEnd<const MODE: u8>: Drop {
         → IsFlaggedAt (mode_numbered MODE) src at × (at < stop) × (stop ≤ length src) };
 }
 
-/// Returns whether the lane is set. `lane` is below 64.
-#[inline(always)]
-fn is_set(bits: u64, lane: usize) -> bool
-    requires { lane < 64 }
-    ensures { result ≡ slice_index_or (bits_of 64 bits) lane false }
-{
-    shift_lanes(bits, lane).first_offset() == 0
-}
-
 impl<const MODE: u8> RunEnd<MODE> for EscapeMask<MODE> {
     ghost goes = { λ mask src stop at. IsRunAt (mode_numbered MODE) src stop at mask };
 
@@ -50,7 +38,7 @@ impl<const MODE: u8> RunEnd<MODE> for EscapeMask<MODE> {
     #[inline(always)]
     fn goes_on(&mut self, _: &[u8], _: usize, _: usize, next: usize) -> bool {
         self.clear_first();
-        !self.is_clear() && is_set(self.bits(), next)
+        !self.is_clear() && self.first_offset() == next
     }
 
     ghost flagged = { λ _ src stop at goes. (goes.flagged, goes.before, goes.inside) };

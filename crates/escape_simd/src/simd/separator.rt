@@ -8,27 +8,21 @@ ghost use Rattle.escape_simd.specs.Output.{begins_separator};
 use escape_lanes::simd::mode::is_script;
 use escape_lanes::tables::{LINE_SEPARATOR, PARAGRAPH_SEPARATOR};
 
-/// Returns whether the bytes from `at` on begin with a separator: e2 80 a8 or e2 80 a9.
-#[inline(always)]
-fn begins_separator(src: &[u8], at: usize) -> bool
-    requires { at < length src.now }
-    ensures { result ≡ begins_separator (drop at src.now) }
-{
-    if src[at] != 0xe2 || src.len() - at < 3 {
-        return false;
-    }
-    let (second, third) = (src[at + 1], src[at + 2]);
-    second == 0x80 && (third == 0xa8 || third == 0xa9)
-}
-
-/// Returns whether the mode escapes separators, and one begins at `at`.
+/// Returns whether the mode escapes separators, and one begins at `at`: e2 80 a8 or e2 80 a9.
 #[inline(always)]
 pub(crate) fn is_separator<const MODE: u8>(src: &[u8], at: usize) -> bool
     requires { at < length src.now }
     ensures begins { result ≡ true → (mode_numbered MODE ≡ script) × (begins_separator (drop at src.now) ≡ true) }
     ensures none { result ≡ false → mode_numbered MODE ≡ script → begins_separator (drop at src.now) ≡ false }
 {
-    is_script::<MODE>() && begins_separator(src, at)
+    if !is_script::<MODE>() {
+        return false;
+    }
+    if src[at] != 0xe2 || src.len() - at < 3 {
+        return false;
+    }
+    let (second, third) = (src[at + 1], src[at + 2]);
+    second == 0x80 && (third == 0xa8 || third == 0xa9)
 }
 
 /// Returns what stands for the separator with this third byte.

@@ -1,9 +1,9 @@
 -- A whole text: its bytes between quotes, or with none.
-use Rattle.escape_simd.proofs.Words.{◌≡◌, ℕ, ◌+◌, ◌*◌, ◌/◌, ◌≤◌, true, false, List, [], ◌++◌, length, take, drop, refl, sym, ap, ◌∙◌, arith, append_assoc, length-append, le_refl, append-nil, drop_all, Mode, json, html, script, bytes_of, Target, inner, plain, bound, quote_of, quote_count, escaped_count, run_count, Cost, Stretch, reach, state, IsWritten, IsFormatted, IsInnerWritten, IsQuoted, IsWrittenAt, IsOnlyOutput, IsOfOneText}
+use Rattle.escape_simd.proofs.Words.{◌≡◌, ℕ, ◌+◌, ◌*◌, ◌/◌, ◌<◌, ◌≤◌, true, false, List, [], ◌++◌, length, take, drop, refl, sym, ap, ◌∙◌, subst, arith, append_assoc, length-append, le_refl, append-nil, drop_all, Mode, json, html, script, bytes_of, Target, inner, plain, bound, quote_of, quote_count, escaped_count, run_count, Cost, HasRoom, Stretch, reach, state, IsWritten, IsFormatted, IsInnerWritten, IsQuoted, IsWrittenAt, IsOnlyOutput, IsOfOneText}
 use Rattle.std.specs.Str.{IsUtf8, chars}
-use Rattle.escape_simd.proofs.OutputLemmas.{IsOnlyOutput-output, IsOfOneText-output}
+use Rattle.escape_simd.proofs.OutputLemmas.{IsOnlyOutput-between, IsOnlyOutput-output, IsOfOneText-output, length-plain}
 use Rattle.escape_simd.proofs.RestSteps.{rest-is}
-use Rattle.escape_simd.proofs.Stretches.{drop_further}
+use Rattle.escape_simd.proofs.Stretches.{drop_further, room-on}
 use Rattle.escape_simd.proofs.ReplacementLemmas.{inner-nil}
 use Rattle.escape_simd.proofs.Texts.{escaped-empty, length-inner, runs-empty}
 
@@ -29,11 +29,6 @@ quote-short json = omega arith
 quote-short html = omega arith
 quote-short script = omega arith
 
--- so many bytes has an output
-pub length-plain : (mode : Mode) (text : List ℕ) → length (plain mode text) ≡ length (inner mode text) + quote_count mode
-length-plain mode text =
-    omega (arith, two_quotes mode, ap length (plain-parts mode text), length-append (quote_of mode ++ inner mode text) (quote_of mode), length-append (quote_of mode) (inner mode text))
-
 -- all bytes of a text were passed: what stands for it is there
 pub all-inner : {N : ℕ} {mode : Mode} {slack : ℕ} {text : List ℕ} {old new : Target N} {to end : ℕ} → Stretch mode slack text old new (0, to) (length text, end) → IsWrittenAt slack (inner mode text) (bytes_of old) (bytes_of new) to end
 all-inner {N} {mode} {slack} {text} {old} {new} {to} {end} s =
@@ -55,23 +50,23 @@ whole_written lanes mode text old new count at =
     let kept = further (bound mode (length text)) (omega (arith, at.ends, most, long, two_quotes mode, bound-quotes mode (length text))) at.kept in
     let past = further (count + lanes) (omega arith) at.kept in grind arith
 
--- an output over bytes that began with a quotation mark already
-pub quoted-before : {lanes : ℕ} {mode : Mode} {text old mid new : List ℕ} {opened count : ℕ} → 16 ≤ lanes → IsWritten lanes mode text mid new count → IsWrittenAt 0 (quote_of mode) old mid 0 opened → IsWritten lanes mode text old new count
-quoted-before {lanes} {mode} {text} {old} {mid} {new} {opened} {count} several after before =
-    let same = drop_further mid old (opened + 0) in let short = quote-short mode in let ends = before.ends in
-    let bound_kept = same (bound mode (length text)) (omega (arith, bound-quotes mode (length text), short, ends)) before.kept in
-    let past_kept = same (count + lanes) (omega (arith, several, short, ends)) before.kept in grind arith
+-- and the quotation mark before it was written first
+pub between-quotes : {lanes : ℕ} {mode : Mode} {text old mid new : List ℕ} {to count : ℕ} → IsWrittenAt 0 (quote_of mode) old mid 0 to → IsWrittenAt (reach true lanes) (inner mode text ++ quote_of mode) mid new to count → IsWritten lanes mode text old new count
+between-quotes {lanes} {mode} {text} {old} {mid} {new} {to} {count} before after =
+    whole_written lanes mode text old new count (rw (plain-parts mode text ∙ append_assoc (quote_of mode) (inner mode text) (quote_of mode)) (written-onward (reach true lanes) before after (omega (arith, after.ends)) (omega arith)))
+
+-- all bytes of a text were passed, and a quotation mark may follow
+pub closed : {N : ℕ} {mode : Mode} {slack : ℕ} {text mark dst : List ℕ} {old mid new : Target N} {to close end : ℕ} → bytes_of old ≡ dst → Stretch mode slack text old mid (0, to) (length text, close) → IsQuoted mark mid new close end → IsWrittenAt slack (inner mode text ++ mark) dst (bytes_of new) to end
+closed {slack = slack} is s q = rw is at (written-onward slack (all-inner s) q.quoted (omega (arith, q.quoted.ends)) (omega arith))
+
+-- there is room for it
+pub close-inside : {N : ℕ} {mode : Mode} {slack more : ℕ} {text : List ℕ} {old mid : Target N} {to close : ℕ} → Stretch mode slack text old mid (0, to) (length text, close) → HasRoom mode more text 0 (length text) to (length (bytes_of old)) → 1 ≤ more → close < length (bytes_of mid)
+close-inside s room some = let left = room-on s room in omega (arith, left.fits, some)
 
 -- the bytes of a text were escaped to a target, between quotation marks
 module _ {N : ℕ} {mode : Mode} {text : List ℕ} {old first second new : Target N} {opened close count : ℕ}
-    (before : IsQuoted mode old first 0 opened) (between : Stretch mode (reach true N) text first second (0, opened) (length text, close)) (after : IsQuoted mode second new close count) where
-  pub target_written : IsWritten N mode text (bytes_of old) (bytes_of new) count
-  target_written =
-      let inside = all-inner between in let more = reach true N in
-      let all = written-onward more (written-onward more before.quoted inside (omega (arith, inside.ends)) (omega arith)) after.quoted (omega (arith, after.quoted.ends)) (omega arith) in
-      whole_written N mode text (bytes_of old) (bytes_of new) count (rw (plain-parts mode text) all)
-
-  -- and its counts
+    (before : IsQuoted (quote_of mode) old first 0 opened) (between : Stretch mode (reach true N) text first second (0, opened) (length text, close)) (after : IsQuoted (quote_of mode) second new close count) where
+  -- what this wrote, and its counts
   pub whole_formatted : {t0 t1 : ℕ} → Cost mode (length text / N + 1) 0 text (state first 0 opened t0) (state second (length text) close t1) → IsFormatted mode text old new count t0 t1
   whole_formatted c =
       let two = two_quotes mode in let s = between in
@@ -83,7 +78,7 @@ module _ {N : ℕ} {mode : Mode} {text : List ℕ} {old first second new : Targe
           reference = after.same_slice.reference ∙ s.same_slice.reference ∙ before.same_slice.reference;
           len = after.same_slice.len ∙ s.same_slice.len ∙ before.same_slice.len;
         };
-        written = target_written;
+        written = between-quotes before.quoted (closed refl between after);
         escaped = omega (arith, after.escaped, s.escaped, before.escaped, none);
         quotes = omega (arith, after.quotes, s.quotes, before.quotes, two);
         stored = omega (arith, after.stored, before.stored, c.stored);
@@ -92,10 +87,14 @@ module _ {N : ℕ} {mode : Mode} {text : List ℕ} {old first second new : Targe
       }
 
 -- what stands for a text with no quotation marks, at the front of the bytes
-pub inner_written : (lanes : ℕ) (mode : Mode) (text old new : List ℕ) (count : ℕ) → IsWrittenAt (reach true lanes) (inner mode text) old new 0 count → IsInnerWritten lanes mode text old new count
-inner_written lanes mode text old new count at =
-    let most = length-inner mode text in let further = drop_further new old (count + reach true lanes) in
-    let kept = further (6 * length text + 32) (omega (arith, at.ends, most)) at.kept in let past = further (count + lanes) (omega arith) at.kept in grind arith
+pub inner_written : {lanes : ℕ} {mode : Mode} {text value old new : List ℕ} {count : ℕ} → text ≡ value → IsWrittenAt (reach true lanes) (inner mode text ++ []) old new 0 count → IsUtf8 value
+    → record { written : IsInnerWritten lanes mode value old new count; headline : IsOnlyOutput mode (quote_of mode ++ (take count new ++ quote_of mode)) (chars value) }
+inner_written {lanes} {mode} {text} {value} {old} {new} {count} is given utf8 =
+    let at = subst (λ xs. IsWrittenAt (reach true lanes) xs old new 0 count) (append-nil (inner mode text) ∙ ap (inner mode) is) given in
+    let most = length-inner mode value in let further = drop_further new old (count + reach true lanes) in
+    let kept = further (6 * length value + 32) (omega (arith, at.ends, most)) at.kept in let past = further (count + lanes) (omega arith) at.kept in
+    let w : IsInnerWritten lanes mode value old new count = grind arith in
+    record { written = w; headline = IsOnlyOutput-between mode value (take count new) w.exact utf8 }
 
 -- what is said of an output that was written
 pub written-laws : {lanes : ℕ} {mode : Mode} {text old new : List ℕ} {count : ℕ} → IsWritten lanes mode text old new count → IsUtf8 text

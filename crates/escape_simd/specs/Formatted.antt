@@ -3,7 +3,7 @@ use Rattle.std.specs.Prelude.{◌≡◌, ℕ, ◌+◌, ◌*◌, ◌/◌, ◌≤�
 use Rattle.escape_lanes.specs.Mode.{Mode}
 use Rattle.escape_lanes.specs.Written.{bytes_of, stored_of, escaped_of, quotes_of, IsSameSlice}
 use Rattle.escape_lanes.specs.declared.simd.target.Target.{Target}
-use Rattle.escape_simd.specs.Output.{plain, inner, quote_of, quote_count, bound}
+use Rattle.escape_simd.specs.Output.{plain, inner, quote_count, bound}
 use Rattle.escape_simd.specs.Runs.{escaped_count, run_count}
 
 -- The plain escaping of the text stands at the front of the bytes.
@@ -23,13 +23,13 @@ pub record IsWrittenAt (slack : ℕ) (output old new : List ℕ) (to end : ℕ) 
   pub written : take end new ≡ take to old ++ output
   pub kept : drop (end + slack) new ≡ drop (end + slack) old
 
--- one quote was written or none, to a target
-pub record IsQuoted {N : ℕ} (mode : Mode) (old new : Target N) (to end : ℕ) : Type 0 where
+-- one quotation mark was written or none, to a target
+pub record IsQuoted {N : ℕ} (mark : List ℕ) (old new : Target N) (to end : ℕ) : Type 0 where
   pub same_slice : IsSameSlice old new
-  pub quoted : IsWrittenAt 0 (quote_of mode) (bytes_of old) (bytes_of new) to end
+  pub quoted : IsWrittenAt 0 mark (bytes_of old) (bytes_of new) to end
   pub stored : stored_of new ≡ stored_of old
   pub escaped : escaped_of new ≡ escaped_of old
-  pub quotes : quotes_of new ≡ quotes_of old + length (quote_of mode)
+  pub quotes : quotes_of new ≡ quotes_of old + length mark
 
 -- The same in a target, at a cost of one vector stored, and one classified, for each run of escapes, and
 -- one for each vector that the text fills or begins.

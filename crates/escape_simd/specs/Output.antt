@@ -57,6 +57,10 @@ quote_of json = 0x22 ∷ []
 quote_of html = []
 quote_of script = 0x22 ∷ []
 
+-- the same if it is wanted, and else nothing
+abbrev pub quote_if : Bool → Mode → List ℕ
+quote_if wanted mode = if wanted then quote_of mode else []
+
 -- how many quotation marks these are together
 abbrev pub quote_count : Mode → ℕ
 quote_count json = 2

@@ -1,23 +1,25 @@
 //! Calls that write an output to a slice, with the kernel that the caller names. They allocate nothing and do not
 //! fail.
-ghost use Rattle.std.specs.Prelude.{◌+◌, ◌*◌, ◌≤◌, ◌++◌, length, take, chars};
+ghost use Rattle.std.specs.Prelude.{◌+◌, ◌*◌, ◌≤◌, ◌++◌, true, length, take, chars};
 ghost use Rattle.escape_lanes.specs.Mode.{json, html, script};
 ghost use Rattle.escape_simd.specs.Escaping.{IsEscaping};
 ghost use Rattle.escape_simd.specs.Examples.{HtmlExamples, JsonExamples, ScriptExamples};
-ghost use Rattle.escape_simd.specs.Formatted.{IsInnerWritten, IsWritten};
+ghost use Rattle.escape_simd.specs.Formatted.{IsInnerWritten, IsWritten, IsWrittenAt};
 ghost use Rattle.escape_simd.specs.Headline.{IsOnlyOutput};
 ghost use Rattle.escape_simd.specs.Json.{IsOnlyJson};
 ghost use Rattle.escape_simd.specs.Kernels.{lanes_of};
 ghost use Rattle.escape_simd.specs.Laws.{AgreesWithEach};
 ghost use Rattle.escape_simd.specs.Modes.{escaping, mode_numbered};
-ghost use Rattle.escape_simd.specs.Output.{bound, quote_of, quoted};
+ghost use Rattle.escape_simd.specs.Output.{bound, inner, quote_if, quote_of, quoted};
 ghost use Rattle.escape_simd.specs.Script.{IsOnlyScript};
+ghost use Rattle.escape_simd.specs.Stretch.{reach};
 
 use crate::kernel::Kernel;
 use crate::mode::Mode;
 use crate::simd::{
-    Classifier, HTML_MODE, JSON_MODE, SCRIPT_MODE, avx2, avx512, escape_at, neon, sse2, v128, whole,
+    HTML_MODE, JSON_MODE, SCRIPT_MODE, avx2, avx512, escape_to_slice, neon, quote, sse2, v128,
 };
+use escape_lanes::simd::target::Target;
 
 /// Writes the output of a text in the mode `mode` to the front of `dst`, with the kernel `kernel`. Returns the length
 /// of the output in bytes. The call allocates nothing and does not fail.
@@ -66,10 +68,11 @@ pub fn format_inner(kernel: Kernel, mode: Mode, value: &str, dst: &mut [u8]) -> 
     ensures headline { IsOnlyOutput (escaping mode)
         (quote_of (escaping mode) ++ (take result dst.new ++ quote_of (escaping mode))) (chars value.now) }
 {
+    let text = value.as_bytes();
     match mode {
-        Mode::Json => inner_by::<{ JSON_MODE }>(kernel, value, dst),
-        Mode::Html => inner_by::<{ HTML_MODE }>(kernel, value, dst),
-        Mode::Script => inner_by::<{ SCRIPT_MODE }>(kernel, value, dst),
+        Mode::Json => escape_by::<{ JSON_MODE }, false>(kernel, text, dst, 0),
+        Mode::Html => escape_by::<{ HTML_MODE }, false>(kernel, text, dst, 0),
+        Mode::Script => escape_by::<{ SCRIPT_MODE }, false>(kernel, text, dst, 0),
     }
 }
 
@@ -246,68 +249,53 @@ pub fn format_script_inner(kernel: Kernel, value: &str, dst: &mut [u8]) -> usize
 }
 
 /// Writes the output for the text in the mode numbered `MODE` by the kernel.
-///
-/// The default kernel is compared first: so it takes one comparison, and no jump by a table.
 fn format_by<const MODE: u8>(kernel: Kernel, value: &str, dst: &mut [u8]) -> usize
     requires { bound (mode_numbered MODE) (length value.now) ≤ length dst.old }
     ensures { IsWritten (lanes_of kernel) (mode_numbered MODE) value.now dst.old dst.new result }
 {
-    match kernel {
-        Kernel::Avx2 => whole::format_in_mode::<avx2::Simd256u, MODE, 32>(value, dst),
-        _ => format_by_other::<MODE>(kernel, value, dst),
-    }
+    let open = quote::<MODE, true, 32>(&mut Target::<32>::new(dst), 0);
+    escape_by::<MODE, true>(kernel, value.as_bytes(), dst, open)
 }
 
-/// As [`format_by`], by any kernel.
-#[inline(never)]
-fn format_by_other<const MODE: u8>(kernel: Kernel, value: &str, dst: &mut [u8]) -> usize
-    requires { bound (mode_numbered MODE) (length value.now) ≤ length dst.old }
-    ensures { IsWritten (lanes_of kernel) (mode_numbered MODE) value.now dst.old dst.new result }
-{
-    match kernel {
-        Kernel::V128 => whole::format_in_mode::<v128::Simd128u, MODE, 16>(value, dst),
-        Kernel::Sse2 => whole::format_in_mode::<sse2::Simd128u, MODE, 16>(value, dst),
-        Kernel::Neon => whole::format_in_mode::<neon::Simd128u, MODE, 16>(value, dst),
-        Kernel::Avx2 => whole::format_in_mode::<avx2::Simd256u, MODE, 32>(value, dst),
-        Kernel::Avx512 => whole::format_in_mode::<avx512::Simd512u, MODE, 64>(value, dst),
-    }
-}
-
-/// Writes what stands for the text in the mode numbered `MODE`, with no quotation marks, by the kernel. The default one is
-/// compared first here too.
-fn inner_by<const MODE: u8>(kernel: Kernel, value: &str, dst: &mut [u8]) -> usize
-    requires { 6 * length value.now + 32 ≤ length dst.old }
-    ensures { IsInnerWritten (lanes_of kernel) (mode_numbered MODE) value.now dst.old dst.new result }
-{
-    match kernel {
-        Kernel::Avx2 => inner_at::<avx2::Simd256u, MODE, 32>(value, dst),
-        _ => inner_by_other::<MODE>(kernel, value, dst),
-    }
-}
-
-/// As [`inner_by`], by any kernel.
-#[inline(never)]
-fn inner_by_other<const MODE: u8>(kernel: Kernel, value: &str, dst: &mut [u8]) -> usize
-    requires { 6 * length value.now + 32 ≤ length dst.old }
-    ensures { IsInnerWritten (lanes_of kernel) (mode_numbered MODE) value.now dst.old dst.new result }
-{
-    match kernel {
-        Kernel::V128 => inner_at::<v128::Simd128u, MODE, 16>(value, dst),
-        Kernel::Sse2 => inner_at::<sse2::Simd128u, MODE, 16>(value, dst),
-        Kernel::Neon => inner_at::<neon::Simd128u, MODE, 16>(value, dst),
-        Kernel::Avx2 => inner_at::<avx2::Simd256u, MODE, 32>(value, dst),
-        Kernel::Avx512 => inner_at::<avx512::Simd512u, MODE, 64>(value, dst),
-    }
-}
-
-/// As [`inner_by`], by the kernel of a vector.
-#[inline(always)]
-fn inner_at<V: Classifier<MODE, N>, const MODE: u8, const N: usize>(
-    value: &str,
+/// Writes what stands for the text in the mode numbered `MODE` to `dst` from `to` on, by the kernel, and the last quotation
+/// mark if `CLOSED`. Returns the index after both.
+///
+/// The default kernel is compared first: so it takes one comparison, and no jump by a table.
+fn escape_by<const MODE: u8, const CLOSED: bool>(
+    kernel: Kernel,
+    text: &[u8],
     dst: &mut [u8],
+    to: usize,
 ) -> usize
-    requires { 6 * length value.now + 32 ≤ length dst.old }
-    ensures { IsInnerWritten N (mode_numbered MODE) value.now dst.old dst.new result }
+    requires { to + 6 * length text.now + 32 ≤ length dst.old }
+    ensures { IsWrittenAt (reach true (lanes_of kernel))
+        (inner (mode_numbered MODE) text.now ++ quote_if CLOSED (mode_numbered MODE))
+        dst.old dst.new to result }
 {
-    escape_at::<V, MODE, N>(value.as_bytes(), dst, 0)
+    match kernel {
+        Kernel::Avx2 => escape_to_slice::<avx2::Simd256u, MODE, CLOSED, 32>(text, dst, to),
+        _ => escape_by_other::<MODE, CLOSED>(kernel, text, dst, to),
+    }
+}
+
+/// As [`escape_by`], by any kernel.
+#[inline(never)]
+fn escape_by_other<const MODE: u8, const CLOSED: bool>(
+    kernel: Kernel,
+    text: &[u8],
+    dst: &mut [u8],
+    to: usize,
+) -> usize
+    requires { to + 6 * length text.now + 32 ≤ length dst.old }
+    ensures { IsWrittenAt (reach true (lanes_of kernel))
+        (inner (mode_numbered MODE) text.now ++ quote_if CLOSED (mode_numbered MODE))
+        dst.old dst.new to result }
+{
+    match kernel {
+        Kernel::V128 => escape_to_slice::<v128::Simd128u, MODE, CLOSED, 16>(text, dst, to),
+        Kernel::Sse2 => escape_to_slice::<sse2::Simd128u, MODE, CLOSED, 16>(text, dst, to),
+        Kernel::Neon => escape_to_slice::<neon::Simd128u, MODE, CLOSED, 16>(text, dst, to),
+        Kernel::Avx2 => escape_to_slice::<avx2::Simd256u, MODE, CLOSED, 32>(text, dst, to),
+        Kernel::Avx512 => escape_to_slice::<avx512::Simd512u, MODE, CLOSED, 64>(text, dst, to),
+    }
 }

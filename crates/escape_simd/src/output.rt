@@ -17,7 +17,7 @@ mod push;
 
 pub use crate::mode::quote;
 use crate::simd::avx2::Simd256u;
-use crate::simd::escape_at;
+use crate::simd::escape_to_slice;
 use crate::{html, json};
 use bytes::{append_last, append_long};
 pub use clean::is_clean;
@@ -68,7 +68,7 @@ pub fn write_inner<const MODE: u8>(value: &str, dst: &mut [u8], at: usize) -> us
     ensures written { take result dst.new
         ≡ take at dst.old ++ inner (mode_numbered MODE) value.now }
 {
-    escape_at::<V, MODE, N>(value.as_bytes(), dst, at)
+    escape_to_slice::<V, MODE, false, N>(value.as_bytes(), dst, at)
 }
 
 /// Appends the output of a text to a vector that has room for it.

@@ -14,8 +14,9 @@ pub mod util;
 pub mod v128;
 pub(crate) mod whole;
 
-pub(crate) use body::{escape_at, escape_chunks};
+pub(crate) use body::escape_chunks;
 pub use escape_lanes::simd::mode::{HTML_MODE, JSON_MODE, SCRIPT_MODE};
 pub use escape_lanes::simd::{BitMask, Mask, Simd, bits, target};
 pub(crate) use escape_lanes::simd::{Classifier, LoadLast};
-pub(crate) use tail::{classify_pair, classify_short, escape_flagged_at};
+pub(crate) use tail::{classify_pair, classify_short};
+pub(crate) use whole::{escape_flagged, escape_to_slice, quote};

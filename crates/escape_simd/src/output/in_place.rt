@@ -2,11 +2,11 @@
 ghost use Rattle.std.specs.Prelude.{◌≡◌, ◌+◌, ◌*◌, ◌<◌, ◌≤◌, ◌++◌, length, take, vec_len, vec_capacity};
 ghost use Rattle.escape_simd.specs.Modes.{mode_numbered};
 ghost use Rattle.escape_simd.specs.Output.{inner, quote_of};
-ghost use Rattle.escape_simd.specs.Stretch.{AreTailMasks, HasRoom};
+ghost use Rattle.escape_simd.specs.Stretch.{AreTailMasks};
 
-use crate::output::push::{fill, push_all, push_quote};
+use crate::output::push::{fill, push_all};
 use crate::output::{N, V};
-use crate::simd::{escape_at, escape_chunks, escape_flagged_at};
+use crate::simd::{escape_chunks, escape_flagged, escape_to_slice};
 use escape_lanes::simd::escape_mask::EscapeMask;
 use escape_lanes::simd::lane_bits::count_flagged;
 use std::alloc::Allocator;
@@ -32,14 +32,15 @@ pub(super) fn append_flagged<const MODE: u8, A: Allocator>(
 {
     let old = dst.len();
     let most = text.len() + 5 * (count_flagged(first.bits()) + count_flagged(last.bits())) + N;
-    if most <= FEW_ZEROS && FEW_ZEROS <= dst.capacity() - old {
-        push_all(dst, &[0; FEW_ZEROS]);
-        return append_over::<MODE, A>(text, first, last, dst, old);
+    if FEW_ZEROS < most || dst.capacity() - old < FEW_ZEROS {
+        return append_dense::<MODE, A>(text, first, last, dst);
     }
-    append_dense::<MODE, A>(text, first, last, dst);
+    push_all(dst, &[0; FEW_ZEROS]);
+    let end = escape_flagged::<V, MODE, true, N>(text, first, last, dst, old);
+    dst.truncate(end);
 }
 
-/// As [`append_flagged`], over as many zeros as the bound. It stands apart, so that few zeros need no frame.
+/// As [`append_flagged`], over as many zeros as the bound. It stands apart, so that few zeros save fewer registers.
 #[inline(never)]
 fn append_dense<const MODE: u8, A: Allocator>(
     text: &[u8],
@@ -54,27 +55,8 @@ fn append_dense<const MODE: u8, A: Allocator>(
 {
     let old = dst.len();
     fill(dst, old + 6 * text.len() + N);
-    append_over::<MODE, A>(text, first, last, dst, old);
-}
-
-/// As [`append_flagged`], over the zeros that the vector has from `at` on.
-#[inline(never)]
-fn append_over<const MODE: u8, A: Allocator>(
-    text: &[u8],
-    first: EscapeMask<MODE>,
-    last: EscapeMask<MODE>,
-    dst: &mut Vec<u8, A>,
-    at: usize,
-)
-    requires masks { AreTailMasks N text.now first last }
-    requires room { HasRoom (mode_numbered MODE) 32 text.now 0 (length text.now) at (vec_len dst.old) }
-    requires capacity { at + 6 * length text.now + N ≤ vec_capacity dst.old }
-    ensures { dst.new.items ≡ take at dst.old.items
-        ++ (inner (mode_numbered MODE) text.now ++ quote_of (mode_numbered MODE)) }
-{
-    let end = escape_flagged_at::<V, MODE, N>(text, first, last, dst, at);
+    let end = escape_flagged::<V, MODE, true, N>(text, first, last, dst, old);
     dst.truncate(end);
-    push_quote::<MODE, A>(dst);
 }
 
 /// Appends what stands for the text's bytes, and the last quotation mark. The vector is filled for a chunk or
@@ -94,7 +76,6 @@ pub(super) fn append_in_place<const MODE: u8, A: Allocator>(src: &[u8], dst: &mu
         end = next;
     }
     fill(dst, end + 6 * left.len() + N);
-    let close = escape_at::<V, MODE, N>(left, dst, end);
+    let close = escape_to_slice::<V, MODE, true, N>(left, dst, end);
     dst.truncate(close);
-    push_quote::<MODE, A>(dst);
 }

@@ -2,15 +2,13 @@
 ghost use Rattle.std.specs.Prelude.{◌+◌, ◌*◌, ◌/◌, ◌<◌, ◌≤◌, true, length};
 ghost use Rattle.escape_lanes.specs.Written.{bytes_of};
 ghost use Rattle.escape_simd.specs.Modes.{mode_numbered};
-ghost use Rattle.escape_simd.specs.Formatted.{IsWrittenAt};
-ghost use Rattle.escape_simd.specs.Output.{inner};
 ghost use Rattle.escape_simd.specs.Parts.{IsPartAt};
-ghost use Rattle.escape_simd.specs.Stretch.{AreTailMasks, Escapes, HasRoom, reach, state};
+ghost use Rattle.escape_simd.specs.Stretch.{Escapes, HasRoom, reach, state};
 
 use crate::simd::Classifier;
 use crate::simd::chunk::{chunk, vector_from};
-use crate::simd::tail::{escape_flagged_at, escape_tail, store_clean_tail};
-use escape_lanes::simd::escape_mask::{EscapeMask, classify};
+use crate::simd::tail::escape_tail;
+use escape_lanes::simd::escape_mask::classify;
 use escape_lanes::simd::target::{Target, Ticks};
 
 /// Escapes the bytes to the target from `to` on, with no quotation marks. Returns the place after them.
@@ -62,55 +60,4 @@ pub(crate) fn escape_chunks<V: Classifier<MODE, N>, const MODE: u8, const N: usi
         (at, end) = chunk::<V, MODE, N>(src, at, &mut target, end, &mut ticks);
     }
     (at, end)
-}
-
-/// As [`escape_bytes`], to `dst`, and with no count. A clean short text needs no frame.
-#[inline(never)]
-pub(crate) fn escape_at<V: Classifier<MODE, N>, const MODE: u8, const N: usize>(
-    src: &[u8],
-    dst: &mut [u8],
-    to: usize,
-) -> usize
-    requires { to + 6 * length src.now + 32 ≤ length dst.old }
-    ensures { IsWrittenAt (reach true N) (inner (mode_numbered MODE) src.now) dst.old dst.new to result }
-{
-    // The empty text goes this way too, so the short way needs no test for it.
-    if src.is_empty() || 2 * N <= src.len() {
-        return escape_any_at::<V, MODE, N>(src, dst, to);
-    }
-    let mut target = Target::<N>::new(dst);
-    match store_clean_tail::<V, MODE, N>(src, &mut target, to, &mut Ticks::new()) {
-        Ok(end) => end,
-        Err(masks) => escape_short_at::<V, MODE, N>(src, masks.first, masks.last, dst, to),
-    }
-}
-
-/// As [`escape_at`], of a short text, by its masks.
-#[inline(never)]
-fn escape_short_at<V: Classifier<MODE, N>, const MODE: u8, const N: usize>(
-    text: &[u8],
-    first: EscapeMask<MODE>,
-    last: EscapeMask<MODE>,
-    dst: &mut [u8],
-    to: usize,
-) -> usize
-    requires masks { AreTailMasks N text.now first last }
-    requires room { to + 6 * length text.now + 32 ≤ length dst.old }
-    ensures { IsWrittenAt (reach true N) (inner (mode_numbered MODE) text.now) dst.old dst.new to result }
-{
-    escape_flagged_at::<V, MODE, N>(text, first, last, dst, to)
-}
-
-/// As [`escape_at`], of any text.
-#[inline(never)]
-fn escape_any_at<V: Classifier<MODE, N>, const MODE: u8, const N: usize>(
-    src: &[u8],
-    dst: &mut [u8],
-    to: usize,
-) -> usize
-    requires { to + 6 * length src.now + 32 ≤ length dst.old }
-    ensures { IsWrittenAt (reach true N) (inner (mode_numbered MODE) src.now) dst.old dst.new to result }
-{
-    let mut target = Target::<N>::new(dst);
-    escape_bytes::<V, MODE, N>(src, &mut target, to, &mut Ticks::new())
 }

@@ -3,9 +3,7 @@ ghost use Rattle.std.specs.Prelude.{min, ◌≡◌, ◌+◌, ◌-◌, ◌*◌, �
 ghost use Rattle.std.specs.List.{flat_map};
 ghost use Rattle.escape_lanes.specs.Masks.{is_clear, whole_mask};
 ghost use Rattle.escape_lanes.specs.Written.{bytes_of};
-ghost use Rattle.escape_simd.specs.Formatted.{IsWrittenAt};
 ghost use Rattle.escape_simd.specs.Modes.{mode_numbered};
-ghost use Rattle.escape_simd.specs.Output.{inner};
 ghost use Rattle.escape_simd.specs.Stretch.{AreTailMasks, Escapes, HasRoom, reach, state};
 
 use crate::simd::Classifier;
@@ -202,22 +200,4 @@ pub(crate) fn escape_tail<V: Classifier<MODE, N>, const MODE: u8, const N: usize
             escape_flagged_tail::<V, MODE, N>(text, masks.first, masks.last, target, to, ticks)
         }
     }
-}
-
-/// As [`escape_flagged_tail`], to `dst`, and with no count.
-#[inline(always)]
-pub(crate) fn escape_flagged_at<V: Classifier<MODE, N>, const MODE: u8, const N: usize>(
-    text: &[u8],
-    first: EscapeMask<MODE>,
-    last: EscapeMask<MODE>,
-    dst: &mut [u8],
-    to: usize,
-) -> usize
-    requires masks { AreTailMasks N text.now first last }
-    requires room { HasRoom (mode_numbered MODE) (reach true N)
-        text.now 0 (length text.now) to (length dst.old) }
-    ensures { IsWrittenAt (reach true N) (inner (mode_numbered MODE) text.now) dst.old dst.new to result }
-{
-    let mut target = Target::<N>::new(dst);
-    escape_flagged_tail::<V, MODE, N>(text, first, last, &mut target, to, &mut Ticks::new())
 }

@@ -45,9 +45,9 @@ pub fn format_string<const HTML: bool>(value: &str, dst: &mut [u8]) -> usize
     ensures equal_texts { IsOfOneText (mode_of HTML) value.now (take result dst.new) }
 {
     if HTML {
-        return whole::format_in_mode::<Simd128u, { HTML_MODE }, 16>(value, dst);
+        return whole::format_string::<Simd128u, { HTML_MODE }, 16>(value, dst);
     }
-    whole::format_in_mode::<Simd128u, { JSON_MODE }, 16>(value, dst)
+    whole::format_string::<Simd128u, { JSON_MODE }, 16>(value, dst)
 }
 
 /// Escapes the text to the front of the target as a JSON string literal that can stand in a script
@@ -76,5 +76,5 @@ pub fn format_script_string(value: &str, dst: &mut [u8]) -> usize
     ensures headline { IsOnlyOutput script (take result dst.new) (chars value.now) }
     ensures equal_texts { IsOfOneText script value.now (take result dst.new) }
 {
-    whole::format_in_mode::<Simd128u, { SCRIPT_MODE }, 16>(value, dst)
+    whole::format_string::<Simd128u, { SCRIPT_MODE }, 16>(value, dst)
 }

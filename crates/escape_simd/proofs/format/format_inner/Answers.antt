@@ -1,13 +1,14 @@
 use Rattle.std.proofs.Common.{rules}
+use Rattle.escape_simd.specs.Kernels.{lanes_of}
 use Rattle.escape_simd.specs.Modes.{escaping}
-use Rattle.escape_simd.proofs.OutputLemmas.{IsOnlyOutput-between}
+use Rattle.escape_simd.proofs.Whole.{inner_written}
 use Rattle.escape_simd.proofs.format.format_inner.Goals as goal
 
-pub returns-in-Json-clause-headline : goal.returns-in-Json-clause-headline
-returns-in-Json-clause-headline c = let e = c.inner_by.ensures.exact in IsOnlyOutput-between (escaping c.args.mode) _ _ (search (rules, e)) c.utf8.value
+pub returns-in-Json : goal.returns-in-Json
+returns-in-Json c = inner_written {lanes = lanes_of c.args.kernel} {mode = escaping c.args.mode} c.as_bytes-text.ensures.value (search (rules, c.escape_by.ensures)) c.utf8.value
 
-pub returns-in-Html-clause-headline : goal.returns-in-Html-clause-headline
-returns-in-Html-clause-headline c = let e = c.inner_by-in-Html.ensures.exact in IsOnlyOutput-between (escaping c.args.mode) _ _ (search (rules, e)) c.utf8.value
+pub returns-in-Html : goal.returns-in-Html
+returns-in-Html c = inner_written {lanes = lanes_of c.args.kernel} {mode = escaping c.args.mode} c.as_bytes-text.ensures.value (search (rules, c.escape_by-in-Html.ensures)) c.utf8.value
 
-pub returns-in-Script-clause-headline : goal.returns-in-Script-clause-headline
-returns-in-Script-clause-headline c = let e = c.inner_by-in-Script.ensures.exact in IsOnlyOutput-between (escaping c.args.mode) _ _ (search (rules, e)) c.utf8.value
+pub returns-in-Script : goal.returns-in-Script
+returns-in-Script c = inner_written {lanes = lanes_of c.args.kernel} {mode = escaping c.args.mode} c.as_bytes-text.ensures.value (search (rules, c.escape_by-in-Script.ensures)) c.utf8.value

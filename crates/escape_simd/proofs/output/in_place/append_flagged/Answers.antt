@@ -1,4 +1,4 @@
-use Rattle.escape_simd.proofs.Words.{◌≡◌, ℕ, ◌+◌, ◌≤◌, ◌∙◌, ap, length, length-append, length-replicate, replicate, vec_len, arith, bits_of, count_by-le-length, flag_count, length-bits_of, mode_numbered}
+use Rattle.escape_simd.proofs.Words.{◌≡◌, ℕ, ◌+◌, ◌≤◌, ◌∙◌, ap, length, length-append, length-replicate, replicate, arith, bits_of, count_by-le-length, flag_count, length-bits_of, mode_numbered}
 use Rattle.escape_simd.proofs.Last.{tail-room}
 use Rattle.escape_simd.proofs.output.in_place.append_flagged.Goals as goal
 
@@ -18,9 +18,9 @@ overflow_add-most-2 g c = record { fits = omega (arith, c.requires.masks.few, fe
 pub overflow_add-most-3 : goal.overflow_add-most-3
 overflow_add-most-3 g c = record { fits = omega (arith, c.requires.masks.few, few-set c.bits.result c.bits-2.result c.count_flagged.result c.count_flagged-2.result c.count_flagged.ensures c.count_flagged-2.ensures) }
 
-pub append_over-requires : goal.append_over-requires
-append_over-requires g c =
+pub escape_flagged-end-requires : goal.escape_flagged-end-requires
+escape_flagged-end-requires g c =
     let first = c.count_flagged.ensures ∙ ap flag_count c.bits.ensures in let last = c.count_flagged-2.ensures ∙ ap flag_count c.bits-2.ensures in
-    let room = tail-room (mode_numbered g.row.MODE) c.requires.masks 32 c.len-old.result (vec_len c.push_all.new.dst)
-    (omega (arith, c.if-most-le-FEW_ZEROS.true, first, last, c.len-old.ensures, ap length c.push_all.ensures.items, length-append c.args.dst.now.items (replicate 128 0), length-replicate {A = ℕ} 128 0)) in
-    (omega arith, (c.requires.masks, (room, omega (arith, c.requires.room, c.len-old.ensures, c.push_all.ensures.capacity))))
+    let room = tail-room (mode_numbered g.row.MODE) c.requires.masks 32 c.len-old.result (length c.deref_mut.result.now)
+    (omega (arith, c.if-most-gt-FEW_ZEROS.false, first, last, c.len-old.ensures, ap length c.deref_mut.ensures.value, ap length c.push_all.ensures.items, length-append c.args.dst.now.items (replicate 128 0), length-replicate {A = ℕ} 128 0)) in
+    (omega arith, (c.requires.masks, room))

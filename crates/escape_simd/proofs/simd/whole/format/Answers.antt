@@ -1,6 +1,6 @@
-use Rattle.escape_simd.proofs.Words.{ℕ, List, true, length, ap, subst, arith, bytes_of, mode_numbered, IsFormatted, reach}
-use Rattle.escape_simd.proofs.Stretches.{room-six, stretch-on}
-use Rattle.escape_simd.proofs.Whole.{whole_formatted, bound-quotes, quote-short}
+use Rattle.escape_simd.proofs.Words.{ℕ, List, true, length, ap, subst, arith, bytes_of, mode_numbered, HasRoom, IsFormatted, reach}
+use Rattle.escape_simd.proofs.Stretches.{reach-bounds, room-six}
+use Rattle.escape_simd.proofs.Whole.{whole_formatted, bound-quotes, close-inside, quote-short}
 use Rattle.escape_simd.proofs.simd.whole.format.Goals as goal
 
 pub escape_bytes-close-requires : goal.escape_bytes-close-requires
@@ -13,10 +13,10 @@ escape_bytes-close-requires g c =
 
 pub quote-requires : goal.quote-requires
 quote-requires g c =
-    let mode = mode_numbered g.row.MODE in
-    let b = bound-quotes mode (length c.args.value.now) in let q = quote-short mode in let l = ap length c.as_bytes.ensures.value in let o = c.quote-open.ensures in
-    let s = c.escape_bytes-close.ensures.stretch in let on = stretch-on s in
-    (omega arith, omega (arith, b, q, l, on, o.quoted.ends, o.same_slice.len, s.same_slice.len, c.requires))
+    let mode = mode_numbered g.row.MODE in let text : List ℕ = c.as_bytes.result.now in let o = c.quote-open.ensures in
+    let room = room-six mode 32 text 0 (length text) c.quote-open.result (length (bytes_of c.quote-open.new.target)) (omega arith) (omega arith)
+    (omega (arith, bound-quotes mode (length c.args.value.now), quote-short mode, ap length c.as_bytes.ensures.value, o.quoted.ends, o.same_slice.len, c.requires)) in
+    (omega arith, close-inside c.escape_bytes-close.ensures.stretch room (omega arith))
 
 pub returns : goal.returns
 returns g c =

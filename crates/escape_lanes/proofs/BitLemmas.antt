@@ -1,15 +1,15 @@
 -- The bits of a number, lowest first: more and fewer of them, a shift, the first set one cleared, and how many are set.
-use Rattle.std.proofs.Common.{◌≡◌, ℕ, zero, suc, ◌+◌, ◌-◌, min, ◌*◌, ◌/◌, ◌%◌, ◌^◌, ◌≤◌, ◌<◌, Bool, true, false, not, cond, ◌&&◌, List, [], ◌∷◌, ◌++◌, length, take, drop, replicate, nat_eq, bit_and, refl, sym, ap, ap₂, ◌∙◌, inl, inr, arith, add-one}
+use Rattle.std.proofs.Common.{◌≡◌, ℕ, zero, suc, ◌+◌, ◌-◌, min, ◌*◌, ◌/◌, ◌%◌, ◌^◌, ◌≤◌, ◌<◌, Bool, true, false, not, cond, ◌&&◌, List, [], ◌∷◌, ◌++◌, length, take, drop, replicate, nat_eq, bit_and, refl, sym, ap, ap₂, ◌∙◌, inl, inr, arith, add-one, suc-mul}
 use Rattle.std.proofs.lemmas.Bool.{cases_eq}
 use Rattle.std.proofs.lemmas.Bool.Decides.{nat_tests}
 use Rattle.std.proofs.lemmas.List.Sums.{sum_by-cons}
-use Rattle.std.proofs.lemmas.Nat.{and_mask, mod-pow-add, shr-shr, shr_below}
+use Rattle.std.proofs.lemmas.Nat.{and_mask, mod-pow-add, mod_below, pow-add, pow_pos, shr-shr, shr_below, shr_high}
+use Rattle.std.specs.Int.Count.{count_trailing_zeros}
 use Rattle.std.specs.Int.RustNames.{count_ones}
 use Rattle.std.specs.List.{count_by}
 use lib.Bits.{and_step, and_self}
-use lib.Count.{ones, ones_in, ones_step}
+use lib.Count.{ones, ones_in, ones_step, under}
 use Rattle.escape_lanes.specs.Bits.{bits_of, first_set, none_set, clear_first, clear_last, gaps, length-bits_of}
-use Rattle.escape_lanes.proofs.MaskLemmas.{bits-lanes, lanes-zero, zero-bits}
 
 -- one bit more
 bits-suc : (k x : ℕ) → bits_of (suc k) x ≡ nat_eq (x % 2) 1 ∷ bits_of k (x / 2)
@@ -23,7 +23,9 @@ bits-nil x = refl
 
 -- no bit of 0 is set
 pub bits-zero : (k : ℕ) → bits_of k 0 ≡ replicate k false
-bits-zero k = bits-lanes k 0 ∙ lanes-zero 1 k
+unfolding bits_of
+bits-zero zero = refl
+bits-zero (suc k) = ap (λ bs. false ∷ bs) (bits-zero k)
 
 -- a number of n bits has no more of them
 pub bits-wide : (n j x : ℕ) → x < 2 ^ n → bits_of (n + j) x ≡ bits_of n x ++ replicate j false
@@ -72,6 +74,12 @@ bits-low (suc w) x =
     let half : x % 2 ^ suc w / 2 ≡ x / 2 % 2 ^ w = omega (arith, parts) in
     rw (bits-suc w (x % 2 ^ suc w), bits-suc w x, last, half) (ap (λ bs. nat_eq (x % 2) 1 ∷ bs) (bits-low w (x / 2)))
 
+-- the bits of a rest, and none above them
+bits-rest : (k m x : ℕ) → m ≤ k → bits_of k (x % 2 ^ m) ≡ take m (bits_of k x) ++ replicate (k - m) false
+bits-rest k m x le =
+    let more : m + (k - m) ≡ k = omega arith in
+    rw more at (bits-wide m (k - m) (x % 2 ^ m) (mod_below x (2 ^ m) (pow_pos m))) ∙ ap (λ bs. bs ++ replicate (k - m) false) (bits-low m x ∙ rw more at (sym (bits-take m (k - m) x)))
+
 -- w bits from the m-th on, by a row of ones
 pub bits-part : (k m w x : ℕ) → m + w ≤ k → bits_of w (bit_and (x / 2 ^ m) (2 ^ w - 1)) ≡ take w (drop m (bits_of k x))
 bits-part k m w x le =
@@ -79,6 +87,61 @@ bits-part k m w x le =
     let rest : w + (k - m - w) ≡ k - m = omega arith in
     let past : bits_of (k - m) (x / 2 ^ m) ≡ drop m (bits_of k x) = rw more at (sym (bits-drop m (k - m) x)) in
     ap (bits_of w) (and_mask (x / 2 ^ m) w) ∙ bits-low w (x / 2 ^ m) ∙ sym (rw rest at (bits-take w (k - m - w) (x / 2 ^ m))) ∙ ap (take w) past
+
+-- a row of ones, shifted down
+ones_shr : (d n : ℕ) → (2 ^ (d + n) - 1) / 2 ^ n ≡ 2 ^ d - 1
+ones_shr d n =
+    let high = pow_pos d in
+    let low = pow_pos n in
+    let more : suc (2 ^ d - 1) ≡ 2 ^ d = omega (arith, high) in
+    let whole : 2 ^ d * 2 ^ n ≡ (2 ^ d - 1) * 2 ^ n + 2 ^ n = rw more at (suc-mul (2 ^ d - 1) (2 ^ n)) in
+    let parts : 2 ^ (d + n) - 1 ≡ (2 ^ d - 1) * 2 ^ n + (2 ^ n - 1) = rw (pow-add 2 d n) (omega (arith, whole, low)) in
+    rw parts (shr_high (2 ^ d - 1) n (2 ^ n - 1) (omega (arith, low)))
+
+-- the bits that it leaves
+pub bits-cleared : (k x n : ℕ) → n ≤ k → bits_of k (bit_and x ((2 ^ k - 1) / 2 ^ n)) ≡ clear_last n (bits_of k x)
+bits-cleared k x n le =
+    let split : k - n + n ≡ k = omega arith in
+    let left : k - (k - n) ≡ n = omega arith in
+    let ones : (2 ^ k - 1) / 2 ^ n ≡ 2 ^ (k - n) - 1 = rw split at (ones_shr (k - n) n) in
+    rw (ones, and_mask x (k - n), length-bits_of k x) (rw left at (bits-rest k (k - n) x (omega arith)))
+
+-- all bits cleared
+pub bits-all_cleared : (k x n : ℕ) → n ≡ k → bits_of k 0 ≡ clear_last n (bits_of k x)
+bits-all_cleared k x n all =
+    let none : k - k ≡ 0 = omega arith in
+    rw (all, length-bits_of k x, none) (bits-zero k)
+
+-- the count goes on where the lowest bit is clear
+trailing_step : (k n : ℕ) → count_trailing_zeros (suc k) n ≡ under (n % 2) (count_trailing_zeros k (n / 2))
+unfolding count_trailing_zeros
+trailing_step k n = refl
+
+-- the place of the lowest set bit
+pub trailing-bits : (k x : ℕ) → count_trailing_zeros k x ≡ first_set (bits_of k x)
+unfolding count_trailing_zeros first_set bits_of
+trailing-bits zero x = refl
+trailing-bits (suc k) x =
+    elim (cases_eq (x % 2) 0) [
+      | inl even ↦ rw (bits-suc k x, trailing_step k x, even) (ap suc (trailing-bits k (x / 2)))
+      | inr odd ↦ let one : x % 2 ≡ 1 = omega arith in rw (bits-suc k x, trailing_step k x, one) refl
+    ]
+
+-- whether the number is 0
+pub zero-bits : (k x : ℕ) → x < 2 ^ k → nat_eq x 0 ≡ none_set (bits_of k x)
+unfolding none_set bits_of
+zero-bits zero x h = let none : x ≡ 0 = omega arith in rw none refl
+zero-bits (suc k) x h =
+    let rest = zero-bits k (x / 2) (shr_below x k 1 (rw add-one h)) in
+    elim (cases_eq (x % 2) 0) [
+      | inl even ↦
+          let half : nat_eq x 0 ≡ nat_eq (x / 2) 0 = grind (arith, nat_tests) in
+          rw (bits-suc k x, even, half) rest
+      | inr odd ↦
+          let one : x % 2 ≡ 1 = omega arith in
+          let some : nat_eq x 0 ≡ false = grind (arith, nat_tests) in
+          rw (bits-suc k x, one, some) refl
+    ]
 
 -- the lanes cleared after one that is clear
 cleared-suc : (n : ℕ) (bs : List Bool) → false ∷ clear_first (n + 1) bs ≡ clear_first (suc n + 1) (false ∷ bs)

@@ -1,5 +1,5 @@
 -- Lanes of vectors and of masks, at every width.
-use Rattle.std.proofs.Common.{◌≡◌, ℕ, ◌<◌, ◌≤◌, ◌^◌, ◌+◌, ◌*◌, ◌/◌, ◌%◌, Bool, true, false, cond, ◌||◌, ◌&&◌, List, [], ◌∷◌, ◌++◌, length, drop, replicate, map, nat_eq, bit_or, bit_and, bit_xor, get_or, refl, sym, ap, ◌∙◌, zero, suc, arith}
+use Rattle.std.proofs.Common.{◌≡◌, ℕ, ◌<◌, ◌≤◌, ◌^◌, ◌+◌, ◌*◌, ◌/◌, ◌%◌, Bool, true, false, cond, ◌||◌, ◌&&◌, List, [], ◌∷◌, ◌++◌, length, drop, replicate, map, nat_eq, bit_or, bit_and, get_or, refl, sym, ap, ◌∙◌, zero, suc, arith}
 use Rattle.std.proofs.lemmas.Bool.{agree_below, agree_below_at}
 use Rattle.std.proofs.lemmas.List.{length-map, get_or-map, ext_get_or}
 use Rattle.std.proofs.lemmas.Bool.Decides.{nat_tests}
@@ -8,7 +8,7 @@ use Rattle.std.proofs.lemmas.Simd.{put_chunk_is, length-zip2, tops_compared, bit
 use Rattle.std.specs.Simd.Lanes.{zip2, sel_l, mask_l, put_chunk, top}
 use mir.Syntax.{w8}
 use Rattle.escape_lanes.specs.Bits.{bits_of}
-use Rattle.escape_lanes.specs.Lanes.{AreBytes, AreWhole, set_lanes, mask_lanes, is_one_of}
+use Rattle.escape_lanes.specs.Lanes.{AreBytes, AreWhole, set_lanes, mask_lanes}
 
 -- the lanes xs are a mask that is set where bs is
 pub record IsMask (one n : ℕ) (xs : List ℕ) (bs : List Bool) : Type 0 where
@@ -119,16 +119,6 @@ bit-or (suc zero) (suc zero) hp hq = refl
 bit-or zero (suc (suc q)) hp hq = absurd (omega arith)
 bit-or (suc zero) (suc (suc q)) hp hq = absurd (omega arith)
 bit-or (suc (suc p)) q hp hq = absurd (omega arith)
-
--- an exclusive or of two bits
-pub bit-xor : (p q : ℕ) → p < 2 → q < 2 → nat_eq (bit_xor p q) 1 ≡ is_one_of (nat_eq p 1) (nat_eq q 1)
-bit-xor zero zero hp hq = refl
-bit-xor zero (suc zero) hp hq = refl
-bit-xor (suc zero) zero hp hq = refl
-bit-xor (suc zero) (suc zero) hp hq = refl
-bit-xor (suc (suc p)) q hp hq = absurd (omega arith)
-bit-xor zero (suc (suc q)) hp hq = absurd (omega arith)
-bit-xor (suc zero) (suc (suc q)) hp hq = absurd (omega arith)
 
 -- an and of two bits
 bit-and : (p q : ℕ) → p < 2 → q < 2 → nat_eq (bit_and p q) 1 ≡ (nat_eq p 1 && nat_eq q 1)

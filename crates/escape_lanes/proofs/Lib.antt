@@ -5,7 +5,6 @@ mod BitLemmas
 mod GatherLemmas
 mod LaneLemmas
 mod LastLemmas
-mod MaskLemmas
 mod NarrowLemmas
 mod NibbleLemmas
 mod TableLemmas

@@ -1,16 +1,13 @@
 -- The nibble tables, and the look-ups of a vector's lanes in them.
-use Rattle.std.proofs.Common.{◌≡◌, ℕ, ◌+◌, ◌*◌, ◌/◌, ◌%◌, ◌^◌, ◌<◌, not, List, [], ◌∷◌, length, replicate, map, nat_eq, get_or, slice_index, bit_and, refl, sym, ap, ◌∙◌, arith}
+use Rattle.std.proofs.Common.{◌≡◌, ℕ, ◌+◌, ◌*◌, ◌/◌, ◌%◌, ◌^◌, ◌<◌, List, replicate, map, get_or, slice_index, bit_and, sym, ap, ◌∙◌, arith}
 use Rattle.std.proofs.lemmas.List.{get_or-map, ext_get_or, length-map}
 use Rattle.std.proofs.lemmas.Nat.{and_le_r}
-use Rattle.std.proofs.lemmas.Simd.{swz_l, SwzOk, SwzOk-from_below, length-swz_l, get_or-swz_l_below, zip2_splat, zip2_of_maps, map-map, Each1-from_get_or}
+use Rattle.std.proofs.lemmas.Simd.{swz_l, SwzOk, SwzOk-from_below, length-swz_l, get_or-swz_l_below, zip2_splat, map-map, Each1-from_get_or}
 use Rattle.std.specs.Simd.Lanes.{zip2}
 use mir.Syntax.{w8}
 use Rattle.escape_lanes.specs.Lanes.{AreBelow, AreBytes}
-use Rattle.escape_lanes.specs.Mode.{html}
-use Rattle.escape_lanes.specs.Nibble.{at_low_half, at_high_half, html_flags, html_candidate}
-use Rattle.escape_lanes.specs.Replacement.{needs_escape}
+use Rattle.escape_lanes.specs.Nibble.{at_low_half, at_high_half}
 use Rattle.escape_lanes.proofs.FlagLemmas.{below-map}
-use Rattle.escape_lanes.proofs.LaneLemmas.{map-bytes}
 
 -- look-ups at places below 16, one for each lane of a vector
 module _ (n : ℕ) (js : List ℕ) (places : AreBelow 16 n js) (blocks : n % 16 ≡ 0) where
@@ -58,33 +55,3 @@ module _ (n : ℕ) (v : List ℕ) (bytes : AreBytes n v) where
 
   pub high-looked_up : (s : List ℕ) → map (slice_index s) (zip2 (λ a b. a / 2 ^ b) v (replicate n 4)) ≡ map (at_high_half s) v
   high-looked_up s = ap (map (slice_index s)) high ∙ map-map (slice_index s) (λ b. b / 16) v
-
--- the comparison of the flags with 0
-module _ (n : ℕ) (v flags : List ℕ) (bytes : AreBytes n v) (e : flags ≡ map html_flags v) where
-  -- as many flags as lanes
-  pub length-flags : length flags ≡ n
-  length-flags = ap length e ∙ length-map v html_flags ∙ bytes.full
-
-  -- a flag that is not 0 is a need, for each of the 256 bytes
-  pub flagged-need : zip2 (λ a b. not (nat_eq a b)) flags (replicate n 0) ≡ map (needs_escape html) v
-  flagged-need =
-      zip2_splat (λ a b. not (nat_eq a b)) flags n 0 length-flags
-      ∙ ap (λ xs. map (λ b. not (nat_eq b 0)) xs) e
-      ∙ map-map (λ b. not (nat_eq b 0)) html_flags v
-      ∙ map-bytes (λ b. not (nat_eq (html_flags b) 0)) (needs_escape html) n v bytes refl
-
--- the comparison of the lanes with their candidates
-module _ (n : ℕ) (v candidates : List ℕ) (bytes : AreBytes n v) (e : candidates ≡ map html_candidate v) where
-  -- as many candidates as lanes
-  pub length-candidates : length candidates ≡ n
-  length-candidates = ap length e ∙ length-map v html_candidate ∙ bytes.full
-
-  -- a lane that is its candidate is a need, for each of the 256 bytes
-  pub candidate-need : zip2 nat_eq v candidates ≡ map (needs_escape html) v
-  candidate-need =
-      zip2_of_maps nat_eq (λ b. b) html_candidate v (sym (map-same v)) e
-      ∙ map-bytes (λ b. nat_eq b (html_candidate b)) (needs_escape html) n v bytes refl
-    where
-      map-same : (xs : List ℕ) → map (λ b. b) xs ≡ xs
-      map-same [] = refl
-      map-same (x ∷ xs) = ap (λ ys. x ∷ ys) (map-same xs)

@@ -21,7 +21,7 @@ use Rattle.escape_lanes.specs.Replacement.{replacement}
 use Rattle.escape_lanes.specs.Short.{is_long, shortened}
 use Rattle.escape_lanes.proofs.BitLemmas.{bits-wide}
 use Rattle.escape_lanes.proofs.LaneLemmas.{bits_and, bits-mask, map-bytes}
-use Rattle.escape_lanes.proofs.MaskLemmas.{zero-bits}
+use Rattle.escape_lanes.proofs.BitLemmas.{zero-bits}
 
 -- A vector
 

@@ -48,7 +48,8 @@ impl<const MODE: u8> Classifier<MODE, 32> for Simd256u {
 /// Where `v` begins with the bytes of `a<b`, lane 1 is set in HTML, and none of these in JSON.
 #[inline(always)]
 pub fn escaped_mask<const HTML: bool>(v: &Simd256u, ticks: &mut Ticks) -> u32
-    ensures lanes { ⟦<u32 as BitMask>⟧.bits result ≡ map (needs_escape (mode_of HTML)) (⟦<Simd256u as Simd>⟧.lanes v.now) }
+    ensures lanes { ⟦<u32 as BitMask>⟧.bits result
+        ≡ map (needs_escape (mode_of HTML)) (⟦<Simd256u as Simd>⟧.lanes v.now) }
     ensures tick { ticks.new ≡ ticks.old + 1 }
 {
     ticks.tick();
@@ -66,7 +67,8 @@ pub fn escaped_mask<const HTML: bool>(v: &Simd256u, ticks: &mut Ticks) -> u32
 /// Where `v` begins with the bytes of `a<b`, lane 1 is set.
 #[inline(always)]
 pub fn script_mask(v: &Simd256u, ticks: &mut Ticks) -> u32
-    ensures lanes { ⟦<u32 as BitMask>⟧.bits result ≡ map (needs_escape script) (⟦<Simd256u as Simd>⟧.lanes v.now) }
+    ensures lanes { ⟦<u32 as BitMask>⟧.bits result
+        ≡ map (needs_escape script) (⟦<Simd256u as Simd>⟧.lanes v.now) }
     ensures tick { ticks.new ≡ ticks.old + 1 }
 {
     ticks.tick();

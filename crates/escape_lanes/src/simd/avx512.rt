@@ -48,7 +48,8 @@ impl<const MODE: u8> Classifier<MODE, 64> for Simd512u {
 /// Where `v` begins with the bytes of `a<b`, lane 1 is set in HTML, and none of these in JSON.
 #[inline(always)]
 pub fn escaped_mask<const HTML: bool>(v: &Simd512u, ticks: &mut Ticks) -> u64
-    ensures lanes { ⟦<u64 as BitMask>⟧.bits result ≡ map (needs_escape (mode_of HTML)) (⟦<Simd512u as Simd>⟧.lanes v.now) }
+    ensures lanes { ⟦<u64 as BitMask>⟧.bits result
+        ≡ map (needs_escape (mode_of HTML)) (⟦<Simd512u as Simd>⟧.lanes v.now) }
     ensures tick { ticks.new ≡ ticks.old + 1 }
 {
     ticks.tick();
@@ -66,7 +67,8 @@ pub fn escaped_mask<const HTML: bool>(v: &Simd512u, ticks: &mut Ticks) -> u64
 /// Where `v` begins with the bytes of `a<b`, lane 1 is set.
 #[inline(always)]
 pub fn script_mask(v: &Simd512u, ticks: &mut Ticks) -> u64
-    ensures lanes { ⟦<u64 as BitMask>⟧.bits result ≡ map (needs_escape script) (⟦<Simd512u as Simd>⟧.lanes v.now) }
+    ensures lanes { ⟦<u64 as BitMask>⟧.bits result
+        ≡ map (needs_escape script) (⟦<Simd512u as Simd>⟧.lanes v.now) }
     ensures tick { ticks.new ≡ ticks.old + 1 }
 {
     ticks.tick();

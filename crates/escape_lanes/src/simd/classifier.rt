@@ -7,15 +7,17 @@ ghost use Rattle.escape_lanes.specs.Replacement.{needs_escape};
 use crate::simd::last::LoadLast;
 use crate::simd::ticks::Ticks;
 
-/// A vector of `N` bytes, with its classifier in the mode numbered `MODE`: its own `escaped_mask` or `script_mask`, whose bit
-/// mask becomes a number.
+/// A vector of `N` bytes, with its classifier in the mode numbered `MODE`: its own `escaped_mask` or
+/// `script_mask`, whose bit mask becomes a number.
 pub trait Classifier<const MODE: u8, const N: usize>: LoadLast {
     /// Whether one instruction looks lanes up in a table, so that blocks are faster than single escapes.
     const LOOKS_UP: bool;
 
-    /// Returns which lanes have bytes that need an escape (script: also e2): bit `i` is set where lane `i` does. Ticks once.
+    /// Returns which lanes have bytes that need an escape (script: also e2): bit `i` is set where lane `i`
+    /// does. Ticks once.
     fn escape_bits(&self, ticks: &mut Ticks) -> u64
-        ensures lanes { bits_of 64 result ≡ map (needs_escape (mode_numbered MODE)) (Self.lanes self.now) ++ replicate (64 - N) false }
+        ensures lanes { bits_of 64 result
+            ≡ map (needs_escape (mode_numbered MODE)) (Self.lanes self.now) ++ replicate (64 - N) false }
         ensures tick { ticks.new ≡ ticks.old + 1 };
 
     // There are `N` lanes.

@@ -1,5 +1,5 @@
-//! A vector's lanes moved down to its front: what is left of it past a place, with no loads from memory that was
-//! just written.
+//! A vector's lanes moved down to its front: what is left of it past a place, with no loads from memory that
+//! was just written.
 ghost use Rattle.std.specs.Prelude.{◌≡◌, ℕ, ◌+◌, ◌-◌, ◌<◌, ◌≤◌, ◌++◌, drop, replicate, slice_index_or};
 ghost use Rattle.escape_lanes.specs.Lanes.{AreBytes};
 

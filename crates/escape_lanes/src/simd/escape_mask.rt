@@ -11,7 +11,8 @@ use crate::simd::ticks::{Tally, Ticks};
 use crate::simd::traits::BitMask;
 use std::marker::Model;
 
-/// The bytes that a mask is of, and the first of them that it tells of. It takes no memory, and nothing runs to make it.
+/// The bytes that a mask is of, and the first of them that it tells of. It takes no memory, and nothing runs
+/// to make it.
 #[derive(Drop)]
 struct Known {
     ghost bytes: { List ℕ },
@@ -42,9 +43,9 @@ impl Known {
 
 /// Which of at most 64 bytes need an escape (script: also e2): bit `i` is set where byte `i` does.
 ///
-/// A contract sees the bytes, from which of them on the mask tells, and whether a vector was stored by it. Only a classifier
-/// makes a mask by which none was: of a vector, or of what is left of one. It can't be cloned, and in `escape_simd` each store of
-/// a vector uses up the mask that tells its bytes.
+/// A contract sees the bytes, from which of them on the mask tells, and whether a vector was stored by it.
+/// Only a classifier makes a mask by which none was: of a vector, or of what is left of one. It can't be
+/// cloned, and in `escape_simd` each store of a vector uses up the mask that tells its bytes.
 #[derive(Drop)]
 pub struct EscapeMask<const MODE: u8> {
     bits: u64,
@@ -194,7 +195,8 @@ pub fn classify<V: Classifier<MODE, N>, const MODE: u8, const N: usize>(
     (v, mask)
 }
 
-/// Classifies the first lanes of a loaded vector that begins with these bytes, of which there are some. Ticks once.
+/// Classifies the first lanes of a loaded vector that begins with these bytes, of which there are some. Ticks
+/// once.
 #[inline(always)]
 pub fn classify_front<V: Classifier<MODE, N>, const MODE: u8, const N: usize>(
     v: &V,
@@ -214,8 +216,8 @@ pub fn classify_front<V: Classifier<MODE, N>, const MODE: u8, const N: usize>(
     }
 }
 
-/// Loads and classifies four vectors of the text from `at` on. Returns them with their masks, and whether no byte of them is
-/// flagged. Ticks four times.
+/// Loads and classifies four vectors of the text from `at` on. Returns them with their masks, and whether no
+/// byte of them is flagged. Ticks four times.
 #[inline(always)]
 pub fn classify_four<V: Classifier<MODE, N>, const MODE: u8, const N: usize>(
     text: &[u8],

@@ -133,7 +133,8 @@ impl<const BITS: u8, const N: usize> BitAnd for LaneMask<BITS, N> {
 }
 
 impl<const BITS: u8, const N: usize> BitOrAssign for LaneMask<BITS, N> {
-    ghost bitor_assign_gives = { λ a b c. bits_of N c.bits ≡ zip2 ◌||◌ (bits_of N a.bits) (bits_of N b.bits) };
+    ghost bitor_assign_gives = { λ a b c. bits_of N c.bits
+        ≡ zip2 ◌||◌ (bits_of N a.bits) (bits_of N b.bits) };
 
     #[inline(always)]
     fn bitor_assign(&mut self, rhs: LaneMask<BITS, N>) {

@@ -21,7 +21,8 @@ pub trait LoadLast: LoadStore {
     fn load_last(src: &[u8], count: usize) -> Self
         requires few { count < Self.LANES }
         requires inside { count ≤ length src.now }
-        ensures { Self.lanes result ≡ drop (length src.now - count) src.now ++ replicate (Self.LANES - count) 0 };
+        ensures { Self.lanes result
+            ≡ drop (length src.now - count) src.now ++ replicate (Self.LANES - count) 0 };
 }
 
 /// Returns the last `count` bytes, three at most, as a number.
@@ -42,7 +43,8 @@ fn up_to_three(src: &[u8], count: usize) -> u64
     src[at] as u64 | (middle | last)
 }
 
-// For each length of 4 to 15, where its bytes lie in four words of four bytes that overlap, and zeros after them.
+// For each length of 4 to 15, where its bytes lie in four words of four bytes that overlap, and zeros after
+// them.
 #[rattlefmt::skip]
 static GATHERED: [[u8; 16]; 16] = [
     [128; 16],

@@ -37,7 +37,8 @@ pub trait Mask: Sized
 
     ghost can_or_assign: { (a b : Self) → Self.can_bitor_assign a b };
 
-    ghost or_assign_is: { (a b c : Self) → Self.bitor_assign_gives a b c → truths c ≡ zip2 ◌||◌ (truths a) (truths b) };
+    ghost or_assign_is: { (a b c : Self) → Self.bitor_assign_gives a b c
+        → truths c ≡ zip2 ◌||◌ (truths a) (truths b) };
 
     ghost can_and: { (a b : Self) → Self.can_bitand a b };
 

@@ -1,5 +1,5 @@
-//! The modes as numbers, and what depends on the mode: generic code has the number as its constant parameter `MODE`, and asks
-//! here. No other file compares it.
+//! The modes as numbers, and what depends on the mode: generic code has the number as its constant parameter
+//! `MODE`, and asks here. No other file compares it.
 ghost use Rattle.std.specs.Prelude.{◌≡◌, ◌↔◌, true, false};
 ghost use Rattle.escape_lanes.specs.Entry.{entry_count, entry_bytes};
 ghost use Rattle.escape_lanes.specs.Mode.{html, script, mode_numbered};

@@ -1,16 +1,14 @@
 //! Which lanes need an escape, at every width.
 //!
 //! Of a flag only the lane's top bit counts, so a difference can set it.
-ghost use Rattle.std.specs.Prelude.{◌≡◌, ◌||◌, ℕ, ◌<◌, ◌≤◌, ◌^◌, ◌%◌, length, map, nat_eq, nat_le, slice_index, bit_and, bit_xor, ◌-◌};
-ghost use Rattle.std.specs.Simd.Lanes.{zip2};
+ghost use Rattle.std.specs.Prelude.{◌≡◌, ℕ, if◌then◌else◌, ◌<◌, ◌≤◌, ◌^◌, ◌%◌, length, map, nat_eq, slice_index, bit_and, ◌-◌};
 ghost use Rattle.escape_lanes.specs.Bits.{bits_of};
-ghost use Rattle.escape_lanes.specs.Lanes.{AreBytes, flagged_lanes, is_one_of};
+ghost use Rattle.escape_lanes.specs.Lanes.{AreBytes, flagged_lanes};
 ghost use Rattle.escape_lanes.specs.Mode.{json, html, script};
 ghost use Rattle.escape_lanes.specs.Nibble.{at_low_half, at_high_half};
 ghost use Rattle.escape_lanes.specs.Replacement.{needs_escape};
 
 use crate::simd::by_width::ByWidth;
-use crate::simd::lanes::{eq, splat};
 use crate::tables::{
     HTML_CANDIDATE_TAB, HTML_HI_NIBBLE_TAB, HTML_LO_NIBBLE_TAB, SCRIPT_HI_NIBBLE_TAB,
     SCRIPT_LO_NIBBLE_TAB,
@@ -28,105 +26,31 @@ pub(crate) fn flag_bits<const N: usize>(flags: &Simd<u8, N>) -> u64
     flags.simd_ge(Simd::splat(0x80)).to_bitmask()
 }
 
-/// Returns the flags of the lanes that are flagged in either.
-#[inline(always)]
-pub(crate) fn join<const N: usize>(one: &Simd<u8, N>, other: &Simd<u8, N>) -> Simd<u8, N>
-    requires first { AreBytes N one.now }
-    requires second { AreBytes N other.now }
-    ensures bytes { AreBytes N result }
-    ensures lanes { flagged_lanes result ≡ zip2 ◌||◌ (flagged_lanes one.now) (flagged_lanes other.now) }
-{
-    *one | *other
-}
-
-/// Returns the flags of the lanes that are flagged in exactly one of both.
-///
-/// It joins flags that are never both set: of an `|` the compiler makes a choice between vectors,
-/// which is slower.
-#[inline(always)]
-pub(crate) fn one_of<const N: usize>(one: &Simd<u8, N>, other: &Simd<u8, N>) -> Simd<u8, N>
-    requires first { AreBytes N one.now }
-    requires second { AreBytes N other.now }
-    ensures bytes { AreBytes N result }
-    ensures lanes { flagged_lanes result ≡ zip2 is_one_of (flagged_lanes one.now) (flagged_lanes other.now) }
-{
-    *one ^ *other
-}
-
-/// Returns flags where the lane is `byte`.
-#[inline(always)]
-pub(crate) fn is<const N: usize>(v: &Simd<u8, N>, byte: u8) -> Simd<u8, N>
-    requires { AreBytes N v.now }
-    ensures bytes { AreBytes N result }
-    ensures lanes { flagged_lanes result ≡ map (λ b. nat_eq b byte) v.now }
-{
-    eq(v, &splat(byte))
-}
-
-/// Returns flags where the lane is at most `most`: it then leaves 0x80 or more of 0x80 and `most`.
-#[inline(always)]
-pub(crate) fn is_at_most<const N: usize>(v: &Simd<u8, N>, most: u8) -> Simd<u8, N>
-    requires bytes { AreBytes N v.now }
-    requires low { most < 0x80 }
-    ensures bytes { AreBytes N result }
-    ensures lanes { flagged_lanes result ≡ map (λ b. nat_le b most) v.now }
-{
-    let all: Simd<u8, N> = Simd::splat(0x80 + most);
-    all.saturating_sub(*v)
-}
-
-/// Returns the lanes without the bits of `bits`.
-#[inline(always)]
-pub(crate) fn without<const N: usize>(v: &Simd<u8, N>, bits: u8) -> Simd<u8, N>
-    requires { AreBytes N v.now }
-    ensures bytes { AreBytes N result }
-    ensures lanes { result ≡ map (λ b. bit_and b (255 - bits)) v.now }
-{
-    *v & Simd::splat(!bits)
-}
-
-/// Returns the lanes with the bits of `bits` flipped.
-#[inline(always)]
-pub(crate) fn flipped<const N: usize>(v: &Simd<u8, N>, bits: u8) -> Simd<u8, N>
-    requires { AreBytes N v.now }
-    ensures bytes { AreBytes N result }
-    ensures lanes { result ≡ map (λ b. bit_xor b bits) v.now }
-{
-    *v ^ Simd::splat(bits)
-}
-
-/// Returns flags where the lane is `byte` or has one bit more, `bit`, which `byte` lacks.
+/// Returns 255 where the lane is `byte` or has one bit more, `bit`, which `byte` lacks, and 0 in the others.
 #[inline(always)]
 pub(crate) fn is_without<const N: usize>(v: &Simd<u8, N>, bit: u8, byte: u8) -> Simd<u8, N>
     requires { AreBytes N v.now }
-    ensures bytes { AreBytes N result }
-    ensures lanes { flagged_lanes result ≡ map (λ b. nat_eq (bit_and b (255 - bit)) byte) v.now }
+    ensures { result ≡ map (λ b. if nat_eq (bit_and b (255 - bit)) byte then 255 else 0) v.now }
 {
-    is(&without(v, bit), byte)
-}
-
-/// Returns flags where the lane is a control character or the quotation mark.
-///
-/// A flip of bit 1 brings the quotation mark, 0x22, to 0x20, past the control characters, which stay
-/// below it.
-#[inline(always)]
-pub(crate) fn is_control_or_quote<const N: usize>(v: &Simd<u8, N>) -> Simd<u8, N>
-    requires { AreBytes N v.now }
-    ensures bytes { AreBytes N result }
-    ensures lanes { flagged_lanes result ≡ map (λ b. nat_le (bit_xor b 2) 0x20) v.now }
-{
-    is_at_most(&flipped(v, 2), 0x20)
+    (*v & Simd::splat(!bit))
+        .simd_eq(Simd::splat(byte))
+        .select(Simd::splat(255), Simd::splat(0))
 }
 
 /// Returns flags where JSON needs an escape.
+///
+/// A flip of bit 1 brings the quotation mark, 0x22, to 0x20, past the control characters, which stay below
+/// it. Of 0xa0 these leave 0x80 or more.
 #[inline(always)]
 pub(crate) fn json_needs<const N: usize>(v: &Simd<u8, N>) -> Simd<u8, N>
     requires { AreBytes N v.now }
     ensures bytes { AreBytes N result }
     ensures lanes { flagged_lanes result ≡ map (needs_escape json) v.now }
 {
-    // No lane is both, so this joins them.
-    one_of(&is_control_or_quote(v), &is(v, b'\\'))
+    let all: Simd<u8, N> = Simd::splat(0xa0);
+    let control_or_quote = all.saturating_sub(*v ^ Simd::splat(2));
+    // No lane is both. Of an `|` the compiler makes a choice between vectors, which is slower.
+    control_or_quote ^ is_without(v, 0, b'\\')
 }
 
 /// Returns the table again in each block of sixteen lanes, as a look-up within blocks reads it.

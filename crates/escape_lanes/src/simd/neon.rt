@@ -50,7 +50,8 @@ impl<const MODE: u8> Classifier<MODE, 16> for Simd128u {
 /// Where `v` begins with the bytes of `a<b`, lane 1 is set in HTML, and none of these in JSON.
 #[inline(always)]
 pub fn escaped_mask_vec<const HTML: bool>(v: &Simd128u, ticks: &mut Ticks) -> Mask128
-    ensures lanes { ⟦<Mask128 as Mask>⟧.truths result ≡ map (needs_escape (mode_of HTML)) (⟦<Simd128u as Simd>⟧.lanes v.now) }
+    ensures lanes { ⟦<Mask128 as Mask>⟧.truths result
+        ≡ map (needs_escape (mode_of HTML)) (⟦<Simd128u as Simd>⟧.lanes v.now) }
     ensures tick { ticks.new ≡ ticks.old + 1 }
 {
     ticks.tick();
@@ -66,7 +67,8 @@ pub fn escaped_mask_vec<const HTML: bool>(v: &Simd128u, ticks: &mut Ticks) -> Ma
 /// Returns the bit mask of [`escaped_mask_vec`], which is called once, so it ticks once.
 #[inline(always)]
 pub fn escaped_mask<const HTML: bool>(v: &Simd128u, ticks: &mut Ticks) -> NeonBits
-    ensures lanes { ⟦<NeonBits as BitMask>⟧.bits result ≡ map (needs_escape (mode_of HTML)) (⟦<Simd128u as Simd>⟧.lanes v.now) }
+    ensures lanes { ⟦<NeonBits as BitMask>⟧.bits result
+        ≡ map (needs_escape (mode_of HTML)) (⟦<Simd128u as Simd>⟧.lanes v.now) }
     ensures tick { ticks.new ≡ ticks.old + 1 }
 {
     escaped_mask_vec::<HTML>(v, ticks).bitmask()
@@ -77,7 +79,8 @@ pub fn escaped_mask<const HTML: bool>(v: &Simd128u, ticks: &mut Ticks) -> NeonBi
 /// Where `v` begins with the bytes of `a<b`, lane 1 is set.
 #[inline(always)]
 pub fn script_mask(v: &Simd128u, ticks: &mut Ticks) -> NeonBits
-    ensures lanes { ⟦<NeonBits as BitMask>⟧.bits result ≡ map (needs_escape script) (⟦<Simd128u as Simd>⟧.lanes v.now) }
+    ensures lanes { ⟦<NeonBits as BitMask>⟧.bits result
+        ≡ map (needs_escape script) (⟦<Simd128u as Simd>⟧.lanes v.now) }
     ensures tick { ticks.new ≡ ticks.old + 1 }
 {
     ticks.tick();

@@ -10,8 +10,8 @@ use crate::simd::lanes::load;
 use crate::simd::mode::is_script;
 use std::simd::prelude::*;
 
-/// Returns the 16 bytes of the text from `at` on, with the letter of its short escape in place of each control
-/// character that has one.
+/// Returns the 16 bytes of the text from `at` on, with the letter of its short escape in place of each
+/// control character that has one.
 ///
 /// Of a line feed that is `n`, and of a byte without such a letter the byte itself.
 #[inline(always)]
@@ -28,8 +28,8 @@ pub fn shorten(text: &[u8], at: usize) -> u8x16
     bytes.simd_max(letters.swizzle_dyn(places))
 }
 
-/// Returns the text's `N` bytes from `at` on, shortened, 16 at a time: so all of them are loaded before the first block is
-/// written.
+/// Returns the text's `N` bytes from `at` on, shortened, 16 at a time: so all of them are loaded before the
+/// first block is written.
 ///
 /// `N` is a multiple of 16, at most 64.
 #[inline(always)]
@@ -37,7 +37,8 @@ pub fn shorten_vector<const N: usize>(text: &[u8], at: usize) -> [u8x16; 4]
     requires sixteens { N ≡ 16 * (N / 16) }
     requires most { N ≤ 64 }
     requires inside { at + N ≤ length text.now }
-    ensures { (k : ℕ) → 16 * k < N → slice_index_or result k [] ≡ map shortened (take 16 (drop (at + 16 * k) text.now)) }
+    ensures { (k : ℕ) → 16 * k < N → slice_index_or result k []
+        ≡ map shortened (take 16 (drop (at + 16 * k) text.now)) }
 {
     let mut pieces = [u8x16::splat(0); 4];
     let mut next = 0;
@@ -51,7 +52,8 @@ pub fn shorten_vector<const N: usize>(text: &[u8], at: usize) -> [u8x16; 4]
 /// The last eight lanes of a vector, and then the first eight.
 const LAST_HALF: [usize; 16] = [8, 9, 10, 11, 12, 13, 14, 15, 0, 1, 2, 3, 4, 5, 6, 7];
 
-/// Returns the 16 bytes of a piece from its block of that number on: each piece has two, and the even ones are the first.
+/// Returns the 16 bytes of a piece from its block of that number on: each piece has two, and the even ones
+/// are the first.
 #[inline(always)]
 pub fn half(piece: u8x16, block: usize) -> u8x16
     requires { length piece ≡ 16 }
@@ -64,12 +66,14 @@ pub fn half(piece: u8x16, block: usize) -> u8x16
     piece.shuffle(piece, LAST_HALF)
 }
 
-/// Returns a bit for each of the text's 16 bytes from `at` on: it is set if the byte needs an escape and has no short one.
+/// Returns a bit for each of the text's 16 bytes from `at` on: it is set if the byte needs an escape and has
+/// no short one.
 #[inline(always)]
 fn long_lanes<const MODE: u8>(text: &[u8], at: usize) -> u64
     requires mode { mode_numbered MODE ≢ html }
     requires inside { at + 16 ≤ length text.now }
-    ensures { bits_of 64 result ≡ map (is_long (mode_numbered MODE)) (take 16 (drop at text.now)) ++ replicate 48 false }
+    ensures { bits_of 64 result
+        ≡ map (is_long (mode_numbered MODE)) (take 16 (drop at text.now)) ++ replicate 48 false }
 {
     let bytes = shorten(text, at);
     let control = bytes.simd_le(u8x16::splat(0x1f));
@@ -82,16 +86,18 @@ fn long_lanes<const MODE: u8>(text: &[u8], at: usize) -> u64
     (control | angle | ampersand | lead).to_bitmask()
 }
 
-/// Returns whether a byte of the text is flagged that needs an escape and has no short one. `MODE` is not that of HTML, which
-/// has no short escapes.
+/// Returns whether a byte of the text is flagged that needs an escape and has no short one. `MODE` is not
+/// that of HTML, which has no short escapes.
 ///
-/// The text has a multiple of 16 bytes, at most 64. Of a text with `"` and `\u{1}` that is so where the second is flagged.
+/// The text has a multiple of 16 bytes, at most 64. Of a text with `"` and `\u{1}` that is so where the
+/// second is flagged.
 #[inline(always)]
 pub fn has_long<const MODE: u8>(text: &[u8], flags: u64) -> bool
     requires mode { mode_numbered MODE ≢ html }
     requires sixteens { length text.now ≡ 16 * (length text.now / 16) }
     requires few { length text.now ≤ 64 }
-    ensures { result ≡ not (none_set (zip2 ◌&&◌ (map (is_long (mode_numbered MODE)) text.now) (bits_of 64 flags))) }
+    ensures { result
+        ≡ not (none_set (zip2 ◌&&◌ (map (is_long (mode_numbered MODE)) text.now) (bits_of 64 flags))) }
 {
     let mut long = 0;
     let mut next = 0;

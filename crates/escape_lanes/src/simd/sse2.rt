@@ -55,10 +55,7 @@ fn html_needs(v: &u8x16) -> u8x16
     let quote_or_ampersand = needs::is_without(v, 0x04, b'"');
     let apostrophe_or_slash = needs::is_without(v, 0x08, b'\'');
     let angle = needs::is_without(v, 0x02, b'<');
-    needs::join(
-        &needs::join(&quote_or_ampersand, &apostrophe_or_slash),
-        &angle,
-    )
+    quote_or_ampersand | apostrophe_or_slash | angle
 }
 
 /// Returns which lanes of `v` have bytes that need an escape: in HTML if `HTML`, else in JSON. It
@@ -67,7 +64,8 @@ fn html_needs(v: &u8x16) -> u8x16
 /// Where `v` begins with the bytes of `a<b`, lane 1 is set in HTML, and none of these in JSON.
 #[inline(always)]
 pub fn escaped_mask<const HTML: bool>(v: &Simd128u, ticks: &mut Ticks) -> u16
-    ensures lanes { ⟦<u16 as BitMask>⟧.bits result ≡ map (needs_escape (mode_of HTML)) (⟦<Simd128u as Simd>⟧.lanes v.now) }
+    ensures lanes { ⟦<u16 as BitMask>⟧.bits result
+        ≡ map (needs_escape (mode_of HTML)) (⟦<Simd128u as Simd>⟧.lanes v.now) }
     ensures tick { ticks.new ≡ ticks.old + 1 }
 {
     ticks.tick();
@@ -85,7 +83,8 @@ pub fn escaped_mask<const HTML: bool>(v: &Simd128u, ticks: &mut Ticks) -> u16
 /// Where `v` begins with the bytes of `a<b`, lane 1 is set.
 #[inline(always)]
 pub fn script_mask(v: &Simd128u, ticks: &mut Ticks) -> u16
-    ensures lanes { ⟦<u16 as BitMask>⟧.bits result ≡ map (needs_escape script) (⟦<Simd128u as Simd>⟧.lanes v.now) }
+    ensures lanes { ⟦<u16 as BitMask>⟧.bits result
+        ≡ map (needs_escape script) (⟦<Simd128u as Simd>⟧.lanes v.now) }
     ensures tick { ticks.new ≡ ticks.old + 1 }
 {
     ticks.tick();

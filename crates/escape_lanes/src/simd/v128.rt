@@ -184,7 +184,8 @@ fn sums(lanes: u64, kept: u8, flipped: u8, more: u8) -> u64
     requires kept { kept < 0x80 }
     requires flipped { flipped < 0x80 }
     requires more { more < 0x80 }
-    ensures { lanes_of_word result ≡ map (λ b. bit_xor (bit_and b kept) flipped + more) (lanes_of_word lanes) }
+    ensures { lanes_of_word result
+        ≡ map (λ b. bit_xor (bit_and b kept) flipped + more) (lanes_of_word lanes) }
 {
     ((lanes & each_lane(kept)) ^ each_lane(flipped)) + each_lane(more)
 }
@@ -221,7 +222,8 @@ fn html_needs(lanes: u64) -> u64
 /// Where `v` begins with the bytes of `a<b`, lane 1 is set in HTML, and none of these in JSON.
 #[inline(always)]
 pub fn escaped_mask<const HTML: bool>(v: &Simd128u, ticks: &mut Ticks) -> u16
-    ensures lanes { ⟦<u16 as BitMask>⟧.bits result ≡ map (needs_escape (mode_of HTML)) (⟦<Simd128u as Simd>⟧.lanes v.now) }
+    ensures lanes { ⟦<u16 as BitMask>⟧.bits result
+        ≡ map (needs_escape (mode_of HTML)) (⟦<Simd128u as Simd>⟧.lanes v.now) }
     ensures tick { ticks.new ≡ ticks.old + 1 }
 {
     ticks.tick();

@@ -64,10 +64,12 @@ impl<'a, const N: usize> Target<'a, N> {
         self.write(at, entry, 0, 1, 0);
     }
 
-    /// Writes the first eight bytes of `block` at `at`, a reverse solidus before each that is flagged, and after them
-    /// reverse solidi up to 16 bytes. The flag of the first byte is the lowest. Returns the place after the eight bytes.
+    /// Writes the first eight bytes of `block` at `at`, a reverse solidus before each that is flagged, and
+    /// after them reverse solidi up to 16 bytes. The flag of the first byte is the lowest. Returns the place
+    /// after the eight bytes.
     ///
-    /// Each flag is an escape. A block with none counts as a vector stored. The target has 16 bytes from `at` on.
+    /// Each flag is an escape. A block with none counts as a vector stored. The target has 16 bytes from `at`
+    /// on.
     #[inline(always)]
     pub fn escape_block(&mut self, at: usize, block: u8x16, flags: u8) -> usize
         requires whole { length block ≡ 16 }

@@ -43,7 +43,8 @@ impl BitAnd for Mask128 {
 }
 
 impl BitOrAssign for Mask128 {
-    ghost bitor_assign_gives = { λ a b c. bits_of 16 c.bits ≡ zip2 ◌||◌ (bits_of 16 a.bits) (bits_of 16 b.bits) };
+    ghost bitor_assign_gives = { λ a b c. bits_of 16 c.bits
+        ≡ zip2 ◌||◌ (bits_of 16 a.bits) (bits_of 16 b.bits) };
 
     #[inline(always)]
     #[tactic(auto, using(crate::proofs::LaneLemmas::bits_or))]

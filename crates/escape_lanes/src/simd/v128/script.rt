@@ -30,7 +30,8 @@ fn script_needs(lanes: u64) -> u64
 /// Where `v` begins with the bytes of `a<b`, lane 1 is set.
 #[inline(always)]
 pub fn script_mask(v: &Simd128u, ticks: &mut Ticks) -> u16
-    ensures lanes { ⟦<u16 as BitMask>⟧.bits result ≡ map (needs_escape script) (⟦<Simd128u as Simd>⟧.lanes v.now) }
+    ensures lanes { ⟦<u16 as BitMask>⟧.bits result
+        ≡ map (needs_escape script) (⟦<Simd128u as Simd>⟧.lanes v.now) }
     ensures tick { ticks.new ≡ ticks.old + 1 }
 {
     ticks.tick();

@@ -1,8 +1,9 @@
-use Rattle.std.proofs.Common.{bit_and, ◌-◌, nat_eq, map, ap, ◌∙◌}
-use Rattle.std.proofs.lemmas.Simd.{map-map}
+use Rattle.std.proofs.Common.{ℕ, bit_and, nat_eq, ◌-◌}
+use Rattle.std.proofs.lemmas.Simd.{splat_is_map, zip2_splat}
+use Rattle.escape_lanes.proofs.FlagLemmas.{picked}
 use Rattle.escape_lanes.proofs.simd.needs.is_without.Goals as goal
 
-pub returns-clause-lanes : goal.returns-clause-lanes
-returns-clause-lanes g c =
-    c.is.ensures.lanes ∙ ap (map (λ b. nat_eq b c.args.byte)) c.without.ensures.lanes
-    ∙ map-map (λ b. nat_eq b c.args.byte) (λ b. bit_and b (255 - c.args.bit)) c.args.v.now
+pub returns : goal.returns
+returns g c =
+    let n = g.row.N in let v = c.args.v.now in let kept : ℕ = 255 - c.args.bit in let full = c.requires.full in
+    picked nat_eq (λ b. bit_and b kept) (λ b. c.args.byte) n v _ _ full (zip2_splat bit_and v n kept full) (splat_is_map v n c.args.byte full)

@@ -1,14 +1,14 @@
-use Rattle.std.proofs.Common.{ℕ, bit_xor, nat_eq, nat_le, refl, ◌∙◌}
-use Rattle.std.proofs.lemmas.Simd.{zip2_of_maps}
-use Rattle.escape_lanes.specs.Lanes.{is_one_of}
+use Rattle.std.proofs.Common.{ℕ, bit_and, bit_xor, cond, nat_eq, refl}
+use Rattle.std.proofs.lemmas.Simd.{zip2_of_maps, zip2_splat}
 use Rattle.escape_lanes.specs.Mode.{json}
 use Rattle.escape_lanes.specs.Replacement.{needs_escape}
-use Rattle.escape_lanes.proofs.LaneLemmas.{map-bytes}
+use Rattle.escape_lanes.proofs.FlagLemmas.{flags-by, left, left_of}
 use Rattle.escape_lanes.proofs.simd.needs.json_needs.Goals as goal
 
-pub returns-clause-lanes : goal.returns-clause-lanes
-returns-clause-lanes g c =
-    let v = c.args.v.now in
-    let control_or_quote = λ (b : ℕ). nat_le (bit_xor b 2) 0x20 in let backslash = λ (b : ℕ). nat_eq b 0x5c in
-    c.one_of.ensures.lanes ∙ zip2_of_maps is_one_of control_or_quote backslash v c.is_control_or_quote.ensures.lanes c.is.ensures.lanes
-    ∙ map-bytes (λ b. is_one_of (control_or_quote b) (backslash b)) (needs_escape json) g.row.N v c.requires refl
+pub returns : goal.returns
+returns g c =
+    let n = g.row.N in let v = c.args.v.now in let full = c.requires.full in
+    let control_or_quote = λ (b : ℕ). left_of 0xa0 (bit_xor b 2) in let backslash = λ (b : ℕ). cond (nat_eq (bit_and b 255) 0x5c) 255 0 in
+    let is = left 0xa0 (λ b. bit_xor b 2) n v _ full (zip2_splat bit_xor v n 2 full) in
+    let m = flags-by (λ b. bit_xor (control_or_quote b) (backslash b)) (needs_escape json) n v _ c.requires (zip2_of_maps bit_xor control_or_quote backslash v is c.is_without.ensures) refl refl in
+    record { bytes = m.bytes; lanes = m.lanes }

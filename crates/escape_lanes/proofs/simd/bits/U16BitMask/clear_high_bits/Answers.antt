@@ -1,4 +1,4 @@
-use Rattle.escape_lanes.proofs.MaskLemmas.{bits-cleared, bits-all_cleared}
+use Rattle.escape_lanes.proofs.BitLemmas.{bits-cleared, bits-all_cleared}
 use Rattle.escape_lanes.proofs.simd.bits.U16BitMask.clear_high_bits.Goals as goal
 
 pub returns-then-n-eq16 : goal.returns-then-n-eq16

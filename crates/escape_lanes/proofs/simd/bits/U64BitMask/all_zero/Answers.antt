@@ -1,5 +1,5 @@
 use Rattle.std.proofs.Common.{arith}
-use Rattle.escape_lanes.proofs.MaskLemmas.{zero-bits}
+use Rattle.escape_lanes.proofs.BitLemmas.{zero-bits}
 use Rattle.escape_lanes.proofs.simd.bits.U64BitMask.all_zero.Goals as goal
 
 pub returns : goal.returns

@@ -1,4 +1,4 @@
-use Rattle.escape_lanes.proofs.MaskLemmas.{bits-cleared, bits-all_cleared}
+use Rattle.escape_lanes.proofs.BitLemmas.{bits-cleared, bits-all_cleared}
 use Rattle.escape_lanes.proofs.simd.bits.U64BitMask.clear_high_bits.Goals as goal
 
 pub returns-then-n-eq64 : goal.returns-then-n-eq64

@@ -1,4 +1,4 @@
-use Rattle.escape_lanes.proofs.MaskLemmas.{trailing-bits}
+use Rattle.escape_lanes.proofs.BitLemmas.{trailing-bits}
 use Rattle.escape_lanes.proofs.simd.bits.U64BitMask.first_offset.Goals as goal
 
 pub returns : goal.returns

@@ -118,21 +118,21 @@ unfolding count_trailing_zeros
 trailing_step k n = refl
 
 -- the place of the lowest set bit
-pub trailing-bits : (k x : ℕ) → count_trailing_zeros k x ≡ first_set (bits_of k x)
+pub trailing_bits : (k x : ℕ) → count_trailing_zeros k x ≡ first_set (bits_of k x)
 unfolding count_trailing_zeros first_set bits_of
-trailing-bits zero x = refl
-trailing-bits (suc k) x =
+trailing_bits zero x = refl
+trailing_bits (suc k) x =
     elim (cases_eq (x % 2) 0) [
-      | inl even ↦ rw (bits-suc k x, trailing_step k x, even) (ap suc (trailing-bits k (x / 2)))
+      | inl even ↦ rw (bits-suc k x, trailing_step k x, even) (ap suc (trailing_bits k (x / 2)))
       | inr odd ↦ let one : x % 2 ≡ 1 = omega arith in rw (bits-suc k x, trailing_step k x, one) refl
     ]
 
 -- whether the number is 0
-pub zero-bits : (k x : ℕ) → x < 2 ^ k → nat_eq x 0 ≡ none_set (bits_of k x)
+pub zero_bits : (k x : ℕ) → x < 2 ^ k → nat_eq x 0 ≡ none_set (bits_of k x)
 unfolding none_set bits_of
-zero-bits zero x h = let none : x ≡ 0 = omega arith in rw none refl
-zero-bits (suc k) x h =
-    let rest = zero-bits k (x / 2) (shr_below x k 1 (rw add-one h)) in
+zero_bits zero x h = let none : x ≡ 0 = omega arith in rw none refl
+zero_bits (suc k) x h =
+    let rest = zero_bits k (x / 2) (shr_below x k 1 (rw add-one h)) in
     elim (cases_eq (x % 2) 0) [
       | inl even ↦
           let half : nat_eq x 0 ≡ nat_eq (x / 2) 0 = grind (arith, nat_tests) in
@@ -176,7 +176,7 @@ bits-first_cleared (suc k) x some h =
 
 -- where a bit is set, the number isn't 0
 pub some_bit : (k x : ℕ) → x < 2 ^ k → none_set (bits_of k x) ≡ false → 1 ≤ x
-some_bit k x h some = let zero_is = zero-bits k x h in grind (arith, nat_tests, zero_is, some)
+some_bit k x h some = let zero_is = zero_bits k x h in grind (arith, nat_tests, zero_is, some)
 
 -- the count goes on after a lane
 counted-cons : (b : Bool) (bs : List Bool) → count_by (λ b. b) (b ∷ bs) ≡ cond b 1 0 + count_by (λ b. b) bs

@@ -21,7 +21,7 @@ use Rattle.escape_lanes.specs.Replacement.{replacement}
 use Rattle.escape_lanes.specs.Short.{is_long, shortened}
 use Rattle.escape_lanes.proofs.BitLemmas.{bits-wide}
 use Rattle.escape_lanes.proofs.LaneLemmas.{bits_and, bits-mask, map-bytes}
-use Rattle.escape_lanes.proofs.BitLemmas.{zero-bits}
+use Rattle.escape_lanes.proofs.BitLemmas.{zero_bits}
 
 -- A vector
 
@@ -172,7 +172,7 @@ piece-more f text flags next long more moved inside few fits before piece shift 
     let front : length (map f (take next text)) ≡ next = length-map (take next text) f ∙ length-take-le next text (omega (arith, inside)) in
     let here : length (map f (take 16 (drop next text))) ≡ 16 = length-map (take 16 (drop next text)) f ∙ length-take-le 16 (drop next text) (omega (arith, inside, length-drop next text)) in
     let both : nat_eq (bit_and more moved) 0 ≡ none_set (zip2 ◌&&◌ (map f (take 16 (drop next text))) (drop next (bits_of 64 flags))) =
-    zero-bits 64 (bit_and more moved) (omega (arith, fits, and_le_l more moved)) ∙ ap none_set (bits_and 64 more moved) ∙ rw (piece, shift)
+    zero_bits 64 (bit_and more moved) (omega (arith, fits, and_le_l more moved)) ∙ ap none_set (bits_and 64 more moved) ∙ rw (piece, shift)
     (both-more 48 next (map f (take 16 (drop next text))) (drop next (bits_of 64 flags)) (omega (arith, here, l, length-drop next (bits_of 64 flags), few))) in
     let parts = rw front at (both-append (map f (take next text)) (map f (take 16 (drop next text))) (bits_of 64 flags) (omega (arith, front, l, few))) in
     or-zero long (bit_and more moved) ∙ ap₂ ◌&&◌ before both ∙ sym (rw (take-add next 16 text, map-append f (take next text) (take 16 (drop next text))) parts)

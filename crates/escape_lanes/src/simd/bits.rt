@@ -18,6 +18,7 @@ impl BitMask for u16 {
     ghost count = { length-bits_of 16 };
 
     #[inline(always)]
+    #[tactic(auto, using(crate::proofs::BitLemmas::trailing_bits))]
     fn first_offset(&self) -> usize {
         self.trailing_zeros() as usize
     }
@@ -28,6 +29,7 @@ impl BitMask for u16 {
     }
 
     #[inline(always)]
+    #[tactic(auto, using(crate::proofs::BitLemmas::zero_bits))]
     fn all_zero(&self) -> bool {
         *self == 0
     }
@@ -49,6 +51,7 @@ impl BitMask for u32 {
     ghost count = { length-bits_of 32 };
 
     #[inline(always)]
+    #[tactic(auto, using(crate::proofs::BitLemmas::trailing_bits))]
     fn first_offset(&self) -> usize {
         self.trailing_zeros() as usize
     }
@@ -59,6 +62,7 @@ impl BitMask for u32 {
     }
 
     #[inline(always)]
+    #[tactic(auto, using(crate::proofs::BitLemmas::zero_bits))]
     fn all_zero(&self) -> bool {
         *self == 0
     }
@@ -80,6 +84,7 @@ impl BitMask for u64 {
     ghost count = { length-bits_of 64 };
 
     #[inline(always)]
+    #[tactic(auto, using(crate::proofs::BitLemmas::trailing_bits))]
     fn first_offset(&self) -> usize {
         self.trailing_zeros() as usize
     }
@@ -90,6 +95,7 @@ impl BitMask for u64 {
     }
 
     #[inline(always)]
+    #[tactic(auto, using(crate::proofs::BitLemmas::zero_bits))]
     fn all_zero(&self) -> bool {
         *self == 0
     }

@@ -1,6 +1,0 @@
-use Rattle.std.proofs.Common.{arith}
-use Rattle.escape_lanes.proofs.BitLemmas.{zero-bits}
-use Rattle.escape_lanes.proofs.simd.bits.U64BitMask.all_zero.Goals as goal
-
-pub returns : goal.returns
-returns c = zero-bits 64 c.args.self.now (omega arith)

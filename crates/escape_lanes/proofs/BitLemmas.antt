@@ -58,8 +58,8 @@ bits-drop (suc m) j x =
     rw (count, bits-suc (m + j) x, ← rest) (bits-drop m j (x / 2))
 
 -- the bits of a number that is shifted down
-pub bits-shifted : (k m x : ℕ) → m ≤ k → x < 2 ^ k → bits_of k (x / 2 ^ m) ≡ drop m (bits_of k x) ++ replicate m false
-bits-shifted k m x le h =
+pub bits_shifted : (k m x : ℕ) → m ≤ k → x < 2 ^ k → bits_of k (x / 2 ^ m) ≡ drop m (bits_of k x) ++ replicate m false
+bits_shifted k m x le h =
     let back : k - m + m ≡ k = omega arith in
     let more : m + (k - m) ≡ k = omega arith in
     let small : x / 2 ^ m < 2 ^ (k - m) = shr_below x (k - m) m (rw back h) in
@@ -81,8 +81,8 @@ bits-rest k m x le =
     rw more at (bits-wide m (k - m) (x % 2 ^ m) (mod_below x (2 ^ m) (pow_pos m))) ∙ ap (λ bs. bs ++ replicate (k - m) false) (bits-low m x ∙ rw more at (sym (bits-take m (k - m) x)))
 
 -- w bits from the m-th on, by a row of ones
-pub bits-part : (k m w x : ℕ) → m + w ≤ k → bits_of w (bit_and (x / 2 ^ m) (2 ^ w - 1)) ≡ take w (drop m (bits_of k x))
-bits-part k m w x le =
+pub bits_part : (k m w x : ℕ) → m + w ≤ k → bits_of w (bit_and (x / 2 ^ m) (2 ^ w - 1)) ≡ take w (drop m (bits_of k x))
+bits_part k m w x le =
     let more : m + (k - m) ≡ k = omega arith in
     let rest : w + (k - m - w) ≡ k - m = omega arith in
     let past : bits_of (k - m) (x / 2 ^ m) ≡ drop m (bits_of k x) = rw more at (sym (bits-drop m (k - m) x)) in
@@ -99,16 +99,16 @@ ones_shr d n =
     rw parts (shr_high (2 ^ d - 1) n (2 ^ n - 1) (omega (arith, low)))
 
 -- the bits that it leaves
-pub bits-cleared : (k x n : ℕ) → n ≤ k → bits_of k (bit_and x ((2 ^ k - 1) / 2 ^ n)) ≡ clear_last n (bits_of k x)
-bits-cleared k x n le =
+pub bits_cleared : (k x n : ℕ) → n ≤ k → bits_of k (bit_and x ((2 ^ k - 1) / 2 ^ n)) ≡ clear_last n (bits_of k x)
+bits_cleared k x n le =
     let split : k - n + n ≡ k = omega arith in
     let left : k - (k - n) ≡ n = omega arith in
     let ones : (2 ^ k - 1) / 2 ^ n ≡ 2 ^ (k - n) - 1 = rw split at (ones_shr (k - n) n) in
     rw (ones, and_mask x (k - n), length-bits_of k x) (rw left at (bits-rest k (k - n) x (omega arith)))
 
 -- all bits cleared
-pub bits-all_cleared : (k x n : ℕ) → n ≡ k → bits_of k 0 ≡ clear_last n (bits_of k x)
-bits-all_cleared k x n all =
+pub bits_all_cleared : (k x n : ℕ) → n ≡ k → bits_of k 0 ≡ clear_last n (bits_of k x)
+bits_all_cleared k x n all =
     let none : k - k ≡ 0 = omega arith in
     rw (all, length-bits_of k x, none) (bits-zero k)
 
@@ -148,10 +148,10 @@ cleared-suc : (n : ℕ) (bs : List Bool) → false ∷ clear_first (n + 1) bs �
 cleared-suc n bs = let e : suc n + 1 ≡ suc (n + 1) = omega arith in rw e refl
 
 -- the first set bit cleared, as a number less one has all below it set and it clear
-pub bits-first_cleared : (k x : ℕ) → 0 < x → x < 2 ^ k → bits_of k (bit_and x (x - 1)) ≡ clear_first (first_set (bits_of k x) + 1) (bits_of k x)
+pub bits_first_cleared : (k x : ℕ) → 0 < x → x < 2 ^ k → bits_of k (bit_and x (x - 1)) ≡ clear_first (first_set (bits_of k x) + 1) (bits_of k x)
 unfolding first_set
-bits-first_cleared zero x some h = absurd (omega arith)
-bits-first_cleared (suc k) x some h =
+bits_first_cleared zero x some h = absurd (omega arith)
+bits_first_cleared (suc k) x some h =
     let y : ℕ = bit_and x (x - 1) in
     elim (cases_eq (x % 2) 0) [
       | inl even ↦
@@ -162,7 +162,7 @@ bits-first_cleared (suc k) x some h =
           let p : nat_eq (y % 2) 1 ≡ false = grind (arith, nat_tests, is) in
           let q : y / 2 ≡ z = omega (arith, is) in
           let r : nat_eq (x % 2) 1 ≡ false = grind (arith, nat_tests, even) in
-          let rest = bits-first_cleared k (x / 2) (omega (arith, even, some)) (shr_below x k 1 (rw add-one h)) in
+          let rest = bits_first_cleared k (x / 2) (omega (arith, even, some)) (shr_below x k 1 (rw add-one h)) in
           rw (bits-suc k y, bits-suc k x, p, q, r) (ap (λ bs. false ∷ bs) rest ∙ cleared-suc (first_set (bits_of k (x / 2))) (bits_of k (x / 2)))
       | inr odd ↦
           let half : (x - 1) / 2 ≡ x / 2 = omega arith in
@@ -192,11 +192,11 @@ bit-value : (n : ℕ) → cond (nat_eq (n % 2) 1) 1 0 ≡ n % 2
 bit-value n = grind (arith, nat_tests)
 
 -- how many bits are set
-pub ones-bits : (k x : ℕ) → x < 2 ^ k → count_ones x ≡ count_by (λ b. b) (bits_of k x)
+pub ones_bits : (k x : ℕ) → x < 2 ^ k → count_ones x ≡ count_by (λ b. b) (bits_of k x)
 unfolding bits_of
-ones-bits zero x h = let none : x ≡ 0 = omega arith in rw none ones-zero
-ones-bits (suc k) x h =
-    let rest = ones-bits k (x / 2) (shr_below x k 1 (rw add-one h)) in
+ones_bits zero x h = let none : x ≡ 0 = omega arith in rw none ones-zero
+ones_bits (suc k) x h =
+    let rest = ones_bits k (x / 2) (shr_below x k 1 (rw add-one h)) in
     let last = counted-cons (nat_eq (x % 2) 1) (bits_of k (x / 2)) in
     ones_step x ∙ omega (arith, bit-value x, rest, last)
 
@@ -254,6 +254,6 @@ ones-gaps k m x y le h small is =
     let z : ℕ = bit_and (2 ^ k - 1 - x) (x * 2 % 2 ^ k) in
     let left : length (bits_of k z) - (k - m) ≡ m = omega (arith, length-bits_of k z) in
     let plain : x * 2 + 0 ≡ x * 2 = omega arith in
-    ones-bits k y small ∙ ap (count_by (λ b. b)) is
+    ones_bits k y small ∙ ap (count_by (λ b. b)) is
     ∙ rw left (counted-clear (take m (bits_of k z)) (k - m))
     ∙ rw plain at (gaps-bits k m 0 x (omega arith) h)

@@ -72,10 +72,10 @@ module _ (src : List ℕ) (count : ℕ) (small : AreSmall src) (inside : count �
       digits-number 16 last small-last (omega (arith, length-last)) ∙ ap (λ (k : ℕ). last ++ replicate (16 - k) 0) length-last
 
   -- one to three, as the first, the middle and the last
-  pub number-up_to_three : 0 < count → count < 4
+  pub number_up_to_three : 0 < count → count < 4
       → bit_or (get_or src (length src - count) 0) (bit_or (get_or src (length src - count + count / 2) 0 * 2 ^ (8 * (count / 2)) % 2 ^ 64) (get_or src (length src - count + count - 1) 0 * 2 ^ (8 * (count - 1)) % 2 ^ 64))
       ≡ number_l 256 (drop (length src - count) src)
-  number-up_to_three some few =
+  number_up_to_three some few =
       let at = length src - count in let last = drop at src in
       let first : get_or src at 0 ≡ get_or last 0 0 = ap (λ i. get_or src i 0) (sym (add-zero at)) ∙ sym (get_or-drop at src 0 0) in
       let middle : get_or src (at + count / 2) 0 ≡ get_or last (count / 2) 0 = sym (get_or-drop at src (count / 2) 0) in

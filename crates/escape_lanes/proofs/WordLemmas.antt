@@ -28,11 +28,11 @@ number-digits zero x h = omega arith
 number-digits (suc k) x h = omega (arith, number-digits k (x / 256) (omega arith))
 
 -- the lanes of a word, as its bytes are written
-pub word-to_bytes : (x : ℕ)
+pub word_to_bytes : (x : ℕ)
     → x % 256 ∷ x / 256 % 256 ∷ x / 65536 % 256 ∷ x / 16777216 % 256 ∷ x / 4294967296 % 256 ∷ x / 1099511627776 % 256 ∷ x / 281474976710656 % 256 ∷ x / 72057594037927936 % 256 ∷ []
     ≡ lanes_of_word x
 unfolding lanes_of_word
-word-to_bytes x =
+word_to_bytes x =
     let two : x / 256 / 256 ≡ x / 65536 = omega arith in
     let three : x / 65536 / 256 ≡ x / 16777216 = omega arith in
     let four : x / 16777216 / 256 ≡ x / 4294967296 = omega arith in
@@ -43,7 +43,7 @@ word-to_bytes x =
 
 -- the lanes of a word that was read from eight bytes
 pub word-from_bytes : (bs : List ℕ) (x : ℕ) → length bs ≡ 8 → ((i : ℕ) → get_or bs i 0 < 256) → x ≡ from_le_bytes w64 bs → lanes_of_word x ≡ bs
-word-from_bytes bs x full small is = sym (word-to_bytes x) ∙ le_bytes_8 bs x full small is
+word-from_bytes bs x full small is = sym (word_to_bytes x) ∙ le_bytes_8 bs x full small is
 
 -- the lanes of a word that was read as a number of eight bytes
 pub word-read : (bs : List ℕ) → length bs ≡ 8 → AreSmall bs → lanes_of_word (number_l 256 bs % 2 ^ 64) ≡ bs
@@ -192,8 +192,8 @@ unfolding bits_of
 gathered-is n h = eqb-true _ _ (agree_below_at (λ m. nat_eq (gathered (number_l 256 (mask_lanes 128 (bits_of 8 m)))) m) (λ m. true) 256 n refl h)
 
 -- one bit for each lane of a word that is flagged
-pub word-bits : (x : ℕ) → bits_of 8 (bit_and x 9259542123273814144 * 567382630219905 % 18446744073709551616 / 72057594037927936) ≡ flagged_lanes (lanes_of_word x)
-word-bits x =
+pub word_bits : (x : ℕ) → bits_of 8 (bit_and x 9259542123273814144 * 567382630219905 % 18446744073709551616 / 72057594037927936) ≡ flagged_lanes (lanes_of_word x)
+word_bits x =
     let bs = flagged_lanes (lanes_of_word x) in
     let full : length bs ≡ 8 = length-map (lanes_of_word x) (λ b. nat_le 0x80 b) ∙ (word-bytes x).full in
     let small : mask_l bs < 256 = rw full at (mask_l-lt bs) in

@@ -35,6 +35,7 @@ impl BitMask for u16 {
     }
 
     #[inline(always)]
+    #[tactic(auto, using(crate::proofs::BitLemmas::bits_cleared, crate::proofs::BitLemmas::bits_all_cleared))]
     fn clear_high_bits(&self, n: usize) -> Self {
         if n == 16 { 0 } else { *self & (u16::MAX >> n) }
     }
@@ -68,6 +69,7 @@ impl BitMask for u32 {
     }
 
     #[inline(always)]
+    #[tactic(auto, using(crate::proofs::BitLemmas::bits_cleared, crate::proofs::BitLemmas::bits_all_cleared))]
     fn clear_high_bits(&self, n: usize) -> Self {
         if n == 32 { 0 } else { *self & (u32::MAX >> n) }
     }
@@ -101,6 +103,7 @@ impl BitMask for u64 {
     }
 
     #[inline(always)]
+    #[tactic(auto, using(crate::proofs::BitLemmas::bits_cleared, crate::proofs::BitLemmas::bits_all_cleared))]
     fn clear_high_bits(&self, n: usize) -> Self {
         if n == 64 { 0 } else { *self & (u64::MAX >> n) }
     }

@@ -9,6 +9,7 @@ use crate::simd::traits::BitMask;
 ///
 /// Of `0b0110` that is `0b0100`.
 #[inline(always)]
+#[tactic(auto, using(crate::proofs::BitLemmas::some_bit, crate::proofs::BitLemmas::bits_first_cleared))]
 pub fn clear_first_lane(flags: u64) -> u64
     requires { none_set (bits_of 64 flags) ≡ false }
     ensures { bits_of 64 result ≡ clear_first (first_set (bits_of 64 flags) + 1) (bits_of 64 flags) }
@@ -20,6 +21,7 @@ pub fn clear_first_lane(flags: u64) -> u64
 ///
 /// `count` is below 64. Of `0b0110` and 1 that is `0b0011`.
 #[inline(always)]
+#[tactic(auto, using(crate::proofs::BitLemmas::bits_shifted))]
 pub fn shift_lanes(flags: u64, count: usize) -> u64
     requires { count < 64 }
     ensures { bits_of 64 result ≡ drop count (bits_of 64 flags) ++ replicate count false }
@@ -48,6 +50,7 @@ pub fn is_flagged(flags: u8) -> bool
 ///
 /// Of `0b0110` that is 2.
 #[inline(always)]
+#[tactic(auto, using(crate::proofs::BitLemmas::ones_bits))]
 pub fn count_flagged(flags: u64) -> usize
     ensures { result ≡ flag_count (bits_of 64 flags) }
 {

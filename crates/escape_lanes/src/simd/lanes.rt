@@ -21,6 +21,7 @@ pub(crate) fn load<const N: usize>(src: &[u8]) -> Simd<u8, N>
 
 /// Writes the lanes to the first `N` bytes of `dst`.
 #[inline(always)]
+#[tactic(auto, using(crate::proofs::LaneLemmas::stored_first))]
 pub(crate) fn store<const N: usize>(v: &Simd<u8, N>, dst: &mut [u8])
     requires bytes { AreBytes N v.now }
     requires room { N ≤ length dst.old }

@@ -29,6 +29,7 @@ pub trait LoadLast: LoadStore {
 ///
 /// The first, the middle and the last one are all of them, and may be the same one.
 #[inline(always)]
+#[tactic(auto, using(crate::proofs::LastLemmas::number_up_to_three))]
 fn up_to_three(src: &[u8], count: usize) -> u64
     requires few { count < 4 }
     requires inside { count ≤ length src.now }

@@ -48,6 +48,7 @@ fn each_lane(byte: u8) -> u64
 
 /// Returns the eight bytes of a word.
 #[inline(always)]
+#[tactic(auto, using(crate::proofs::WordLemmas::word_to_bytes))]
 fn bytes_of(word: u64) -> [u8; 8]
     ensures { result ≡ lanes_of_word word }
 {
@@ -72,6 +73,7 @@ const TOPS: u64 = 0x8080_8080_8080_8080;
 /// The product has the top bit of lane `i` at `56 + i`, since lane `i` of the word meets one bit of
 /// the factor for each place, and no two meet at one.
 #[inline(always)]
+#[tactic(auto, using(crate::proofs::WordLemmas::word_bits))]
 fn flag_bits(flags: u64) -> u16
     ensures below { result < 2 ^ 8 }
     ensures bits { bits_of 8 result ≡ flagged_lanes (lanes_of_word flags) }

@@ -2,7 +2,7 @@ use Rattle.std.proofs.Common.{◌≡◌, ℕ, Bool, true, false, if◌then◌els
 use mir.Val.{bool_byte}
 use Rattle.std.specs.Int.RustNames.{count_ones}
 use Rattle.escape_lanes.specs.Bits.{bits_of, length-bits_of}
-use Rattle.escape_lanes.proofs.BitLemmas.{ones-bits}
+use Rattle.escape_lanes.proofs.BitLemmas.{ones_bits}
 use Rattle.escape_lanes.proofs.SpreadLemmas.{block-looked_up, first-half}
 use Rattle.escape_lanes.proofs.simd.target.Target.escape_block.Goals as goal
 
@@ -16,7 +16,7 @@ swizzle g c = rw c.spread_row.ensures (block-looked_up (bits_of 8 c.args.flags) 
 
 pub returns : goal.returns
 returns g c =
-    let count = ones-bits 8 c.args.flags (omega (arith, c.ranges.flags.fits)) in
+    let count = ones_bits 8 c.args.flags (omega (arith, c.ranges.flags.fits)) in
     let looked = block-looked_up (bits_of 8 c.args.flags) c.args.block (length-bits_of 8 c.args.flags) c.requires.whole in
     let w = rw (c.spread_row.ensures, first-half c.args.block c.requires.whole, looked.is) at c.write.ensures in
     record {

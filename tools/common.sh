@@ -23,9 +23,9 @@ usage() {
 
 [ "${1-}" != --help ] || { help; exit; }
 
-# version [HEADER]: the version of the library and the program, which a header has.
+# Prints the version of the library and the program, which the header has.
 version() {
-  awk '/^#define ESCAPE_VERSION_(MAJOR|MINOR|PATCH) / { printf "%s%s", dot, $3; dot = "." } END { print "" }' "${1:-$top/c/escape.h}"
+  awk '/^#define ESCAPE_VERSION_(MAJOR|MINOR|PATCH) / { printf "%s%s", dot, $3; dot = "." } END { print "" }' "$top/c/escape.h"
 }
 
 # What a script of tests counts, and its last line.
@@ -186,18 +186,13 @@ lock() {
   flock 9
 }
 
-# is_fresh BUILD CRATE..: whether the build is there, and no source of the crates is newer. Folders
-# count, for files that were removed.
+# is_fresh BUILD CRATE..: whether the build is there, and no source of the crates is newer. Folders count, for files that
+# were removed. Some crates lack one.
 is_fresh() {
-  local built=$1 crate folder sources=("$top/crates.txt")
-  shift
-  [ -e "$built" ] || return 1
-  for crate; do
-    for folder in src specs proofs; do
-      [ -e "$top/crates/$crate/$folder" ] && sources+=("$top/crates/$crate/$folder")
-    done
-  done
-  [ -z "$(find "${sources[@]}" -newer "$built" -print -quit)" ]
+  local crates=("${@:2}") newer
+  crates=("${crates[@]/#/$top/crates/}")
+  newer=$(find "$top/crates.txt" "${crates[@]/%//src}" "${crates[@]/%//specs}" "${crates[@]/%//proofs}" -newer "$1" -print -quit 2>/dev/null)
+  [ -e "$1" ] && [ -z "$newer" ]
 }
 
 # build CRATE LEVEL: proves and builds a program, a static library or another library's tests, unless that was done since

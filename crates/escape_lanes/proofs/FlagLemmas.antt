@@ -1,9 +1,9 @@
 -- Flags: vectors of bytes that are computed byte by byte, of which the top bits count.
-use Rattle.std.proofs.Common.{◌≡◌, ℕ, ◌+◌, ◌-◌, ◌%◌, ◌<◌, Bool, true, cond, List, [], ◌∷◌, length, replicate, map, nat_le, nat_lt, get_or, refl, sym, ap, ◌∙◌, arith}
+use Rattle.std.proofs.Common.{◌≡◌, ℕ, ◌+◌, ◌-◌, ◌%◌, ◌<◌, Bool, true, cond, List, [], ◌∷◌, length, replicate, map, nat_le, nat_lt, get_or, refl, ap, ◌∙◌, arith}
 use Rattle.std.proofs.lemmas.Bool.{agree_below, agree_below_at}
 use Rattle.std.proofs.lemmas.Bool.Decides.{nat_tests}
 use Rattle.std.proofs.lemmas.List.{length-map, get_or-map}
-use Rattle.std.proofs.lemmas.Simd.{map-map, splat_is_map, tops_compared, zip2_of_maps, zip2_splat, zip2_splat_left}
+use Rattle.std.proofs.lemmas.Simd.{map-map, splat_is_map, tops_compared, zip2_of_maps}
 use Rattle.std.specs.Simd.Lanes.{zip2, sel_l, top}
 use mir.Syntax.{w8}
 use Rattle.escape_lanes.specs.Lanes.{AreBelow, AreBytes, flagged_lanes}
@@ -36,10 +36,6 @@ flags-by f need n v xs bytes is small same = record {
   bytes = bytes-by f n v xs bytes is small;
   lanes = ap flagged_lanes is ∙ map-map (λ b. nat_le 0x80 b) f v ∙ map-bytes (λ b. nat_le 0x80 (f b)) need n v bytes same;
 }
-
--- a comparison with the splat on the left
-pub splat_left : (t : ℕ → ℕ → ℕ) (n y : ℕ) (xs : List ℕ) → length xs ≡ n → zip2 t (replicate n y) xs ≡ zip2 (λ a b. t b a) xs (replicate n y)
-splat_left t n y xs full = zip2_splat_left t y n xs full ∙ sym (zip2_splat (λ a b. t b a) xs n y full)
 
 -- a choice, lane by lane
 chosen-map : (c : ℕ → Bool) (p q : ℕ → ℕ) (v : List ℕ) → sel_l (map c v) (map p v) (map q v) ≡ map (λ b. cond (c b) (p b) (q b)) v

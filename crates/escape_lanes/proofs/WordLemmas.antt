@@ -12,7 +12,7 @@ use Rattle.std.specs.Int.Bits.{and_zero_r, or_shifted_r}
 use Rattle.std.specs.Simd.Lanes.{Each1, digits_l, number_l, zip2, mask_l}
 use borrow.Rule.Slice.PartMut.{put_mid}
 use Rattle.escape_lanes.specs.Bits.{bits_of}
-use Rattle.escape_lanes.specs.Lanes.{flagged_lanes, mask_lanes}
+use Rattle.escape_lanes.specs.Lanes.{flagged_lanes}
 use Rattle.escape_lanes.specs.Mode.{Mode}
 use Rattle.escape_lanes.specs.Replacement.{needs_escape}
 use Rattle.escape_lanes.specs.Words.{lanes_of_word, lanes_of_words, word-bytes}
@@ -166,8 +166,12 @@ xor-maps f g v x y is also = xor-words x y ∙ zip2_of_maps bit_xor f g v is als
 top-bit : (b : ℕ) → b < 256 → bit_and b 128 ≡ cond (nat_le 0x80 b) 128 0
 top-bit b h = eqb-true _ _ (agree_below_at (λ p. nat_eq (bit_and p 128) (cond (nat_le 0x80 p) 128 0)) (λ p. true) 256 b refl h)
 
+-- the top bits of lanes
+abbrev top_lanes : List Bool → List ℕ
+top_lanes = map (λ b. cond b 128 0)
+
 -- the top bits of all bytes of a number
-digits-tops : (k x : ℕ) → bit_and x (number_l 256 (replicate k 128)) ≡ number_l 256 (mask_lanes 128 (flagged_lanes (digits_l 256 k x)))
+digits-tops : (k x : ℕ) → bit_and x (number_l 256 (replicate k 128)) ≡ number_l 256 (top_lanes (flagged_lanes (digits_l 256 k x)))
 digits-tops zero x = and_zero_r x
 digits-tops (suc k) x =
     let n : ℕ = x / 256 in let p : ℕ = x % 256 in
@@ -178,7 +182,7 @@ digits-tops (suc k) x =
     omega (arith, split, digits-tops k n, top-bit p (omega arith))
 
 -- the same of a word
-pub word-tops : (x : ℕ) → bit_and x 9259542123273814144 ≡ number_l 256 (mask_lanes 128 (flagged_lanes (lanes_of_word x)))
+pub word-tops : (x : ℕ) → bit_and x 9259542123273814144 ≡ number_l 256 (top_lanes (flagged_lanes (lanes_of_word x)))
 unfolding lanes_of_word
 word-tops x = digits-tops 8 x
 
@@ -187,9 +191,9 @@ abbrev gathered : ℕ → ℕ
 gathered tops = tops * 567382630219905 % 18446744073709551616 / 72057594037927936
 
 -- it is the number of these bits, by computation for each
-gathered-is : (n : ℕ) → n < 256 → gathered (number_l 256 (mask_lanes 128 (bits_of 8 n))) ≡ n
+gathered-is : (n : ℕ) → n < 256 → gathered (number_l 256 (top_lanes (bits_of 8 n))) ≡ n
 unfolding bits_of
-gathered-is n h = eqb-true _ _ (agree_below_at (λ m. nat_eq (gathered (number_l 256 (mask_lanes 128 (bits_of 8 m)))) m) (λ m. true) 256 n refl h)
+gathered-is n h = eqb-true _ _ (agree_below_at (λ m. nat_eq (gathered (number_l 256 (top_lanes (bits_of 8 m)))) m) (λ m. true) 256 n refl h)
 
 -- one bit for each lane of a word that is flagged
 pub word_bits : (x : ℕ) → bits_of 8 (bit_and x 9259542123273814144 * 567382630219905 % 18446744073709551616 / 72057594037927936) ≡ flagged_lanes (lanes_of_word x)
@@ -197,7 +201,7 @@ word_bits x =
     let bs = flagged_lanes (lanes_of_word x) in
     let full : length bs ≡ 8 = length-map (lanes_of_word x) (λ b. nat_le 0x80 b) ∙ (word-bytes x).full in
     let small : mask_l bs < 256 = rw full at (mask_l-lt bs) in
-    let number : gathered (number_l 256 (mask_lanes 128 bs)) ≡ mask_l bs = rw (bits-mask bs 8 full) at (gathered-is (mask_l bs) small) in
+    let number : gathered (number_l 256 (top_lanes bs)) ≡ mask_l bs = rw (bits-mask bs 8 full) at (gathered-is (mask_l bs) small) in
     ap (λ tops. bits_of 8 (gathered tops)) (word-tops x) ∙ ap (bits_of 8) number ∙ bits-mask bs 8 full
 
 -- ---- two words

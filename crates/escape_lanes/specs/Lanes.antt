@@ -1,5 +1,5 @@
 -- Vectors and masks as lists of lanes.
-use Rattle.std.specs.Prelude.{◌≡◌, ℕ, ◌<◌, Bool, List, length, map, not, nat_eq, nat_le, slice_index_or, if◌then◌else◌}
+use Rattle.std.specs.Prelude.{◌≡◌, ℕ, ◌<◌, Bool, List, length, map, not, nat_le, slice_index_or, if◌then◌else◌}
 
 -- n lanes, each below a bound
 pub record AreBelow (bound n : ℕ) (lanes : List ℕ) : Type 0 where
@@ -9,21 +9,6 @@ pub record AreBelow (bound n : ℕ) (lanes : List ℕ) : Type 0 where
 -- n lanes, each a byte
 abbrev pub AreBytes : ℕ → List ℕ → Type 0
 AreBytes = AreBelow 256
-
--- A mask in lanes has one number, `one`, in each lane that is set, and 0 in the others.
-
--- whether each lane is set
-abbrev pub set_lanes : ℕ → List ℕ → List Bool
-set_lanes one = map (λ b. nat_eq b one)
-
--- the mask that is set in these lanes
-abbrev pub mask_lanes : ℕ → List Bool → List ℕ
-mask_lanes one = map (λ b. if b then one else 0)
-
--- n lanes, each wholly clear or wholly set
-pub record AreWhole (one n : ℕ) (lanes : List ℕ) : Type 0 where
-  pub full : length lanes ≡ n
-  pub whole : lanes ≡ mask_lanes one (set_lanes one lanes)
 
 -- A vector of flags has 0x80 or more in each lane that is flagged, and less in the others.
 

@@ -3,10 +3,8 @@ ghost use Rattle.std.specs.Prelude.{◌≡◌, ◌||◌, ◌&&◌, ◌<◌, ◌�
 ghost use Rattle.std.specs.Simd.Lanes.{zip2};
 ghost use Rattle.std.proofs.Common.{lit≤, rules};
 ghost use Rattle.escape_lanes.specs.Bits.{bits_of, length-bits_of};
-ghost use Rattle.escape_lanes.specs.Lanes.{AreWhole, set_lanes};
 
 use crate::simd::bits::NeonBits;
-use crate::simd::lanes;
 use crate::simd::mask::Mask;
 use crate::simd::traits::BitMask;
 use std::ops::{BitAnd, BitOr, BitOrAssign};
@@ -95,16 +93,6 @@ impl<const BITS: u8, const N: usize> LaneMask<BITS, N> {
         ensures { result.bits ≡ bits }
     {
         LaneMask { bits }
-    }
-
-    /// Returns the mask of lanes that are wholly set or clear.
-    #[inline(always)]
-    pub(crate) fn of(mask: &std::simd::Simd<u8, N>) -> Self
-        requires whole { AreWhole 255 N mask.now }
-        requires few { N ≤ 64 }
-        ensures { bits_of N result.bits ≡ set_lanes 255 mask.now }
-    {
-        LaneMask::new(lanes::bits(mask))
     }
 }
 

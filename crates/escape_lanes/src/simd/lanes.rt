@@ -1,11 +1,8 @@
 //! What the vectors over `std::simd` share, at every width.
-//!
-//! A mask is a vector of bytes, 0xff in each lane that is set and 0 in the others, since the masks
-//! of `std::simd` have no `Debug`.
 ghost use Rattle.std.specs.Prelude.{◌≡◌, ◌++◌, ◌<◌, ◌≤◌, ◌^◌, length, take, drop, replicate, nat_eq, nat_le};
 ghost use Rattle.std.specs.Simd.Lanes.{zip2};
 ghost use Rattle.escape_lanes.specs.Bits.{bits_of};
-ghost use Rattle.escape_lanes.specs.Lanes.{AreBytes, AreWhole, set_lanes};
+ghost use Rattle.escape_lanes.specs.Lanes.{AreBytes};
 
 use std::simd::prelude::*;
 
@@ -39,35 +36,26 @@ pub(crate) fn splat<const N: usize>(byte: u8) -> Simd<u8, N>
     Simd::splat(byte)
 }
 
-/// Returns which lanes are equal.
+/// Returns one bit for each lane, the first lane's lowest: it is set if both vectors have the same byte there.
 #[inline(always)]
-pub(crate) fn eq<const N: usize>(a: &Simd<u8, N>, b: &Simd<u8, N>) -> Simd<u8, N>
+pub(crate) fn eq<const N: usize>(a: &Simd<u8, N>, b: &Simd<u8, N>) -> u64
     requires left { AreBytes N a.now }
     requires right { AreBytes N b.now }
-    ensures whole { AreWhole 255 N result }
-    ensures lanes { set_lanes 255 result ≡ zip2 nat_eq a.now b.now }
-{
-    a.simd_eq(*b).select(Simd::splat(255), Simd::splat(0))
-}
-
-/// Returns in which lanes the left one is at most the right one, both unsigned.
-#[inline(always)]
-pub(crate) fn le<const N: usize>(a: &Simd<u8, N>, b: &Simd<u8, N>) -> Simd<u8, N>
-    requires left { AreBytes N a.now }
-    requires right { AreBytes N b.now }
-    ensures whole { AreWhole 255 N result }
-    ensures lanes { set_lanes 255 result ≡ zip2 nat_le a.now b.now }
-{
-    a.simd_le(*b).select(Simd::splat(255), Simd::splat(0))
-}
-
-/// Returns one bit for each lane of a mask, the first lane's lowest.
-#[inline(always)]
-pub(crate) fn bits<const N: usize>(mask: &Simd<u8, N>) -> u64
-    requires whole { AreWhole 255 N mask.now }
     requires few { N ≤ 64 }
     ensures below { result < 2 ^ N }
-    ensures bits { bits_of N result ≡ set_lanes 255 mask.now }
+    ensures bits { bits_of N result ≡ zip2 nat_eq a.now b.now }
 {
-    mask.simd_eq(Simd::splat(255)).to_bitmask()
+    a.simd_eq(*b).to_bitmask()
+}
+
+/// The same, of the lanes where the left byte is at most the right one, both unsigned.
+#[inline(always)]
+pub(crate) fn le<const N: usize>(a: &Simd<u8, N>, b: &Simd<u8, N>) -> u64
+    requires left { AreBytes N a.now }
+    requires right { AreBytes N b.now }
+    requires few { N ≤ 64 }
+    ensures below { result < 2 ^ N }
+    ensures bits { bits_of N result ≡ zip2 nat_le a.now b.now }
+{
+    a.simd_le(*b).to_bitmask()
 }

@@ -127,7 +127,7 @@ impl Simd for Simd128u {
     #[inline(always)]
     fn eq(&self, rhs: &Self) -> Mask128 {
         Mask128 {
-            bits: lanes::bits(&lanes::eq(&lanes_of(self), &lanes_of(rhs))) as u16,
+            bits: lanes::eq(&lanes_of(self), &lanes_of(rhs)) as u16,
         }
     }
 
@@ -142,7 +142,7 @@ impl Simd for Simd128u {
     #[inline(always)]
     fn le(&self, rhs: &Self) -> Mask128 {
         Mask128 {
-            bits: lanes::bits(&lanes::le(&lanes_of(self), &lanes_of(rhs))) as u16,
+            bits: lanes::le(&lanes_of(self), &lanes_of(rhs)) as u16,
         }
     }
 }

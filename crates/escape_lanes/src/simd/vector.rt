@@ -76,7 +76,7 @@ where
 
     #[inline(always)]
     fn eq(&self, rhs: &Self) -> LaneMask<BITS, N> {
-        LaneMask::of(&lanes::eq(&self.lanes(), &rhs.lanes()))
+        LaneMask::new(lanes::eq(&self.lanes(), &rhs.lanes()))
     }
 
     #[inline(always)]
@@ -86,7 +86,7 @@ where
 
     #[inline(always)]
     fn le(&self, rhs: &Self) -> LaneMask<BITS, N> {
-        LaneMask::of(&lanes::le(&self.lanes(), &rhs.lanes()))
+        LaneMask::new(lanes::le(&self.lanes(), &rhs.lanes()))
     }
 }
 

@@ -1,9 +1,0 @@
-use Rattle.std.proofs.Common.{nat_eq}
-use Rattle.escape_lanes.proofs.LaneLemmas.{bits-below, bits-set}
-use Rattle.escape_lanes.proofs.simd.lanes.bits.Goals as goal
-
-pub returns : goal.returns
-returns g c = record {
-  below = bits-below nat_eq g.row.N c.args.mask.now 255 c.requires.whole.full c.requires.few;
-  bits = bits-set nat_eq g.row.N c.args.mask.now 255 c.requires.whole.full c.requires.few;
-}

@@ -1,7 +1,7 @@
 -- Zeros behind the bytes of a text: what stands for the bytes stays, and what stands for the zeros follows.
-use Rattle.escape_simd.proofs.Words.{◌≡◌, ℕ, zero, suc, ◌+◌, ◌-◌, ◌≤◌, Bool, false, List, [], ◌∷◌, ◌++◌, length, drop, get_or, replicate, refl, ap, arith, append_assoc, length-drop, get_or_append_left, get_or-append_right, get_or-replicate, get_or_past, length-replicate, drop-append-le, nat_tests, Mode, script, needs_escape, replacement, inner, begins_separator, passed, first_replacement, escaped_count, run_count_after, run_count}
+use Rattle.escape_simd.proofs.Words.{◌≡◌, ℕ, zero, suc, ◌+◌, ◌-◌, ◌≤◌, Bool, false, List, [], ◌∷◌, ◌++◌, length, drop, get_or, replicate, refl, ap, arith, append_assoc, length-drop, get_or_append_left, get_or-append_right, get_or-replicate, get_or_past, length-replicate, drop-append-le, nat_tests, Mode, script, needs_escape, replacement, inner, begins_separator, source_len, first_replacement, escaped_count, run_count_after, run_count}
 use Rattle.escape_simd.proofs.ReplacementLemmas.{inner-nil}
-use Rattle.escape_simd.proofs.Texts.{passed≤length, inner-step, escaped-step, runs-step, runs-empty, escaped-empty}
+use Rattle.escape_simd.proofs.Texts.{source_len≤length, inner-step, escaped-step, runs-step, runs-empty, escaped-empty}
 
 module _ (k : ℕ) where
   -- each byte stays, and what is read past them is zero
@@ -9,14 +9,14 @@ module _ (k : ℕ) where
   get_or-behind xs i = grind (arith, get_or-append_right, get_or-replicate, length-replicate, get_or_past, get_or_append_left)
 
   -- the first of what stands for them goes as far, and is the same
-  first-behind : (mode : Mode) (xs : List ℕ) → (passed mode (xs ++ replicate k 0) ≡ passed mode xs) × (first_replacement mode (xs ++ replicate k 0) ≡ first_replacement mode xs)
+  first-behind : (mode : Mode) (xs : List ℕ) → (source_len mode (xs ++ replicate k 0) ≡ source_len mode xs) × (first_replacement mode (xs ++ replicate k 0) ≡ first_replacement mode xs)
   unfolding begins_separator
   first-behind script xs = rw (get_or-behind xs 0, get_or-behind xs 1, get_or-behind xs 2) (refl, refl)
   first-behind mode xs = (refl, ap (replacement mode) (get_or-behind xs 0))
 
   -- past the first of it they go on as before
-  drop-behind : (mode : Mode) (b : ℕ) (bs : List ℕ) → drop (passed mode (b ∷ (bs ++ replicate k 0)) - 1) (bs ++ replicate k 0) ≡ drop (passed mode (b ∷ bs) - 1) bs ++ replicate k 0
-  drop-behind mode b bs = rw (first-behind mode (b ∷ bs)).0 (drop-append-le (passed mode (b ∷ bs) - 1) bs (replicate k 0) (omega (arith, passed≤length mode (b ∷ bs) (omega arith))))
+  drop-behind : (mode : Mode) (b : ℕ) (bs : List ℕ) → drop (source_len mode (b ∷ (bs ++ replicate k 0)) - 1) (bs ++ replicate k 0) ≡ drop (source_len mode (b ∷ bs) - 1) bs ++ replicate k 0
+  drop-behind mode b bs = rw (first-behind mode (b ∷ bs)).0 (drop-append-le (source_len mode (b ∷ bs) - 1) bs (replicate k 0) (omega (arith, source_len≤length mode (b ∷ bs) (omega arith))))
 
 module _ (mode : Mode) where
   -- where the byte before the first one is marked no more runs begin, and where it isn't neither
@@ -33,9 +33,9 @@ module _ (mode : Mode) where
   behind_few k zero before (b ∷ bs) h = absurd (omega arith)
   behind_few k (suc n) before (b ∷ bs) h =
       let zeros : List ℕ = replicate k 0 in
-      let left : List ℕ = drop (passed mode (b ∷ bs) - 1) bs in
+      let left : List ℕ = drop (source_len mode (b ∷ bs) - 1) bs in
       let next = drop-behind k mode b bs in
-      let rest = behind_few k n (needs_escape mode b) left (omega (arith, h, length-drop (passed mode (b ∷ bs) - 1) bs)) in (
+      let rest = behind_few k n (needs_escape mode b) left (omega (arith, h, length-drop (source_len mode (b ∷ bs) - 1) bs)) in (
         rw (inner-step b (bs ++ zeros) mode, (first-behind k mode (b ∷ bs)).1, next, rest.0, inner-step b bs mode, append_assoc) refl,
         omega (arith, escaped-step b (bs ++ zeros) mode, escaped-step b bs mode, ap (escaped_count mode) next, rest.1),
         omega (arith, runs-step b (bs ++ zeros) mode before, runs-step b bs mode before, ap (run_count_after mode (needs_escape mode b)) next, rest.2),

@@ -1,7 +1,7 @@
 -- What one escape writes, and how far a run of escapes goes.
-use Rattle.escape_simd.proofs.Words.{◌≡◌, ◌≢◌, ℕ, ◌+◌, ◌-◌, ◌<◌, ◌≤◌, true, false, ◌&&◌, ◌||◌, ◌==◌, List, length, length-append, take, drop, replicate, get_or, refl, ap, arith, nat_tests, take-append_seam, get_or-drop, get_or_past, length-replicate, entry_count, entry_bytes, Mode, script, needs_escape, replacement, begins_separator, passed, first_replacement, IsByteWise, run_reach}
+use Rattle.escape_simd.proofs.Words.{◌≡◌, ◌≢◌, ℕ, ◌+◌, ◌-◌, ◌<◌, ◌≤◌, true, false, ◌&&◌, ◌||◌, ◌==◌, List, length, length-append, take, drop, replicate, get_or, refl, ap, arith, nat_tests, take-append_seam, get_or-drop, get_or_past, length-replicate, entry_count, entry_bytes, Mode, script, needs_escape, replacement, begins_separator, source_len, first_replacement, IsByteWise, run_reach}
 use Rattle.escape_simd.proofs.ReplacementLemmas.{length-replacement}
-use Rattle.escape_simd.proofs.Texts.{passed-between}
+use Rattle.escape_simd.proofs.Texts.{source_len-between}
 
 -- a separator, told of the text
 pub begins-at : (src : List ℕ) (at : ℕ) → begins_separator (drop at src) ≡ ((get_or src at 0 == 0xe2) && (get_or src (at + 1) 0 == 0x80) && ((get_or src (at + 2) 0 == 0xa8) || (get_or src (at + 2) 0 == 0xa9)))
@@ -25,9 +25,9 @@ pub byte-at : (src : List ℕ) (at : ℕ) → get_or (drop at src) 0 0 ≡ get_o
 byte-at src at = let e : at + 0 ≡ at = omega arith in rw e at (get_or-drop at src 0 0)
 
 -- where no separator begins, one byte's entry is written: it is passed alone
-pub passed-alone : (mode : Mode) (src : List ℕ) (at : ℕ) → (mode ≡ script → begins_separator (drop at src) ≡ false) → passed mode (drop at src) ≡ 1
-passed-alone script src at none = rw (none refl) refl
-passed-alone mode src at none = refl
+pub source_len-alone : (mode : Mode) (src : List ℕ) (at : ℕ) → (mode ≡ script → begins_separator (drop at src) ≡ false) → source_len mode (drop at src) ≡ 1
+source_len-alone script src at none = rw (none refl) refl
+source_len-alone mode src at none = refl
 
 -- and its replacement is the first
 pub first-alone : (mode : Mode) (src : List ℕ) (at : ℕ) → (mode ≡ script → begins_separator (drop at src) ≡ false) → first_replacement mode (drop at src) ≡ replacement mode (get_or src at 0)
@@ -65,7 +65,7 @@ reach-few script = omega arith
 reach-few mode = omega arith
 
 -- the bytes that are passed with a flagged one are clean
-pub passed-after : (mode : Mode) (src : List ℕ) (f next q : ℕ) → next ≡ f + passed mode (drop f src) → f < q → q < next → needs_escape mode (get_or src q 0) ≡ false
+pub passed-after : (mode : Mode) (src : List ℕ) (f next q : ℕ) → next ≡ f + source_len mode (drop f src) → f < q → q < next → needs_escape mode (get_or src q 0) ≡ false
 passed-after mode src f next q place after before =
     let e : f + (q - f) ≡ q = omega arith in
-    rw (get_or-drop f src (q - f) 0, e) at (passed-between mode (drop f src) (q - f) (omega arith) (omega arith))
+    rw (get_or-drop f src (q - f) 0, e) at (source_len-between mode (drop f src) (q - f) (omega arith) (omega arith))

@@ -1,5 +1,5 @@
 -- The last bytes of a text, held with zeros behind them.
-use Rattle.escape_simd.proofs.Words.{min, ◌≡◌, ℕ, ◌+◌, ◌-◌, ◌*◌, ◌/◌, ◌<◌, ◌≤◌, true, false, List, [], ◌++◌, length, take, drop, replicate, refl, sym, ap, ◌∙◌, arith, append_assoc, append-nil, length-append, length-drop, append_cancel_right, drop_all, drop_at, get_or_past, length-replicate, replicate-append-replicate, drop-append-le, drop-drop, take_all, take-append_seam, MaskOf, is_clear, lanes_of_mask, whole_mask, Mode, script, bytes_of, Target, inner, escaped_count, run_count, flag_count, rest_length, AreTailMasks, Escapes, HasRoom, IsStored, IsVectorAt, Passed, state}
+use Rattle.escape_simd.proofs.Words.{min, ◌≡◌, ℕ, ◌+◌, ◌-◌, ◌*◌, ◌/◌, ◌<◌, ◌≤◌, true, false, List, [], ◌++◌, length, take, drop, replicate, refl, sym, ap, ◌∙◌, arith, append_assoc, append-nil, length-append, length-drop, append_cancel_right, drop_all, drop_at, get_or_past, length-replicate, replicate-append-replicate, drop-append-le, drop-drop, take_all, take-append_seam, MaskOf, is_clear, lanes_of_mask, whole_mask, Mode, script, bytes_of, Target, inner, escaped_count, run_count, flag_count, rest_length, AreTailMasks, Advanced, HasRoom, IsStored, IsVectorAt, Reached, state}
 use Rattle.std.proofs.Math.Nat.{div-eq_of_lt, div-eq_of_lt-le}
 use Rattle.escape_simd.proofs.Behind.{inner-behind, escaped-behind, get_or-behind, runs-behind}
 use Rattle.escape_simd.proofs.Lanes.{CleanFrom, mask-clean, mask-holds}
@@ -8,7 +8,7 @@ use Rattle.escape_simd.proofs.RestSteps.{rest-bounds, rest-flagged, rest-is}
 use Rattle.escape_simd.proofs.Stretches.{ended, onward_to, stored_ahead}
 use Rattle.escape_simd.proofs.Texts.{escaped-empty, runs-empty}
 use Rattle.escape_simd.proofs.Turns.{ahead-front, ahead-passed, ahead-runs}
-use Rattle.escape_simd.proofs.Vectors.{clean-stored, escapes-ended, escapes-later, passed-to}
+use Rattle.escape_simd.proofs.Vectors.{clean-stored, advanced-ended, advanced-later, reached-to}
 
 -- n zeros
 abbrev pub zeros : ℕ → List ℕ
@@ -17,7 +17,7 @@ zeros n = replicate n 0
 -- A text with zeros behind it
 
 -- nothing goes past its end
-pub zero-stops : (mode : Mode) (text : List ℕ) (k border next : ℕ) → border ≤ length text → length text ≤ next → Passed mode (text ++ zeros k) border next → next ≡ length text
+pub zero-stops : (mode : Mode) (text : List ℕ) (k border next : ℕ) → border ≤ length text → length text ≤ next → Reached mode (text ++ zeros k) border next → next ≡ length text
 zero-stops script text k border next within past q = let c = q.clean (length text) in grind (arith, get_or-behind, get_or_past)
 zero-stops mode text k border next within past q = let e = q.exact (λ bytes. refl) in omega (arith, e, within, past)
 
@@ -35,9 +35,9 @@ module _ (mode : Mode) (text : List ℕ) (k : ℕ) where
   behind = drop_at text (zeros k) (length text) refl
 
   -- what escaped it
-  pub escapes-behind : {N : ℕ} {slack border vectors asked : ℕ} {old new : Target N} {to end t0 t1 : ℕ} → Escapes mode slack border vectors asked held (state old 0 to t0) (state new (length text) end t1)
-      → Escapes mode slack (length text) vectors asked text (state old 0 to t0) (state new (length text) end t1)
-  escapes-behind {N} {slack} {border} {vectors} {asked} {old} {new} {to} {end} {t0} {t1} e =
+  pub advanced-behind : {N : ℕ} {slack border vectors asked : ℕ} {old new : Target N} {to end t0 t1 : ℕ} → Advanced mode slack border vectors asked held (state old 0 to t0) (state new (length text) end t1)
+      → Advanced mode slack (length text) vectors asked text (state old 0 to t0) (state new (length text) end t1)
+  advanced-behind {N} {slack} {border} {vectors} {asked} {old} {new} {to} {end} {t0} {t1} e =
       let s = e.stretch in
       let none : drop (length text) text ≡ [] = drop_all (length text) text (omega arith) in
       let cut = inner-behind mode text k in
@@ -53,13 +53,13 @@ module _ (mode : Mode) (text : List ℕ) (k : ℕ) where
       let bytes = ap (λ xs. take end (bytes_of new) ++ xs) (ap (inner mode) none ∙ inner-nil mode) ∙ append-nil (take end (bytes_of new)) ∙ written in
       record {
         stretch = grind arith;
-        passed = passed-to mode text (length text);
+        reached = reached-to mode text (length text);
         cost = omega (arith, e.cost, u, u1, u2);
       }
 
 -- two clean vectors that may have some of the same bytes
 pub two-clean : {N : ℕ} {mode : Mode} {slack n : ℕ} {text : List ℕ} {old mid new : Target N} {to t : ℕ} → n ≤ length text → length text < 2 * n → CleanFrom mode text 0 n → CleanFrom mode text (length text - n) (length text)
-    → IsStored slack text old mid 0 n to → IsStored slack text mid new (length text - n) n (to + (length text - n)) → Escapes mode slack (length text) 2 2 text (state old 0 to t) (state new (length text) (to + length text) t)
+    → IsStored slack text old mid 0 n to → IsStored slack text mid new (length text - n) n (to + (length text - n)) → Advanced mode slack (length text) 2 2 text (state old 0 to t) (state new (length text) (to + length text) t)
 two-clean {mode = mode} {slack = slack} {n = n} {text = text} {old = old} {mid = mid} {new = new} {to = to} inside few clean1 clean2 s1 s2 =
     let last : ℕ = length text - n in
     let p = ahead-passed mode slack text mid 0 n last to (ahead-front mode text mid 0 n to n (omega arith) s1.ahead) (omega arith) (omega (arith, few, inside)) inside (λ p late early. clean1 p late (omega (arith, early, few, inside))) in
@@ -68,7 +68,7 @@ two-clean {mode = mode} {slack = slack} {n = n} {text = text} {old = old} {mid =
     let same = ahead-runs mode text 0 (length text) (omega arith) (λ p late early. grind (arith, clean1, clean2)) in
     record {
       stretch = onward_to slack first (ended rest (omega (arith, inside)) (omega (arith, inside))) (omega (arith, few, inside)) (omega arith);
-      passed = passed-to mode text (length text);
+      reached = reached-to mode text (length text);
       cost = omega (arith, s1.stored, s2.stored, same);
     }
 
@@ -88,9 +88,9 @@ spilled-short text lanes dst n m few same loaded stored =
     rw (start, count, whole, append-nil (zeros n)) (append_assoc text (zeros (n - length text)) (zeros n) ∙ ap (λ xs. text ++ xs) (replicate-append-replicate (n - length text) n 0))
 
 -- a text's last vector and the zeros of both rows, from a place on
-pub tail-rows : (text rows : List ℕ) (border passed next k : ℕ) → rows ≡ drop border text ++ zeros k → next ≡ border + passed → next ≤ length text
-    → take (length rows - passed) (drop passed rows) ≡ drop next text ++ zeros k
-tail-rows text rows border passed next k is at inside = grind (arith, take_all, length-drop {A = ℕ}, drop-append-le, drop-drop)
+pub tail-rows : (text rows : List ℕ) (border skipped next k : ℕ) → rows ≡ drop border text ++ zeros k → next ≡ border + skipped → next ≤ length text
+    → take (length rows - skipped) (drop skipped rows) ≡ drop next text ++ zeros k
+tail-rows text rows border skipped next k is at inside = grind (arith, take_all, length-drop {A = ℕ}, drop-append-le, drop-drop)
 
 -- The last bytes of a text from a place on, with zeros behind them
 module _ (mode : Mode) (slack n : ℕ) (text held : List ℕ) (next left k end : ℕ) (inside : next ≤ length text) (all : left ≡ length text - next) (is : held ≡ drop next text ++ zeros k) where
@@ -114,12 +114,12 @@ module _ (mode : Mode) (slack n : ℕ) (text held : List ℕ) (next left k end :
       told ∙ ap whole_mask (sym (ap (take left) is ∙ ap (λ j. take j (rest ++ zeros k)) count ∙ take-append_seam rest (zeros k)))
 
   -- then all are
-  pub last-all : {N : ℕ} (old new : Target N) (past close t0 t1 : ℕ) → Escapes mode slack (0 + left) 1 1 held (state old 0 end t0) (state new past close t1) → Escapes mode slack (length text) 1 1 text (state old next end t0) (state new (length text) close t1)
+  pub last-all : {N : ℕ} (old new : Target N) (past close t0 t1 : ℕ) → Advanced mode slack (0 + left) 1 1 held (state old 0 end t0) (state new past close t1) → Advanced mode slack (length text) 1 1 text (state old next end t0) (state new (length text) close t1)
   last-all old new past close t0 t1 e =
       let count = length-drop next text in
-      let stops = zero-stops mode (drop next text) k (0 + left) past (omega (arith, all, count)) (omega (arith, all, count, e.passed.whole)) (rw is at e.passed) in
+      let stops = zero-stops mode (drop next text) k (0 + left) past (omega (arith, all, count)) (omega (arith, all, count, e.reached.whole)) (rw is at e.reached) in
       let whole : next + length (drop next text) ≡ length text = omega (arith, count, inside) in
-      escapes-ended whole whole refl (escapes-later text (drop next text) next refl inside (escapes-behind mode (drop next text) k (rw (is, stops) at e)))
+      advanced-ended whole whole refl (advanced-later text (drop next text) next refl inside (advanced-behind mode (drop next text) k (rw (is, stops) at e)))
 
 -- A short text of which no byte is flagged
 module _ (mode : Mode) {n : ℕ} {text : List ℕ} {first last : MaskOf} (t : AreTailMasks n text first last) where

@@ -1,25 +1,25 @@
 -- How long what stands for parts of a text is, and for the whole.
-use Rattle.escape_simd.proofs.Words.{◌≡◌, ◌≢◌, ℕ, ◌+◌, ◌-◌, ◌*◌, ◌<◌, ◌≤◌, Bool, true, false, List, [], ◌∷◌, length, drop, get_or, ap, ◌∙◌, arith, length-append, length-drop, inl, inr, cases_lt, count_by, nat_tests, first_set, IsMaskOf, MaskOf, is_clear, lanes_of_mask, mask_from, take, sym, entry_count, Mode, script, needs_escape, replacement, inner, begins_separator, passed, first_replacement, plain, quote_count, rest_length, IsFlaggedAt, IsFront, IsPartLength}
-use Rattle.escape_simd.proofs.Escapes.{entry-counts, first-alone, passed-alone}
+use Rattle.escape_simd.proofs.Words.{◌≡◌, ◌≢◌, ℕ, ◌+◌, ◌-◌, ◌*◌, ◌<◌, ◌≤◌, Bool, true, false, List, [], ◌∷◌, length, drop, get_or, ap, ◌∙◌, arith, length-append, length-drop, inl, inr, cases_lt, count_by, nat_tests, first_set, IsMaskOf, MaskOf, is_clear, lanes_of_mask, mask_from, take, sym, entry_count, Mode, script, needs_escape, replacement, inner, begins_separator, source_len, first_replacement, plain, quote_count, rest_length, IsFlaggedAt, IsFront, IsPartLength}
+use Rattle.escape_simd.proofs.Escapes.{entry-counts, first-alone, source_len-alone}
 use Rattle.escape_simd.proofs.Lanes.{CleanFrom, HoldsFlags, cleared-later, first-set, first_set-here, held-first, held-none, mask-holds}
 use Rattle.escape_simd.proofs.OutputLemmas.{length-plain}
 use Rattle.escape_simd.proofs.Parts.{itself, none-counted}
 use Rattle.escape_simd.proofs.ReplacementLemmas.{inner-nil, length-replacement}
 use Rattle.escape_simd.proofs.RestSteps.{clean_rest, passed-clean_rest, rest-between, rest-bounds, rest-is}
-use Rattle.escape_simd.proofs.Texts.{inner-here, inner-step, length-first, length-inner, length-separator, one≤passed, passed≤length}
+use Rattle.escape_simd.proofs.Texts.{inner-here, inner-step, length-first, length-inner, length-separator, one≤source_len, source_len≤length}
 
 -- One byte
 
 module _ (mode : Mode) (src : List ℕ) (at : ℕ) (inside : at < length src) where
   -- the rest of a text, and its first byte left out
-  rest-added : rest_length mode src at + passed mode (drop at src) ≡ length (first_replacement mode (drop at src)) + (rest_length mode src (at + 1) + 1)
+  rest-added : rest_length mode src at + source_len mode (drop at src) ≡ length (first_replacement mode (drop at src)) + (rest_length mode src (at + 1) + 1)
   rest-added =
       grind (arith, inner-here mode src at inside, passed-clean_rest mode src at inside, rest-is, length-append {A = ℕ})
 
   -- a byte's entry counts what stands for it
   pub added-alone : needs_escape mode (get_or src at 0) ≡ true → (mode ≡ script → begins_separator (drop at src) ≡ false) → (count : ℕ) → count ≡ entry_count mode (get_or src at 0) → (1 ≤ count) × IsPartLength mode src at (at + 1) count
   added-alone needed none count is =
-      omega (arith, rest-added, passed-alone mode src at none, ap length (first-alone mode src at none), entry-counts mode (get_or src at 0) needed, length-replacement mode (get_or src at 0), is)
+      omega (arith, rest-added, source_len-alone mode src at none, ap length (first-alone mode src at none), entry-counts mode (get_or src at 0) needed, length-replacement mode (get_or src at 0), is)
 
   -- six bytes stand for a separator, and two for the rest of it alone
   pub added-separator : mode ≡ script → begins_separator (drop at src) ≡ true → IsPartLength mode src at (at + 1) 4
@@ -79,12 +79,12 @@ module _ (mode : Mode) (src : List ℕ) (at valid : ℕ) (inside : at + valid �
       counted-next more rest one cut =
           let few = counted-first in let from : rest.from ≡ f + 1 = omega (arith, ap (λ m. m.from) cut, is) in
           let clean : CleanFrom mode src (at + mask.from) (at + f) = λ p after before. held-first mode src at valid (at + mask.from) bits held some (omega arith) p after (omega (arith, before, is)) in
-          let passed = clean_rest mode src (at + mask.from) (at + f) (omega (arith, few)) clean (omega (arith, few, inside)) in
+          let kept = clean_rest mode src (at + mask.from) (at + f) (omega (arith, few)) clean (omega (arith, few, inside)) in
           let there : at + rest.from ≡ at + f + 1 = omega (arith, from) in
           record {
             bytes = ap (λ m. m.bytes) cut ∙ so_far.bytes;
             before = omega (arith, few, from);
-            counted = omega (arith, passed, one, so_far.counted, few, from, ap (rest_length mode src) there);
+            counted = omega (arith, kept, one, so_far.counted, few, from, ap (rest_length mode src) there);
           }
 
 -- The whole text
@@ -107,16 +107,16 @@ unfolding replacement
 replacement-same mode b one = grind (arith, nat_tests)
 
 -- the first of what stands for bytes is no longer than what it stands for only where it is one byte, and that byte
-first-same : (mode : Mode) (b : ℕ) (bs : List ℕ) → length (first_replacement mode (b ∷ bs)) ≡ passed mode (b ∷ bs) → (passed mode (b ∷ bs) ≡ 1) × (first_replacement mode (b ∷ bs) ≡ b ∷ [])
+first-same : (mode : Mode) (b : ℕ) (bs : List ℕ) → length (first_replacement mode (b ∷ bs)) ≡ source_len mode (b ∷ bs) → (source_len mode (b ∷ bs) ≡ 1) × (first_replacement mode (b ∷ bs) ≡ b ∷ [])
 first-same mode b bs same = grind (arith, nat_tests, length-separator, replacement-same)
 
 -- where what stands for bytes is no longer than they are, it is they
 pub same-length : (mode : Mode) (bytes : List ℕ) → length (inner mode bytes) ≡ length bytes → inner mode bytes ≡ bytes
 same-length mode [] long = inner-nil mode
 same-length mode (b ∷ bs) long =
-    let n : ℕ = passed mode (b ∷ bs) - 1 in let step = inner-step b bs mode in
-    let same : length (first_replacement mode (b ∷ bs)) ≡ passed mode (b ∷ bs) =
-    omega (arith, long, ap length step, length-append (first_replacement mode (b ∷ bs)) (inner mode (drop n bs)), passed≤length mode (b ∷ bs), one≤passed mode (b ∷ bs), length-first mode (b ∷ bs), length-inner mode (drop n bs), length-drop n bs) in
+    let n : ℕ = source_len mode (b ∷ bs) - 1 in let step = inner-step b bs mode in
+    let same : length (first_replacement mode (b ∷ bs)) ≡ source_len mode (b ∷ bs) =
+    omega (arith, long, ap length step, length-append (first_replacement mode (b ∷ bs)) (inner mode (drop n bs)), source_len≤length mode (b ∷ bs), one≤source_len mode (b ∷ bs), length-first mode (b ∷ bs), length-inner mode (drop n bs), length-drop n bs) in
     let alone = first-same mode b bs same in
     let next = rw (alone.1, alone.0) at step in
     next ∙ ap (λ xs. b ∷ xs) (same-length mode bs (omega (arith, long, ap length next)))

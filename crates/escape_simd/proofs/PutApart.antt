@@ -1,7 +1,7 @@
 -- Eight bytes put apart are what stands for a text's bytes, and how many blocks have a flag.
 use Rattle.escape_simd.proofs.Words.{◌≡◌, ◌≢◌, ℕ, zero, suc, ◌+◌, ◌-◌, ◌*◌, ◌<◌, ◌≤◌, Bool, true, false, cond, List, [], ◌∷◌, ◌++◌, length, take, drop, map, get_or, refl, sym, ap, ◌∙◌, inl, inr, arith, cases_lt, drop-drop, get_or-drop, get_or-take, get_or_default, get_or_past, nat_tests, Mode, needs_escape, replacement, shortened, flag_count, flagged_blocks, put_apart, inner, escaped_count, count_by-le-length, length-drop, length-take-le, get_or-le-sum_by, sum_by-cons, sum_by-le, sum_by-take-drop}
 use Rattle.escape_simd.proofs.ReplacementLemmas.{inner-one, inner-clean_byte}
-use Rattle.escape_simd.proofs.Shortened.{KeepsClean, passed-short, short-escape}
+use Rattle.escape_simd.proofs.Shortened.{KeepsClean, source_len-short, short-escape}
 use Rattle.escape_simd.proofs.Texts.{escaped-here, escaped_clean-here}
 
 -- Counts of flags
@@ -93,7 +93,7 @@ marked-apart mode clean (true ∷ flags) (suc k) (x ∷ xs) fill m =
     let short = m.short 0 refl in
     let rest = marked-apart mode clean flags k xs fill (marked-next m) in
     let n : suc k + flag_count (true ∷ flags) ≡ suc (suc (k + flag_count flags)) = omega (arith, sum_by-cons (λ b. cond b 1 0) true flags) in
-    let one = passed-short mode x xs short in
+    let one = source_len-short mode x xs short in
     let here = inner-one mode x xs one ∙ ap (λ ys. ys ++ inner mode xs) (short-escape mode x (m.bytes 0) needed short) in
     let count = rw one at (escaped-here mode (x ∷ xs) 0 (omega arith) needed) in
     (rw n (ap (λ ys. 0x5c ∷ shortened x ∷ ys) rest.0 ∙ sym here), omega (arith, rest.1, count, sum_by-cons (λ b. cond b 1 0) true flags))

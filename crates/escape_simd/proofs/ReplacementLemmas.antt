@@ -1,5 +1,5 @@
 -- What stands for a byte, and for a character: its bytes' replacements, or the escape of a separator.
-use Rattle.escape_simd.proofs.Words.{◌≡◌, ◌≢◌, ℕ, ◌/◌, ◌%◌, ◌<◌, ◌≤◌, ◌⊎◌, true, false, List, [], ◌∷◌, ◌++◌, codes, length, get_or, drop, flat_map, encode_utf8_all, refl, append-nil, arith, inl, inr, encode_utf8, digit_char, AllByRecursion, encode_ascii, encode_same, cases_lt, cases_Bool, nat_tests, flat_map-append, Mode, json, script, replacement, needs_escape, begins_separator, passed, script_inner_after, inner, is_script_marked}
+use Rattle.escape_simd.proofs.Words.{◌≡◌, ◌≢◌, ℕ, ◌/◌, ◌%◌, ◌<◌, ◌≤◌, ◌⊎◌, true, false, List, [], ◌∷◌, ◌++◌, codes, length, get_or, drop, flat_map, encode_utf8_all, refl, append-nil, arith, inl, inr, encode_utf8, digit_char, AllByRecursion, encode_ascii, encode_same, cases_lt, cases_Bool, nat_tests, flat_map-append, Mode, json, script, replacement, needs_escape, begins_separator, source_len, script_inner_after, inner, is_script_marked}
 use Rattle.std.specs.Int.{IsInRange}
 
 -- a byte that needs no escape stands for itself
@@ -25,18 +25,18 @@ unfolding script_inner_after
 inner-nil mode = grind arith
 
 -- what stands for a byte that begins no separator, and for those after it
-pub inner-one : (mode : Mode) (b : ℕ) (bs : List ℕ) → passed mode (b ∷ bs) ≡ 1 → inner mode (b ∷ bs) ≡ replacement mode b ++ inner mode bs
+pub inner-one : (mode : Mode) (b : ℕ) (bs : List ℕ) → source_len mode (b ∷ bs) ≡ 1 → inner mode (b ∷ bs) ≡ replacement mode b ++ inner mode bs
 unfolding script_inner_after
 inner-one mode b bs h = grind (arith, nat_tests)
 
 -- a separator begins with e2
-pub passed-one : (mode : Mode) (b : ℕ) (bs : List ℕ) → b ≢ 0xe2 → passed mode (b ∷ bs) ≡ 1
+pub source_len-one : (mode : Mode) (b : ℕ) (bs : List ℕ) → b ≢ 0xe2 → source_len mode (b ∷ bs) ≡ 1
 unfolding begins_separator
-passed-one mode b bs other = grind (arith, nat_tests)
+source_len-one mode b bs other = grind (arith, nat_tests)
 
 -- a byte that needs no escape, before others
 pub inner-clean_byte : (mode : Mode) (b : ℕ) (bs : List ℕ) → needs_escape mode b ≡ false → inner mode (b ∷ bs) ≡ b ∷ inner mode bs
-inner-clean_byte mode b bs clean = grind (arith, nat_tests, inner-one, passed-one, replacement-clean)
+inner-clean_byte mode b bs clean = grind (arith, nat_tests, inner-one, source_len-one, replacement-clean)
 
 -- Characters
 
@@ -60,15 +60,15 @@ IsWrittenAs mode c bytes = (rest : List ℕ) → inner mode (encode_utf8 c ++ re
 -- bytes after the first of a character stand for themselves
 inner-continued : (mode : Mode) (bytes rest : List ℕ) → AreContinued bytes → inner mode (bytes ++ rest) ≡ bytes ++ inner mode rest
 inner-continued mode [] rest h = refl
-inner-continued mode (b ∷ bs) rest h = grind (arith, inner-one, passed-one, replacement-high, inner-continued mode bs rest h.1)
+inner-continued mode (b ∷ bs) rest h = grind (arith, inner-one, source_len-one, replacement-high, inner-continued mode bs rest h.1)
 
 module _ (mode : Mode) (c : ℕ) where
   -- a character below U+0080 is a byte
   pub written-low : c < 128 → IsWrittenAs mode c (replacement mode c)
-  written-low low rest = grind (arith, encode_ascii c low, inner-one mode c rest (passed-one mode c rest (omega arith)))
+  written-low low rest = grind (arith, encode_ascii c low, inner-one mode c rest (source_len-one mode c rest (omega arith)))
 
   -- one from there on stands for itself, unless it is a separator
-  pub written-high : 128 ≤ c → ((rest : List ℕ) → passed mode (encode_utf8 c ++ rest) ≡ 1) → IsWrittenAs mode c (encode_utf8 c)
+  pub written-high : 128 ≤ c → ((rest : List ℕ) → source_len mode (encode_utf8 c ++ rest) ≡ 1) → IsWrittenAs mode c (encode_utf8 c)
   written-high high alone rest =
       let bytes : List ℕ = encode_utf8 c in let form = encode_utf8-high c high in
       grind (arith, form, inner-one mode (get_or bytes 0 0) (drop 1 bytes ++ rest) (rw form.0 at (alone rest)), replacement-high, inner-continued mode (drop 1 bytes) rest form.2)
@@ -113,8 +113,8 @@ begins_separator-form (a ∷ b ∷ c ∷ bs) h = grind (arith, nat_tests)
 begins_separator-form xs h = absurd (grind (arith, nat_tests))
 
 -- the character of an unmarked form is no separator
-passed-unmarked : (c : ℕ) → is_script_marked c ≡ false → (rest : List ℕ) → passed script (encode_utf8 c ++ rest) ≡ 1
-passed-unmarked c other rest = grind (arith, nat_tests, begins_separator-form, encode_same)
+source_len-unmarked : (c : ℕ) → is_script_marked c ≡ false → (rest : List ℕ) → source_len script (encode_utf8 c ++ rest) ≡ 1
+source_len-unmarked c other rest = grind (arith, nat_tests, begins_separator-form, encode_same)
 
 -- what stands for a marked character
 written-marked : (c : ℕ) → is_script_marked c ≡ true → IsWrittenAs script c (hex_escape c)
@@ -130,7 +130,7 @@ replacement-unmarked b other = grind (arith, nat_tests)
 written-other : (c : ℕ) → is_script_marked c ≡ false → IsWrittenAs script c (inner json (encode_utf8 c))
 written-other c other = elim (cases_lt c 128) [
   | inl low ↦ rw (inner-character json c (replacement json c) (written-low json c low), ← replacement-unmarked c other) (written-low script c low)
-  | inr high ↦ rw (inner-character json c (encode_utf8 c) (written-high json c high (λ rest. refl))) (written-high script c high (passed-unmarked c other))
+  | inr high ↦ rw (inner-character json c (encode_utf8 c) (written-high json c high (λ rest. refl))) (written-high script c high (source_len-unmarked c other))
 ]
 
 -- what stands for a character is its hex escape where it is marked, and otherwise what JSON writes

@@ -1,10 +1,10 @@
 -- How long the rest of a text becomes, some bytes further on.
-use Rattle.escape_simd.proofs.Words.{◌≡◌, ℕ, zero, suc, ◌+◌, ◌-◌, ◌*◌, ◌<◌, ◌≤◌, Bool, true, false, cond, List, [], ◌∷◌, ◌++◌, length, drop, get_or, refl, ap, arith, length-append, length-drop, length-take-le, slice_range, sum_by-cons, Mode, script, needs_escape, flag_count, inner, passed, first_replacement, escaped_count, rest_length, run_count}
+use Rattle.escape_simd.proofs.Words.{◌≡◌, ℕ, zero, suc, ◌+◌, ◌-◌, ◌*◌, ◌<◌, ◌≤◌, Bool, true, false, cond, List, [], ◌∷◌, ◌++◌, length, drop, get_or, refl, ap, arith, length-append, length-drop, length-take-le, slice_range, sum_by-cons, Mode, script, needs_escape, flag_count, inner, source_len, first_replacement, escaped_count, rest_length, run_count}
 use Rattle.std.proofs.lemmas.List.Folds.{drop_split}
 use Rattle.escape_simd.proofs.Escapes.{passed-after}
 use Rattle.escape_simd.proofs.Lanes.{CleanFrom, clean-list}
 use Rattle.escape_simd.proofs.ReplacementLemmas.{length-replacement}
-use Rattle.escape_simd.proofs.Texts.{IsClean, inner-clean, escaped_count-clean, run_count-clean, length-inner, one≤passed, passed≤length, inner-here, length-first, length-separator}
+use Rattle.escape_simd.proofs.Texts.{IsClean, inner-clean, escaped_count-clean, run_count-clean, length-inner, one≤source_len, source_len≤length, inner-here, length-first, length-separator}
 
 -- how long the rest of a text becomes, as its definition says
 pub rest-is : (mode : Mode) (src : List ℕ) (at : ℕ) → rest_length mode src at ≡ length (inner mode (drop at src))
@@ -38,17 +38,17 @@ module _ (mode : Mode) (src : List ℕ) (at next : ℕ) (forward : at ≤ next) 
   clean_rest inside = grind (arith, rest-is, clean_inner, length-append {A = ℕ}, length-take-le {A = ℕ}, length-drop {A = ℕ})
 
 -- the first of what stands for bytes has at most five bytes more than it stands for
-first-few : (mode : Mode) (bytes : List ℕ) → length (first_replacement mode bytes) ≤ passed mode bytes + 5
+first-few : (mode : Mode) (bytes : List ℕ) → length (first_replacement mode bytes) ≤ source_len mode bytes + 5
 first-few script bytes = grind (arith, length-separator, length-replacement)
 first-few mode bytes = omega (arith, length-replacement mode (get_or bytes 0 0))
 
 module _ (mode : Mode) (src : List ℕ) where
   -- the bytes that are passed with the one before them are clean
-  pub passed-clean_rest : (i : ℕ) → i < length src → rest_length mode src (i + 1) + 1 ≡ passed mode (drop i src) + rest_length mode src (i + passed mode (drop i src))
+  pub passed-clean_rest : (i : ℕ) → i < length src → rest_length mode src (i + 1) + 1 ≡ source_len mode (drop i src) + rest_length mode src (i + source_len mode (drop i src))
   passed-clean_rest i inside =
-      let clean : CleanFrom mode src (i + 1) (i + passed mode (drop i src)) = λ q late early. passed-after mode src i _ q refl (omega arith) early in
-      let fits = passed≤length mode (drop i src) (omega (arith, length-drop i src)) in
-      omega (arith, clean_rest mode src (i + 1) (i + passed mode (drop i src)) (omega (arith, one≤passed mode (drop i src))) clean (omega (arith, length-drop i src)), one≤passed mode (drop i src))
+      let clean : CleanFrom mode src (i + 1) (i + source_len mode (drop i src)) = λ q late early. passed-after mode src i _ q refl (omega arith) early in
+      let fits = source_len≤length mode (drop i src) (omega (arith, length-drop i src)) in
+      omega (arith, clean_rest mode src (i + 1) (i + source_len mode (drop i src)) (omega (arith, one≤source_len mode (drop i src))) clean (omega (arith, length-drop i src)), one≤source_len mode (drop i src))
 
   -- a byte becomes one byte at least, and six at most
   rest-step : (i : ℕ) → i < length src → (rest_length mode src (i + 1) + 1 ≤ rest_length mode src i) × (rest_length mode src i ≤ rest_length mode src (i + 1) + 6)

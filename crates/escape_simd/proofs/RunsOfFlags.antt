@@ -1,8 +1,8 @@
 -- How a run of escapes goes on, and how far a mask tells of one.
-use Rattle.escape_simd.proofs.Words.{◌≡◌, ℕ, ◌+◌, ◌<◌, ◌≤◌, inl, inr, Bool, true, false, true≢false, List, [], ◌∷◌, length, drop, get_or, refl, ap, sym, ◌∙◌, arith, length-bits_of, bits_of, bytes_of, first_set, none_set, MaskOf, lanes_of_mask, mask_from, Mode, needs_escape, entry_count, escaped_count, Target, passed, run_count_after, run_end, run_reach, EscapedRun, HasRunRoom, IsFlaggedAt, IsRunAt, IsRunEnd, Stretch, stored_of}
+use Rattle.escape_simd.proofs.Words.{◌≡◌, ℕ, ◌+◌, ◌<◌, ◌≤◌, inl, inr, Bool, true, false, true≢false, List, [], ◌∷◌, length, drop, get_or, refl, ap, sym, ◌∙◌, arith, length-bits_of, bits_of, bytes_of, first_set, none_set, MaskOf, lanes_of_mask, mask_from, Mode, needs_escape, entry_count, escaped_count, Target, source_len, run_count_after, run_end, run_reach, EscapedRun, HasRunRoom, IsFlaggedAt, IsRunAt, IsRunEnd, Stretch, stored_of}
 use Rattle.escape_simd.proofs.Escapes.{entry-counts, passed-after}
 use Rattle.escape_simd.proofs.ReplacementLemmas.{length-replacement}
-use Rattle.escape_simd.proofs.Texts.{escaped-here, first-here, next-here, one≤passed, run_end-here}
+use Rattle.escape_simd.proofs.Texts.{escaped-here, first-here, next-here, one≤source_len, run_end-here}
 use Rattle.escape_simd.proofs.Stretches.{onward, room-least, standing, stretch-on}
 use Rattle.escape_simd.proofs.Lanes.{CleanFrom, HoldsFlags, cleared-later, first-set, first_set-before, first_set-here, mask-holds, none-before}
 
@@ -25,20 +25,20 @@ run-begins {N} {mode} {src} {at} t to f = record {
 }
 
 -- one byte more was escaped
-module _ {N : ℕ} {mode : Mode} {src : List ℕ} {mid new : Target N} {next end after reached : ℕ} (f : IsFlaggedAt mode src next) (stretch : Stretch mode (run_reach mode) src mid new (next, end) (after, reached)) (place : after ≡ next + passed mode (drop next src)) (stored : stored_of new ≡ stored_of mid) where
+module _ {N : ℕ} {mode : Mode} {src : List ℕ} {mid new : Target N} {next end after after_end : ℕ} (f : IsFlaggedAt mode src next) (stretch : Stretch mode (run_reach mode) src mid new (next, end) (after, after_end)) (place : after ≡ next + source_len mode (drop next src)) (stored : stored_of new ≡ stored_of mid) where
   -- the place after it
   pub run-after : (next < after) × (after ≤ next + 3)
-  run-after = omega (arith, place, one≤passed mode (drop next src))
+  run-after = omega (arith, place, one≤source_len mode (drop next src))
 
   -- there is room for what is left
-  pub run-room-on : {stop : ℕ} → HasRunRoom mode src next stop end (length (bytes_of mid)) → after < stop → HasRunRoom mode src after stop reached (length (bytes_of new))
+  pub run-room-on : {stop : ℕ} → HasRunRoom mode src next stop end (length (bytes_of mid)) → after < stop → HasRunRoom mode src after stop after_end (length (bytes_of new))
   run-room-on room before = elim room [
     | inl h ↦ inl (record { fits = omega (arith, stretch.limit, h.fits, stretch.same_slice.len) })
     | inr h ↦ inr (omega (arith, h, stretch-on stretch, before, run-after, stretch.same_slice.len))
   ]
 
   -- the run
-  pub run-on : {old : Target N} {at to : ℕ} → EscapedRun mode src old mid at next to end → EscapedRun mode src old new at after to reached
+  pub run-on : {old : Target N} {at to : ℕ} → EscapedRun mode src old mid at next to end → EscapedRun mode src old new at after to after_end
   run-on s =
       let on = next-here mode src next f.0 f.1 in
       let e = ap (λ k. run_count_after mode true (drop k src)) place in
@@ -67,14 +67,14 @@ uncounted mode b count is none = grind (arith, entry-counts, length-replacement)
 -- A run by its flags
 
 -- what a mask tells after one byte of it
-module _ {mode : Mode} {src : List ℕ} {valid at next : ℕ} {mask rest : MaskOf} (r : IsRunAt mode src valid at mask) (place : next ≡ at + passed mode (drop at src)) (cut : rest ≡ mask_from mask.bytes (first_set (lanes_of_mask mode mask) + 1) mask.stored) where
+module _ {mode : Mode} {src : List ℕ} {valid at next : ℕ} {mask rest : MaskOf} (r : IsRunAt mode src valid at mask) (place : next ≡ at + source_len mode (drop at src)) (cut : rest ≡ mask_from mask.bytes (first_set (lanes_of_mask mode mask) + 1) mask.stored) where
   -- its lanes
   abbrev bits : List Bool
   bits = lanes_of_mask mode rest
 
   -- the place after it
   place-after : (at < next) × (next ≤ at + 3)
-  place-after = omega (arith, one≤passed mode (drop at src), place)
+  place-after = omega (arith, one≤source_len mode (drop at src), place)
 
   -- what was passed with it is clean
   mask-between : CleanFrom mode src (at + 1) next

@@ -142,7 +142,3 @@ module _ (bytes : List ℕ) where
     no_line_separator = λ front rest is. no_separator front rest 0xa8 refl (subst IsSafe is output_safe);
     no_paragraph_separator = λ front rest is. no_separator front rest 0xa9 refl (subst IsSafe is output_safe);
   }
-
-  -- the same of an output
-  pub IsSafeInScript-output : (output : List ℕ) → output ≡ plain script bytes → IsSafeInScript output
-  IsSafeInScript-output output same = rw same script_is_safe

@@ -1,7 +1,7 @@
 -- Bytes with a short escape, and what stands for them.
-use Rattle.escape_simd.proofs.Words.{◌≡◌, ℕ, ◌+◌, ◌*◌, ◌/◌, ◌%◌, ◌<◌, true, false, List, [], ◌∷◌, length, take, drop, map, ◌∙◌, arith, drop-map, take-map, take-take, nat_tests, Mode, needs_escape, replacement, shortened, passed}
+use Rattle.escape_simd.proofs.Words.{◌≡◌, ℕ, ◌+◌, ◌*◌, ◌/◌, ◌%◌, ◌<◌, true, false, List, [], ◌∷◌, length, take, drop, map, ◌∙◌, arith, drop-map, take-map, take-take, nat_tests, Mode, needs_escape, replacement, shortened, source_len}
 use Rattle.escape_simd.proofs.Lanes.{part-later}
-use Rattle.escape_simd.proofs.ReplacementLemmas.{passed-one}
+use Rattle.escape_simd.proofs.ReplacementLemmas.{source_len-one}
 
 -- a short escape is a reverse solidus and the shortened byte
 pub short-escape : (mode : Mode) (b : ℕ) → b < 256 → needs_escape mode b ≡ true → length (replacement mode b) ≡ 2 → replacement mode b ≡ 0x5c ∷ shortened b ∷ []
@@ -9,9 +9,9 @@ unfolding replacement shortened
 short-escape mode b h needed two = grind (arith, nat_tests)
 
 -- it begins no separator: e2 alone has one byte
-pub passed-short : (mode : Mode) (b : ℕ) (bs : List ℕ) → length (replacement mode b) ≡ 2 → passed mode (b ∷ bs) ≡ 1
+pub source_len-short : (mode : Mode) (b : ℕ) (bs : List ℕ) → length (replacement mode b) ≡ 2 → source_len mode (b ∷ bs) ≡ 1
 unfolding replacement
-passed-short mode b bs two = grind (arith, nat_tests, passed-one)
+source_len-short mode b bs two = grind (arith, nat_tests, source_len-one)
 
 -- a byte that needs no escape is not changed, as it is in each mode whose control characters need one
 abbrev pub KeepsClean : Mode → Type 0

@@ -1,10 +1,10 @@
 -- Stretches of a text: one after another, of clean bytes, and of what one escape stands for.
-use Rattle.escape_simd.proofs.Words.{◌≡◌, ℕ, ◌+◌, ◌-◌, ◌*◌, ◌<◌, ◌≤◌, Bool, true, false, List, ◌++◌, length, take, drop, get_or, sym, ap, ◌∙◌, arith, append_assoc, length-append, length-take-le, length-drop, slice_range, paste, take-append-add, drop-drop, take-append-le, take-take, take_at, drop_at, append_cancel_right, flat_map-append, Mode, json, html, script, mode_of, needs_escape, replacement, bytes_of, stored_of, escaped_of, quotes_of, IsSameSlice, Target, inner, passed, first_replacement, escaped_count, HasRoom, Stretch, IsStored, reach, run_reach}
+use Rattle.escape_simd.proofs.Words.{◌≡◌, ℕ, ◌+◌, ◌-◌, ◌*◌, ◌<◌, ◌≤◌, Bool, true, false, List, ◌++◌, length, take, drop, get_or, sym, ap, ◌∙◌, arith, append_assoc, length-append, length-take-le, length-drop, slice_range, paste, take-append-add, drop-drop, take-append-le, take-take, take_at, drop_at, append_cancel_right, flat_map-append, Mode, json, html, script, mode_of, needs_escape, replacement, bytes_of, stored_of, escaped_of, quotes_of, IsSameSlice, Target, inner, source_len, first_replacement, escaped_count, HasRoom, Stretch, IsStored, reach, run_reach}
 use Rattle.std.proofs.lemmas.List.Folds.{drop_split}
 use Rattle.std.proofs.lemmas.List.Edits.{take-paste, drop-paste}
 use Rattle.escape_simd.proofs.RestSteps.{rest-is, rest-between}
 use Rattle.escape_simd.proofs.Escapes.{byte-at, two≤escape}
-use Rattle.escape_simd.proofs.Texts.{inner-here, escaped-here, one≤passed, passed≤length, length-first}
+use Rattle.escape_simd.proofs.Texts.{inner-here, escaped-here, one≤source_len, source_len≤length, length-first}
 
 -- How far stores may reach
 
@@ -86,7 +86,7 @@ pasted mode slack src old new at next to count piece n same written room long so
 
 -- an entry of eight bytes reaches no further past what it stands for
 pub entry-reach : (mode : Mode) (src : List ℕ) (i : ℕ) → needs_escape mode (get_or src i 0) ≡ true → 8 ≤ length (first_replacement mode (drop i src)) + run_reach mode
-entry-reach script src i needed = omega (arith, length-first script (drop i src), one≤passed script (drop i src))
+entry-reach script src i needed = omega (arith, length-first script (drop i src), one≤source_len script (drop i src))
 entry-reach mode src i needed = omega (arith, two≤escape mode (get_or src i 0) (omega arith) needed, ap (λ b. length (replacement mode b)) (byte-at src i))
 
 -- what one escape stands for: its entry, which begins with what is written, was pasted in
@@ -94,10 +94,10 @@ pub escaped_unit : {N : ℕ} (mode : Mode) (src : List ℕ) (old new : Target N)
     → (count : ℕ) → IsSameSlice old new → bytes_of new ≡ paste (bytes_of old) to entry 8 → to + 8 ≤ length (bytes_of old) → length entry ≡ 8
     → count ≤ 8 → take count entry ≡ first_replacement mode (drop i src)
     → escaped_of new ≡ escaped_of old + 1 → stored_of new ≡ stored_of old → quotes_of new ≡ quotes_of old
-    → Stretch mode (run_reach mode) src old new (i, to) (i + passed mode (drop i src), to + count)
+    → Stretch mode (run_reach mode) src old new (i, to) (i + source_len mode (drop i src), to + count)
 escaped_unit mode src old new i to entry inside needed count same written room long six front escaped stored quotes =
-    let l = length-drop i src in let fits = passed≤length mode (drop i src) (omega arith) in let c = sym (length-take-le count entry (omega arith)) ∙ ap length front in
-    pasted mode (run_reach mode) src old new i (i + passed mode (drop i src)) to count entry 8 same written room (omega arith) six (omega arith) (omega arith)
+    let l = length-drop i src in let fits = source_len≤length mode (drop i src) (omega arith) in let c = sym (length-take-le count entry (omega arith)) ∙ ap length front in
+    pasted mode (run_reach mode) src old new i (i + source_len mode (drop i src)) to count entry 8 same written room (omega arith) six (omega arith) (omega arith)
     (rw front (sym (inner-here mode src i inside))) (omega (arith, entry-reach mode src i needed, c)) (omega (arith, escaped-here mode src i inside needed)) quotes
 
 -- a vector that was stored, and passed no byte yet

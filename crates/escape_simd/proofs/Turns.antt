@@ -1,5 +1,5 @@
 -- How far the turns of a vector have come.
-use Rattle.escape_simd.proofs.Words.{◌≡◌, ℕ, ◌+◌, ◌-◌, ◌<◌, ◌≤◌, true, false, List, length, take, drop, get_or, refl, sym, ap, ◌∙◌, arith, append_assoc, take-take, take-add, length-take-le, bytes_of, first_set, none_set, MaskOf, is_clear, lanes_of_mask, mask_from, told_by, Mode, needs_escape, stored_of, Target, run_count, run_count_after, Passed, Stretch, EscapedRun, Escapes, HasRunRoom, IsRunEnd, inl, HasRoom, IsFlaggedAt, IsRunAt, IsStored, IsVectorAt, State, state, drop-take}
+use Rattle.escape_simd.proofs.Words.{◌≡◌, ℕ, ◌+◌, ◌-◌, ◌<◌, ◌≤◌, true, false, List, length, take, drop, get_or, refl, sym, ap, ◌∙◌, arith, append_assoc, take-take, take-add, length-take-le, bytes_of, first_set, none_set, MaskOf, is_clear, lanes_of_mask, mask_from, told_by, Mode, needs_escape, stored_of, Target, run_count, run_count_after, Reached, Stretch, EscapedRun, Advanced, HasRunRoom, IsRunEnd, inl, HasRoom, IsFlaggedAt, IsRunAt, IsStored, IsVectorAt, State, state, drop-take}
 use Rattle.escape_simd.proofs.Escapes.{reach-few}
 use Rattle.escape_simd.proofs.Texts.{runs_after-≤, runs_stop-here}
 use Rattle.escape_simd.proofs.Stretches.{onward_to, room-least, room-near, room-on, standing, stored_ahead, stretch-on}
@@ -19,7 +19,7 @@ pub record IsLeftAt (mode : Mode) (N slack : ℕ) (src : List ℕ) (valid next t
 abbrev pub IsFinished : {N : ℕ} → Mode → ℕ → List ℕ → ℕ → State N → State N → Type 0
 IsFinished mode slack src border old new = record {
   stretch : Stretch mode slack src old.target new.target (old.at, old.to) (new.at, new.to);
-  passed : Passed mode src border new.at;
+  reached : Reached mode src border new.at;
   stored : stored_of new.target + run_count mode (drop new.at src) ≤ stored_of old.target + run_count_after mode true (drop old.at src) + 1;
   classified : new.ticks + stored_of old.target ≡ old.ticks + stored_of new.target;
 }
@@ -102,9 +102,9 @@ module _ {N : ℕ} {mode : Mode} {slack : ℕ} {src : List ℕ} {old mid : Targe
   pub turn-room : end + (flagged - next) + 8 ≤ length (bytes_of mid)
   turn-room = run-room turn-run.1 turn-place.2 (omega (arith, so_far.left.inside))
 
-  module _ {new : Target N} {after reached : ℕ} {rest : MaskOf} (done : EscapedRun mode src mid new flagged after (end + (flagged - next)) reached) (on : flagged < after) (over : IsRunEnd mode src valid after rest) where
+  module _ {new : Target N} {after after_end : ℕ} {rest : MaskOf} (done : EscapedRun mode src mid new flagged after (end + (flagged - next)) after_end) (on : flagged < after) (over : IsRunEnd mode src valid after rest) where
     -- all that was passed up to here
-    turn-stretch : Stretch mode (valid - after + slack) src old new (0, to) (after, reached)
+    turn-stretch : Stretch mode (valid - after + slack) src old new (0, to) (after, after_end)
     turn-stretch =
         let p = turn-place in let h = stretch-on done.stretch in let few = reach-few mode in
         let clean = ahead-passed mode (valid - flagged + slack) src mid next valid flagged end so_far.ahead p.1 (omega arith) (omega (arith, so_far.left.inside)) p.3 in
@@ -115,11 +115,11 @@ module _ {N : ℕ} {mode : Mode} {slack : ℕ} {src : List ℕ} {old mid : Targe
     turn-runs = omega (arith, done.run, ahead-runs mode src next flagged turn-place.1 turn-place.3)
 
     -- what is left has room
-    turn-rest_room : HasRoom mode slack src after valid reached (length (bytes_of new))
+    turn-rest_room : HasRoom mode slack src after valid after_end (length (bytes_of new))
     turn-rest_room = record { fits = omega (arith, turn-stretch.limit, so_far.stretch.limit, so_far.left.room.fits, done.stretch.same_slice.len) }
 
     -- the bytes that are left are a vector's
-    pub turn-left : IsVectorAt mode N slack src after valid reached (length (bytes_of new))
+    pub turn-left : IsVectorAt mode N slack src after valid after_end (length (bytes_of new))
     turn-left = let u = turn-place in let w = so_far.left in record { few = omega (arith, w.few, u, on); inside = w.inside; room = turn-rest_room }
 
     -- where it has some
@@ -131,29 +131,29 @@ module _ {N : ℕ} {mode : Mode} {slack : ℕ} {src : List ℕ} {old mid : Targe
           (omega (arith, s.0, ap length over.bytes, length-take-le valid src (omega (arith, w.inside))), (over.from, over.cleared (first_set (lanes_of_mask mode rest)) (first_set-here (lanes_of_mask mode rest) some)))
 
       -- the vector that begins there can be stored
-      pub turn-stores : {left : MaskOf} → left ≡ mask_from rest.bytes after 0 → (told_by left ≡ take (valid - after) (drop after src)) × (valid - after ≤ N) × (after + N ≤ length src) × (reached + (valid - after) + slack ≤ length (bytes_of new))
+      pub turn-stores : {left : MaskOf} → left ≡ mask_from rest.bytes after 0 → (told_by left ≡ take (valid - after) (drop after src)) × (valid - after ≤ N) × (after + N ≤ length src) × (after_end + (valid - after) + slack ≤ length (bytes_of new))
       turn-stores told =
           let w = so_far.left in let s = over.stops some in let least = room-least (omega (arith, s.0)) (omega (arith, w.inside)) turn-rest_room in
           let sum : valid ≡ after + (valid - after) = omega (arith, s.0) in
           (ap told_by told ∙ ap (drop after) over.bytes ∙ ap (λ k. drop after (take k src)) sum ∙ drop-take after (valid - after) src, omega (arith, w.few), omega (arith, w.inside, s.0), omega (arith, least))
 
       -- it was stored, and the turns go on
-      pub turn-stored : {later : Target N} {left : MaskOf} {ticks : ℕ} → left ≡ mask_from rest.bytes after 1 → lanes_of_mask mode left ≡ lanes_of_mask mode rest → IsStored slack src new later after (valid - after) reached → ticks ≡ ticks_new + 1
-          → TurnsSoFar mode slack src old later valid after to reached left ticks_old ticks
+      pub turn-stored : {later : Target N} {left : MaskOf} {ticks : ℕ} → left ≡ mask_from rest.bytes after 1 → lanes_of_mask mode left ≡ lanes_of_mask mode rest → IsStored slack src new later after (valid - after) after_end → ticks ≡ ticks_new + 1
+          → TurnsSoFar mode slack src old later valid after to after_end left ticks_old ticks
       turn-stored {later = later} {left = left} told same s tick =
           let w = so_far.left in let stops = over.stops some in let runs = turn-runs in
-          let l : IsLeftAt mode N slack src valid after reached (length (bytes_of new)) left = record { told = told ∙ ap (λ xs. mask_from xs after 1) over.bytes; few = w.few; inside = w.inside; before = stops.0; room = turn-rest_room } in
+          let l : IsLeftAt mode N slack src valid after after_end (length (bytes_of new)) left = record { told = told ∙ ap (λ xs. mask_from xs after 1) over.bytes; few = w.few; inside = w.inside; before = stops.0; room = turn-rest_room } in
           let some_left : is_clear mode left ≡ false = ap none_set same ∙ some in
-          let ahead = ahead-front mode src later after valid reached (valid - after) (omega arith) s.ahead in
-          let stored = stored_ahead mode slack src new later after (valid - after) reached s (omega (arith, l.before, l.inside)) in
+          let ahead = ahead-front mode src later after valid after_end (valid - after) (omega arith) s.ahead in
+          let stored = stored_ahead mode slack src new later after (valid - after) after_end s (omega (arith, l.before, l.inside)) in
           let on = onward_to (valid - after + slack) turn-stretch stored (omega arith) (omega arith) in
           let stop = runs_stop-here mode src after (omega (arith, l.before, l.inside)) stops.1 in
           let kept = done.stored in
           grind arith
 
     -- these were passed: so was the vector
-    pub turn-finished : {last : Target N} {past close ticks : ℕ} → IsFinished mode slack src valid (state new after reached ticks_new) (state last past close ticks) → Escapes mode slack valid 1 1 src (state old 0 to ticks_old) (state last past close ticks)
-    turn-finished f = let s = onward_to slack turn-stretch f.stretch (omega (arith, stretch-on f.stretch, f.passed.whole)) (omega arith) in grind (arith, turn-runs)
+    pub turn-finished : {last : Target N} {past close ticks : ℕ} → IsFinished mode slack src valid (state new after after_end ticks_new) (state last past close ticks) → Advanced mode slack valid 1 1 src (state old 0 to ticks_old) (state last past close ticks)
+    turn-finished f = let s = onward_to slack turn-stretch f.stretch (omega (arith, stretch-on f.stretch, f.reached.whole)) (omega arith) in grind (arith, turn-runs)
 
 -- after the last escape of a vector, its last clean bytes were stored
 pub finished-stored : {N : ℕ} {mode : Mode} {slack : ℕ} {src : List ℕ} {old new : Target N} {border from to size : ℕ} {mask : MaskOf} (ticks_old ticks_new : ℕ)

@@ -1,6 +1,6 @@
 -- A vector of a text as a whole: stored where it is clean, and what blocks cost.
-use Rattle.escape_simd.proofs.Words.{◌≡◌, ℕ, ◌+◌, ◌-◌, ◌*◌, ◌/◌, ◌<◌, ◌≤◌, Bool, true, false, ◌&&◌, List, length, length-drop, length-take-le, map, take, drop, get_or, refl, sym, ap, subst, ◌∙◌, arith, cases_Bool, drop-drop, get_or-drop, get_or-map, get_or-take, get_or-zip2, length-map, nat_tests, zip2, bits_of, first_set, flagged_blocks, gaps, length-bits_of, none_set, MaskOf, is_clear, lanes_of_mask, whole_mask, Mode, is_long, script, needs_escape, replacement, stored_of, Target, passed, run_count, AreShort, Escapes, HasBlocks, HasRoom, IsStored, IsVectorAt, Passed, Stretch, state}
-use Rattle.escape_simd.proofs.Escapes.{other-byte, passed-alone}
+use Rattle.escape_simd.proofs.Words.{◌≡◌, ℕ, ◌+◌, ◌-◌, ◌*◌, ◌/◌, ◌<◌, ◌≤◌, Bool, true, false, ◌&&◌, List, length, length-drop, length-take-le, map, take, drop, get_or, refl, sym, ap, subst, ◌∙◌, arith, cases_Bool, drop-drop, get_or-drop, get_or-map, get_or-take, get_or-zip2, length-map, nat_tests, zip2, bits_of, first_set, flagged_blocks, gaps, length-bits_of, none_set, MaskOf, is_clear, lanes_of_mask, whole_mask, Mode, is_long, script, needs_escape, replacement, stored_of, Target, source_len, run_count, AreShort, Advanced, HasBlocks, HasRoom, IsStored, IsVectorAt, Reached, Stretch, state}
+use Rattle.escape_simd.proofs.Escapes.{other-byte, source_len-alone}
 use Rattle.escape_simd.proofs.Gaps.{gaps-paid_mask}
 use Rattle.escape_simd.proofs.Lanes.{CleanFrom, HoldsFlags, first-set, first_set-here, mask-holds, none_set-at}
 use Rattle.escape_simd.proofs.Shortened.{keeps-clean}
@@ -9,8 +9,8 @@ use Rattle.escape_simd.proofs.Texts.{passed_clean-here}
 use Rattle.escape_simd.proofs.Turns.{ahead-front, ahead-passed, ahead-runs}
 
 -- just up to a border
-pub passed-to : (mode : Mode) (src : List ℕ) (border : ℕ) → Passed mode src border border
-passed-to mode src border = grind arith
+pub reached-to : (mode : Mode) (src : List ℕ) (border : ℕ) → Reached mode src border border
+reached-to mode src border = grind arith
 
 -- clean bytes that were stored are passed
 pub clean-stored : {N : ℕ} (mode : Mode) (slack : ℕ) (src : List ℕ) (old new : Target N) (at valid to : ℕ) → at + valid ≤ length src → CleanFrom mode src at (at + valid) → IsStored slack src old new at valid to
@@ -21,48 +21,53 @@ clean-stored mode slack src old new at valid to inside clean s =
 
 -- a clean vector was stored
 pub vector-clean : {N : ℕ} (mode : Mode) (slack : ℕ) (src : List ℕ) (old new : Target N) (at valid to ticks : ℕ) → at + valid ≤ length src → CleanFrom mode src at (at + valid)
-    → IsStored slack src old new at valid to → Escapes mode slack (at + valid) 1 1 src (state old at to ticks) (state new (at + valid) (to + valid) ticks)
+    → IsStored slack src old new at valid to → Advanced mode slack (at + valid) 1 1 src (state old at to ticks) (state new (at + valid) (to + valid) ticks)
 vector-clean mode slack src old new at valid to ticks inside clean s =
     let same = ahead-runs mode src at (at + valid) (omega arith) clean in
     record {
       stretch = clean-stored mode slack src old new at valid to inside clean s;
-      passed = passed-to mode src (at + valid);
+      reached = reached-to mode src (at + valid);
       cost = omega (arith, s.stored, same);
     }
 
 -- one stretch of vectors, and then the next
-pub escapes-onward : {N : ℕ} {mode : Mode} {slack border border2 v1 v2 a1 a2 : ℕ} {src : List ℕ} {old mid new : Target N} {at i next to p end t0 t1 t2 : ℕ}
-    → Escapes mode slack border v1 a1 src (state old at to t0) (state mid i p t1) → Escapes mode slack border2 v2 a2 src (state mid i p t1) (state new next end t2) → Escapes mode slack border2 (v1 + v2) (a1 + a2) src (state old at to t0) (state new next end t2)
-escapes-onward a b = record {
+pub advanced-onward : {N : ℕ} {mode : Mode} {slack border border2 v1 v2 a1 a2 : ℕ} {src : List ℕ} {old mid new : Target N} {at i next to p end t0 t1 t2 : ℕ}
+    → Advanced mode slack border v1 a1 src (state old at to t0) (state mid i p t1) → Advanced mode slack border2 v2 a2 src (state mid i p t1) (state new next end t2) → Advanced mode slack border2 (v1 + v2) (a1 + a2) src (state old at to t0) (state new next end t2)
+advanced-onward a b = record {
   stretch = onward a.stretch b.stretch;
-  passed = b.passed;
+  reached = b.reached;
   cost = omega (arith, a.cost, b.cost);
 }
 
 -- the same, up to and past places that are equal
-pub escapes-bordered : {N : ℕ} {mode : Mode} {slack border b vectors asked : ℕ} {src : List ℕ} {old new : Target N} {at next to end t0 t1 : ℕ}
-    → border ≡ b → Escapes mode slack border vectors asked src (state old at to t0) (state new next end t1) → Escapes mode slack b vectors asked src (state old at to t0) (state new next end t1)
-escapes-bordered {N} {mode} {slack} {border} {b} {vectors} {asked} {src} {old} {new} {at} {next} {to} {end} {t0} {t1} e s = subst (λ k. Escapes mode slack k vectors asked src (state old at to t0) (state new next end t1)) e s
+pub advanced-bordered : {N : ℕ} {mode : Mode} {slack border b vectors asked : ℕ} {src : List ℕ} {old new : Target N} {at next to end t0 t1 : ℕ}
+    → border ≡ b → Advanced mode slack border vectors asked src (state old at to t0) (state new next end t1) → Advanced mode slack b vectors asked src (state old at to t0) (state new next end t1)
+advanced-bordered {N} {mode} {slack} {border} {b} {vectors} {asked} {src} {old} {new} {at} {next} {to} {end} {t0} {t1} e s = subst (λ k. Advanced mode slack k vectors asked src (state old at to t0) (state new next end t1)) e s
 
-pub escapes-ended : {N : ℕ} {mode : Mode} {slack border b vectors asked : ℕ} {src : List ℕ} {old new : Target N} {at next i to end p t0 t1 : ℕ}
-    → border ≡ b → next ≡ i → end ≡ p → Escapes mode slack border vectors asked src (state old at to t0) (state new next end t1) → Escapes mode slack b vectors asked src (state old at to t0) (state new i p t1)
-escapes-ended {N} {mode} {slack} {border} {b} {vectors} {asked} {src} {old} {new} {at} {next} {i} {to} {end} {p} {t0} {t1} e f h s =
-    subst (λ k. Escapes mode slack b vectors asked src (state old at to t0) (state new i k t1)) h (subst (λ k. Escapes mode slack b vectors asked src (state old at to t0) (state new k end t1)) f (escapes-bordered e s))
+pub advanced-ended : {N : ℕ} {mode : Mode} {slack border b vectors asked : ℕ} {src : List ℕ} {old new : Target N} {at next i to end p t0 t1 : ℕ}
+    → border ≡ b → next ≡ i → end ≡ p → Advanced mode slack border vectors asked src (state old at to t0) (state new next end t1) → Advanced mode slack b vectors asked src (state old at to t0) (state new i p t1)
+advanced-ended {N} {mode} {slack} {border} {b} {vectors} {asked} {src} {old} {new} {at} {next} {i} {to} {end} {p} {t0} {t1} e f h s =
+    subst (λ k. Advanced mode slack b vectors asked src (state old at to t0) (state new i k t1)) h (subst (λ k. Advanced mode slack b vectors asked src (state old at to t0) (state new k end t1)) f (advanced-bordered e s))
+
+-- from a target that is the same
+pub advanced-from : {N : ℕ} {mode : Mode} {slack border vectors asked : ℕ} {src : List ℕ} {old mid new : Target N} {at next to end t0 t1 : ℕ}
+    → mid ≡ old → Advanced mode slack border vectors asked src (state mid at to t0) (state new next end t1) → Advanced mode slack border vectors asked src (state old at to t0) (state new next end t1)
+advanced-from {N} {mode} {slack} {border} {vectors} {asked} {src} {new = new} {at} {next} {to} {end} {t0} {t1} is e = subst (λ t. Advanced {N = N} mode slack border vectors asked src (state t at to t0) (state new next end t1)) is e
 
 -- the vectors that were classified before, counted with them
-pub escapes-asked : {N : ℕ} {mode : Mode} {slack border vectors : ℕ} {src : List ℕ} {old new : Target N} {at next to end t1 t2 : ℕ} (t0 asked : ℕ)
-    → t1 ≡ t0 + asked → Escapes mode slack border vectors asked src (state old at to t1) (state new next end t2) → Escapes mode slack border vectors 0 src (state old at to t0) (state new next end t2)
-escapes-asked t0 asked e s = record { stretch = s.stretch; passed = s.passed; cost = omega (arith, e, s.cost) }
+pub advanced-asked : {N : ℕ} {mode : Mode} {slack border vectors : ℕ} {src : List ℕ} {old new : Target N} {at next to end t1 t2 : ℕ} (t0 asked : ℕ)
+    → t1 ≡ t0 + asked → Advanced mode slack border vectors asked src (state old at to t1) (state new next end t2) → Advanced mode slack border vectors 0 src (state old at to t0) (state new next end t2)
+advanced-asked t0 asked e s = record { stretch = s.stretch; reached = s.reached; cost = omega (arith, e, s.cost) }
 
 -- what escaped a text from a place on, as a text of its own
-pub escapes-later : {N : ℕ} {mode : Mode} {slack border vectors asked : ℕ} {old new : Target N} {next to end t0 t1 : ℕ} (src text : List ℕ) (at : ℕ) → text ≡ drop at src → at ≤ length src
-    → Escapes mode slack border vectors asked text (state old 0 to t0) (state new next end t1) → Escapes mode slack (at + border) vectors asked src (state old at to t0) (state new (at + next) end t1)
-escapes-later {N} {mode} {slack} {border} {vectors} {asked} {old} {new} {next} {to} {end} {t0} {t1} src text at is inside given =
-    let e = subst (λ xs. Escapes mode slack border vectors asked xs (state old 0 to t0) (state new next end t1)) is given in
-    let p = e.passed in let u = ap (run_count mode) (drop-drop next at src) in
+pub advanced-later : {N : ℕ} {mode : Mode} {slack border vectors asked : ℕ} {old new : Target N} {next to end t0 t1 : ℕ} (src text : List ℕ) (at : ℕ) → text ≡ drop at src → at ≤ length src
+    → Advanced mode slack border vectors asked text (state old 0 to t0) (state new next end t1) → Advanced mode slack (at + border) vectors asked src (state old at to t0) (state new (at + next) end t1)
+advanced-later {N} {mode} {slack} {border} {vectors} {asked} {old} {new} {next} {to} {end} {t0} {t1} src text at is inside given =
+    let e = subst (λ xs. Advanced mode slack border vectors asked xs (state old 0 to t0) (state new next end t1)) is given in
+    let p = e.reached in let u = ap (run_count mode) (drop-drop next at src) in
     record {
       stretch = stretch-later src at inside e.stretch;
-      passed = grind (arith, get_or-drop, p);
+      reached = grind (arith, get_or-drop, p);
       cost = omega (arith, e.cost, u);
     }
 
@@ -72,7 +77,7 @@ vector-later mode n slack src text at valid to size is v =
     record { few = omega (arith, v.few); inside = omega (arith, v.inside, ap length is, length-drop at src); room = room-later text valid valid is refl v.room refl }
 
 -- a vector of which what came before it may have passed some bytes
-pub vector-left : (mode : Mode) (n : ℕ) (src : List ℕ) (at from to size : ℕ) → 16 ≤ n → Passed mode src at from → at + 2 * n ≤ length src → HasRoom mode n src from (at + n) to size → IsVectorAt mode n n src from (from + (n - (from - at))) to size
+pub vector-left : (mode : Mode) (n : ℕ) (src : List ℕ) (at from to size : ℕ) → 16 ≤ n → Reached mode src at from → at + 2 * n ≤ length src → HasRoom mode n src from (at + n) to size → IsVectorAt mode n n src from (from + (n - (from - at))) to size
 vector-left mode n src at from to size several p inside room =
     let border : at + n ≡ from + (n - (from - at)) = omega (arith, p.whole, p.near, several) in
     record { few = omega arith; inside = omega (arith, inside, p.whole, p.near, several); room = subst (λ k. HasRoom mode n src from k to size) border room }
@@ -87,8 +92,8 @@ unfolding replacement
 e2_count = refl
 
 -- no separator begins with a byte for which two stand
-pub not_lead : (mode : Mode) (src : List ℕ) (p : ℕ) → length (replacement mode (get_or src p 0)) ≡ 2 → passed mode (drop p src) ≡ 1
-not_lead script src p two = grind (arith, passed-alone, other-byte, e2_count)
+pub not_lead : (mode : Mode) (src : List ℕ) (p : ℕ) → length (replacement mode (get_or src p 0)) ≡ 2 → source_len mode (drop p src) ≡ 1
+not_lead script src p two = grind (arith, source_len-alone, other-byte, e2_count)
 not_lead mode src p two = refl
 
 -- a mask tells of each byte whether it needs an escape
@@ -107,7 +112,7 @@ short-lanes mode n src at bits inside wide none k h set needed =
     grind (arith, nat_tests, clear, needed)
 
 -- where each flagged byte has a short escape, each byte is passed alone
-alone-short : (mode : Mode) (n : ℕ) (src : List ℕ) (at valid : ℕ) (bits : List Bool) → HoldsFlags mode src at valid at bits → AreShort mode n src at bits → at + valid ≤ length src → valid ≤ n → (p : ℕ) → at ≤ p → p < at + valid → passed mode (drop p src) ≡ 1
+alone-short : (mode : Mode) (n : ℕ) (src : List ℕ) (at valid : ℕ) (bits : List Bool) → HoldsFlags mode src at valid at bits → AreShort mode n src at bits → at + valid ≤ length src → valid ≤ n → (p : ℕ) → at ≤ p → p < at + valid → source_len mode (drop p src) ≡ 1
 alone-short mode n src at valid bits h short inside few p after before =
     let t = h.set (p - at) in let u = h.unset (p - at) in let s = short (p - at) in grind (arith, cases_Bool, not_lead, passed_clean-here)
 
@@ -138,13 +143,13 @@ module _ {N : ℕ} {mode : Mode} {slack : ℕ} {src : List ℕ} {at to size : �
     -- it was, and its runs pay for what was stored
     pub vector-blocks : {old new : Target N} {end ticks_old ticks_new : ℕ} (n : ℕ) → bits_of 64 n ≡ bits → (valid + 7) / 8 ≤ flagged_blocks 8 bits + gaps false (take valid bits) + 1
         → Stretch mode 16 src old new (at, to) (at + valid, end) → stored_of new + flagged_blocks 8 bits ≡ stored_of old + (valid + 7) / 8 → ticks_new ≡ ticks_old + ((valid + 7) / 8 - (flagged_blocks 8 bits + 1))
-        → Escapes mode slack (at + valid) 1 1 src (state old at to ticks_old) (state new (at + valid) end ticks_new)
+        → Advanced mode slack (at + valid) 1 1 src (state old at to ticks_old) (state new (at + valid) end ticks_new)
     vector-blocks n number paid s stored ticks =
         let told = told-held mode src at valid bits held in
         let alone = alone-short mode N src at valid bits held short (omega (arith, v.inside)) (omega (arith, v.few)) in
         let runs = gaps-paid_mask mode src bits at valid (omega (arith, v.inside)) (omega (arith, ap length number, length-bits_of 64 n, v.few, narrow)) told alone in
         record {
           stretch = widened slack far s;
-          passed = passed-to mode src (at + valid);
+          reached = reached-to mode src (at + valid);
           cost = omega (arith, stored, ticks, paid, runs);
         }

@@ -41,11 +41,11 @@ pub use Rattle.escape_simd.specs.Laws.{HasOutputLength, IsOfOneText, JoinsTexts,
 pub use Rattle.escape_simd.specs.Lengths.{IsPartLength}
 pub use Rattle.escape_simd.specs.Modes.{mode_numbered}
 unfoldable pub use Rattle.escape_simd.specs.Output.{begins_separator, script_inner_after}
-pub use Rattle.escape_simd.specs.Output.{bound, first_replacement, inner, passed, plain, quote_count, quote_of, quoted}
-pub use Rattle.escape_simd.specs.Parts.{IsFront, IsPartAt}
+pub use Rattle.escape_simd.specs.Output.{bound, first_replacement, inner, source_len, plain, quote_count, quote_of, quoted}
+pub use Rattle.escape_simd.specs.Parts.{IsFront, IsPartAt, quote_if}
 unfoldable pub use Rattle.escape_simd.specs.Runs.{runs_after, script_escapes_after, script_runs_after}
 pub use Rattle.escape_simd.specs.Runs.{escaped_count, run_count, run_count_after}
 pub use Rattle.escape_simd.specs.Script.{HasNoRawMark, IsOnlyScript, IsSafeInScript, IsScriptFree, IsScriptItem, IsShortestScript, is_script_marked}
 pub use Rattle.escape_simd.specs.Spelling.{IsTextOf, Spells}
 unfoldable pub use Rattle.escape_simd.specs.Stretch.{rest_length}
-pub use Rattle.escape_simd.specs.Stretch.{AreTailMasks, Cost, State, EscapedRun, Escapes, HasRunRoom, HasRoom, IsByteWise, IsFlaggedAt, IsRunAt, IsRunEnd, IsStored, IsVectorAt, Passed, Stretch, reach, run_end, run_reach, state}
+pub use Rattle.escape_simd.specs.Stretch.{AreTailMasks, Cost, State, EscapedRun, Advanced, HasRunRoom, HasRoom, IsByteWise, IsFlaggedAt, IsRunAt, IsRunEnd, IsStored, IsVectorAt, Reached, Stretch, reach, run_end, run_reach, state}

@@ -12,10 +12,10 @@ begins_separator bytes =
     && ((slice_index_or bytes 2 0 == 0xa8) || (slice_index_or bytes 2 0 == 0xa9))
 
 -- how many of the bytes the first of what stands for them stands for
-abbrev pub passed : Mode → List ℕ → ℕ
-passed json bytes = 1
-passed html bytes = 1
-passed script bytes = if begins_separator bytes then 3 else 1
+abbrev pub source_len : Mode → List ℕ → ℕ
+source_len json bytes = 1
+source_len html bytes = 1
+source_len script bytes = if begins_separator bytes then 3 else 1
 
 -- what stands for so many of the bytes
 abbrev pub first_replacement : Mode → List ℕ → List ℕ
@@ -32,7 +32,7 @@ unfoldable pub script_inner_after : ℕ → List ℕ → List ℕ
 script_inner_after n [] = []
 script_inner_after (suc n) (b ∷ bs) = script_inner_after n bs
 script_inner_after zero (b ∷ bs) =
-    first_replacement script (b ∷ bs) ++ script_inner_after (passed script (b ∷ bs) - 1) bs
+    first_replacement script (b ∷ bs) ++ script_inner_after (source_len script (b ∷ bs) - 1) bs
 
 -- what stands for the bytes, joined
 abbrev pub inner : Mode → List ℕ → List ℕ
@@ -56,10 +56,6 @@ abbrev pub quote_of : Mode → List ℕ
 quote_of json = 0x22 ∷ []
 quote_of html = []
 quote_of script = 0x22 ∷ []
-
--- the same if it is wanted, and else nothing
-abbrev pub quote_if : Bool → Mode → List ℕ
-quote_if wanted mode = if wanted then quote_of mode else []
 
 -- how many quotation marks these are together
 abbrev pub quote_count : Mode → ℕ

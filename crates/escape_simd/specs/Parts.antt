@@ -1,8 +1,8 @@
 -- A text that is escaped part by part, and what is told of it before it is written.
-use Rattle.std.specs.Prelude.{◌≡◌, ℕ, ◌+◌, ◌*◌, ◌<◌, ◌≤◌, false, List, ◌++◌, length, take, drop, slice_index}
+use Rattle.std.specs.Prelude.{◌≡◌, ℕ, ◌+◌, ◌*◌, ◌<◌, ◌≤◌, Bool, false, List, [], ◌++◌, length, take, drop, slice_index, if◌then◌else◌}
 use Rattle.escape_lanes.specs.Mode.{Mode}
 use Rattle.escape_lanes.specs.Replacement.{needs_escape}
-use Rattle.escape_simd.specs.Output.{inner}
+use Rattle.escape_simd.specs.Output.{inner, quote_of}
 
 -- The first `next` bytes of a text were escaped to the bytes from `to` up to `end`: what is written and what is yet to be written
 -- stay one text. What lies `slack` bytes past all of it is left alone.
@@ -20,3 +20,7 @@ pub record IsFront (mode : Mode) (text : List ℕ) (at end : ℕ) : Type 0 where
   pub forward : at ≤ end
   pub inside : end ≤ length text
   pub clean : (k : ℕ) → at ≤ k → k < end → needs_escape mode (slice_index text k) ≡ false
+
+-- the quotation mark of an output if it is wanted, and else nothing
+abbrev pub quote_if : Bool → Mode → List ℕ
+quote_if wanted mode = if wanted then quote_of mode else []

@@ -3,7 +3,7 @@ use Rattle.std.specs.Prelude.{ℕ, ◌+◌, ◌-◌, Bool, true, false, ◌&&◌
 use Rattle.std.proofs.Common.{zero, suc}
 use Rattle.escape_lanes.specs.Mode.{Mode, json, html, script}
 use Rattle.escape_lanes.specs.Replacement.{needs_escape}
-use Rattle.escape_simd.specs.Output.{passed}
+use Rattle.escape_simd.specs.Output.{source_len}
 
 -- Script: how many escapes the bytes after the first n are written with. A separator counts once, and so does
 -- each other byte that is flagged.
@@ -11,7 +11,7 @@ unfoldable pub script_escapes_after : ℕ → List ℕ → ℕ
 script_escapes_after n [] = 0
 script_escapes_after (suc n) (b ∷ bs) = script_escapes_after n bs
 script_escapes_after zero (b ∷ bs) =
-    (if needs_escape script b then 1 else 0) + script_escapes_after (passed script (b ∷ bs) - 1) bs
+    (if needs_escape script b then 1 else 0) + script_escapes_after (source_len script (b ∷ bs) - 1) bs
 
 -- Script: how many runs of marked bytes begin, where the byte before them is marked or isn't, and the first n are
 -- the rest of a separator. Marked are the flagged bytes, and the second and the third byte of each separator.
@@ -19,7 +19,7 @@ unfoldable pub script_runs_after : Bool → ℕ → List ℕ → ℕ
 script_runs_after before n [] = 0
 script_runs_after before (suc n) (b ∷ bs) = script_runs_after true n bs
 script_runs_after before zero (b ∷ bs) =
-    (if needs_escape script b && not before then 1 else 0) + script_runs_after (needs_escape script b) (passed script (b ∷ bs) - 1) bs
+    (if needs_escape script b && not before then 1 else 0) + script_runs_after (needs_escape script b) (source_len script (b ∷ bs) - 1) bs
 
 -- how many escapes the bytes are written with
 abbrev pub escaped_count : Mode → List ℕ → ℕ

@@ -7,7 +7,7 @@ use Rattle.escape_lanes.specs.Mode.{Mode, json, html, script}
 use Rattle.escape_lanes.specs.Replacement.{needs_escape}
 use Rattle.escape_lanes.specs.Written.{bytes_of, stored_of, escaped_of, quotes_of, IsSameSlice}
 use Rattle.escape_lanes.specs.declared.simd.target.Target.{Target}
-use Rattle.escape_simd.specs.Output.{inner, passed}
+use Rattle.escape_simd.specs.Output.{inner, source_len}
 use Rattle.escape_simd.specs.Runs.{escaped_count, run_count, run_count_after}
 
 -- where the bytes that need an escape from a place on end
@@ -39,7 +39,7 @@ pub record Stretch {N : ℕ} (mode : Mode) (slack : ℕ) (src : List ℕ) (old n
 
 -- what stands for a byte is told by that byte alone
 abbrev pub IsByteWise : Mode → Type 0
-IsByteWise mode = (bytes : List ℕ) → passed mode bytes ≡ 1
+IsByteWise mode = (bytes : List ℕ) → source_len mode bytes ≡ 1
 
 -- how far past what it stands for an entry of eight bytes may reach
 abbrev pub run_reach : Mode → ℕ
@@ -53,7 +53,7 @@ reach last n = if last then min n 32 else n
 
 -- The bytes of a text were passed up to a place not before the border, and at most by the rest of a separator past it:
 -- none of those needs an escape.
-pub record Passed (mode : Mode) (src : List ℕ) (border next : ℕ) : Type 0 where
+pub record Reached (mode : Mode) (src : List ℕ) (border next : ℕ) : Type 0 where
   pub whole : border ≤ next
   pub near : next ≤ border + 2
   pub exact : IsByteWise mode → next ≡ border
@@ -77,9 +77,9 @@ pub record Cost {N : ℕ} (mode : Mode) (vectors asked : ℕ) (src : List ℕ) (
   pub classified : new.ticks + run_count mode (drop new.at src) + asked ≤ old.ticks + run_count mode (drop old.at src) + vectors
 
 -- Text was escaped from one state to another, at this cost: all bytes before `border`, and what of a separator goes past it.
-pub record Escapes {N : ℕ} (mode : Mode) (slack border vectors asked : ℕ) (src : List ℕ) (old new : State N) : Type 0 where
+pub record Advanced {N : ℕ} (mode : Mode) (slack border vectors asked : ℕ) (src : List ℕ) (old new : State N) : Type 0 where
   pub stretch : Stretch mode slack src old.target new.target (old.at, old.to) (new.at, new.to)
-  pub passed : Passed mode src border new.at
+  pub reached : Reached mode src border new.at
   pub cost : Cost mode vectors asked src old new
 
 -- a byte of the text that needs an escape
@@ -112,7 +112,7 @@ pub record IsRunEnd (mode : Mode) (src : List ℕ) (valid next : ℕ) (mask : Ma
   pub bytes : mask.bytes ≡ take valid src
   pub from : mask.from ≤ next
   pub cleared : (k : ℕ) → slice_index_or (lanes_of_mask mode mask) k false ≡ true → next ≤ k
-  pub over : valid ≤ next → Passed mode src valid next
+  pub over : valid ≤ next → Reached mode src valid next
   pub stops : is_clear mode mask ≡ false → (next < valid) × (needs_escape mode (slice_index src next) ≡ false)
 
 -- The text has the bytes from `at` up to `border`, at most a vector of N, and a vector can be loaded from each place from `at` to

@@ -10,7 +10,8 @@ ghost use Rattle.escape_simd.specs.Json.{IsOnlyJson};
 ghost use Rattle.escape_simd.specs.Kernels.{lanes_of};
 ghost use Rattle.escape_simd.specs.Laws.{AgreesWithEach};
 ghost use Rattle.escape_simd.specs.Modes.{escaping, mode_numbered};
-ghost use Rattle.escape_simd.specs.Output.{bound, inner, quote_if, quote_of, quoted};
+ghost use Rattle.escape_simd.specs.Output.{bound, inner, quote_of, quoted};
+ghost use Rattle.escape_simd.specs.Parts.{quote_if};
 ghost use Rattle.escape_simd.specs.Script.{IsOnlyScript};
 ghost use Rattle.escape_simd.specs.Stretch.{reach};
 

@@ -71,8 +71,8 @@ pub(super) fn append_in_place<const MODE: u8, A: Allocator>(src: &[u8], dst: &mu
     let mut end = dst.len();
     'parts: while 5 * N <= left.len() {
         fill(dst, end + CHUNK_ROOM);
-        let (passed, next) = escape_chunks::<V, MODE, N>(left, dst, end);
-        left = &left[passed..];
+        let (at, next) = escape_chunks::<V, MODE, N>(left, dst, end);
+        left = &left[at..];
         end = next;
     }
     fill(dst, end + 6 * left.len() + N);

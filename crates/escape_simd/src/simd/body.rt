@@ -3,11 +3,11 @@ ghost use Rattle.std.specs.Prelude.{◌+◌, ◌*◌, ◌/◌, ◌<◌, ◌≤�
 ghost use Rattle.escape_lanes.specs.Written.{bytes_of};
 ghost use Rattle.escape_simd.specs.Modes.{mode_numbered};
 ghost use Rattle.escape_simd.specs.Parts.{IsPartAt};
-ghost use Rattle.escape_simd.specs.Stretch.{Escapes, HasRoom, reach, state};
+ghost use Rattle.escape_simd.specs.Stretch.{Advanced, HasRoom, reach, state};
 
 use crate::simd::Classifier;
 use crate::simd::chunk::{chunk, vector_from};
-use crate::simd::tail::escape_tail;
+use crate::simd::tail::{escape_flagged_tail, store_clean_tail};
 use escape_lanes::simd::escape_mask::classify;
 use escape_lanes::simd::target::{Target, Ticks};
 
@@ -21,7 +21,7 @@ pub(crate) fn escape_bytes<V: Classifier<MODE, N>, const MODE: u8, const N: usiz
 ) -> usize
     requires { HasRoom (mode_numbered MODE) (reach true N)
         src.now 0 (length src.now) to (length (bytes_of target.old)) }
-    ensures { Escapes (mode_numbered MODE) (reach true N)
+    ensures { Advanced (mode_numbered MODE) (reach true N)
         (length src.now) (length src.now / N + 1) 0 src.now
         (state target.old 0 to ticks.old) (state target.new (length src.now) result ticks.new) }
 {
@@ -34,10 +34,17 @@ pub(crate) fn escape_bytes<V: Classifier<MODE, N>, const MODE: u8, const N: usiz
         let (_, mask) = classify::<V, MODE, N>(src, at, ticks);
         (at, end) = vector_from::<V, MODE, N>(src, at, at, mask, target, end, ticks);
     }
-    escape_tail::<V, MODE, N>(&src[at..], target, end, ticks)
+    let last = &src[at..];
+    match store_clean_tail::<V, MODE, N>(last, target, end, ticks) {
+        Ok(close) => close,
+        Err(masks) => {
+            escape_flagged_tail::<V, MODE, N>(last, masks.first, masks.last, target, end, ticks)
+        }
+    }
 }
 
-/// Escapes chunks of the text to `dst` from `to` on, while five vectors are left and a chunk has room. Returns the places after them.
+/// Escapes chunks of the text to `dst` from `to` on, while five vectors are left and a chunk has room.
+/// Returns the places after them.
 ///
 /// The target is made here: so the compiler keeps it in registers.
 #[inline(never)]

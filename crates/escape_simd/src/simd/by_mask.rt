@@ -4,7 +4,7 @@ ghost use Rattle.escape_lanes.specs.Masks.{is_clear, whole_mask};
 ghost use Rattle.escape_lanes.specs.Written.{bytes_of, stored_of};
 ghost use Rattle.escape_simd.specs.Modes.{mode_numbered};
 ghost use Rattle.escape_simd.specs.Runs.{run_count, run_count_after};
-ghost use Rattle.escape_simd.specs.Stretch.{Escapes, IsRunEnd, IsVectorAt, Passed, Stretch, reach, state};
+ghost use Rattle.escape_simd.specs.Stretch.{Advanced, IsRunEnd, IsVectorAt, Reached, Stretch, reach, state};
 
 use crate::simd::Classifier;
 use crate::simd::store::store;
@@ -34,7 +34,7 @@ fn finish_vector<V: LoadStore, const MODE: u8, const N: usize, const LAST: bool>
         src.now from border to (length (bytes_of target.old)) }
     ensures stretch { Stretch (mode_numbered MODE) (reach LAST N)
         src.now target.old target.new (from, to) result }
-    ensures passed { Passed (mode_numbered MODE) src.now border result.0 }
+    ensures reached { Reached (mode_numbered MODE) src.now border result.0 }
     ensures stored { stored_of target.new + run_count (mode_numbered MODE) (drop result.0 src.now)
         ≤ stored_of target.old + run_count_after (mode_numbered MODE) true (drop from src.now) + 1 }
     ensures classified { ticks.new + stored_of target.old ≡ ticks.old + stored_of target.new }
@@ -49,8 +49,8 @@ fn finish_vector<V: LoadStore, const MODE: u8, const N: usize, const LAST: bool>
 /// Escapes the first `valid` bytes of the text's first vector, some of which are flagged. Returns the places
 /// after them.
 ///
-/// The vector is stored. Then each turn passes the clean bytes before the next run, escapes it, and stores the vector that
-/// begins after it. The loop ends in the middle of a turn: so a vector of one run takes no branch of the loop.
+/// The vector is stored. Then each turn passes the clean bytes before a run, escapes it and stores the vector
+/// after it. The loop ends in mid-turn: so a vector of one run takes no branch of the loop.
 #[inline(always)]
 pub(crate) fn escape_by_turns<V: LoadStore, const MODE: u8, const N: usize, const LAST: bool>(
     text: &[u8],
@@ -67,7 +67,7 @@ pub(crate) fn escape_by_turns<V: LoadStore, const MODE: u8, const N: usize, cons
         × (is_clear (mode_numbered MODE) mask ≡ false)
         × IsVectorAt (mode_numbered MODE) N (reach LAST N)
         text.now 0 valid to (length (bytes_of target.old)) }
-    ensures { Escapes (mode_numbered MODE) (reach LAST N) valid 1 1
+    ensures { Advanced (mode_numbered MODE) (reach LAST N) valid 1 1
         text.now (state target.old 0 to ticks.old) (state target.new result.0 result.1 ticks.new) }
 {
     store::<V, MODE, N, LAST>(text, 0, valid, &mut mask, target, to);
@@ -75,7 +75,7 @@ pub(crate) fn escape_by_turns<V: LoadStore, const MODE: u8, const N: usize, cons
     let mut end = to;
     'turns: loop {
         let flagged = mask.first_offset();
-        let (after, reached) = escape_run::<EscapeMask<MODE>, MODE, N>(
+        let (after, after_end) = escape_run::<EscapeMask<MODE>, MODE, N>(
             text,
             valid,
             flagged,
@@ -85,20 +85,18 @@ pub(crate) fn escape_by_turns<V: LoadStore, const MODE: u8, const N: usize, cons
         );
         if mask.is_clear() {
             return finish_vector::<V, MODE, N, LAST>(
-                text, valid, after, mask, target, reached, ticks,
+                text, valid, after, mask, target, after_end, ticks,
             );
         }
         mask = mask.rest(after, ticks);
-        store::<V, MODE, N, LAST>(text, after, valid - after, &mut mask, target, reached);
+        store::<V, MODE, N, LAST>(text, after, valid - after, &mut mask, target, after_end);
         next = after;
-        end = reached;
+        end = after_end;
     }
 }
 
-/// Escapes the first `valid` bytes of the text's vector at `at`, of which the mask tells. Returns the places after them, and
-/// in script mode after what of a separator goes past them.
-///
-/// Where `LAST`, these may be the text's last bytes.
+/// Escapes the first `valid` bytes of the text's vector at `at`, by their mask. Returns the places after
+/// them, in script mode after the rest of a separator. Where `LAST`, these may be the text's last bytes.
 #[inline(always)]
 pub(crate) fn escape_by_mask<
     V: Classifier<MODE, N>,
@@ -117,7 +115,7 @@ pub(crate) fn escape_by_mask<
     requires { (mask ≡ whole_mask (take valid (drop at src.now)))
         × IsVectorAt (mode_numbered MODE) N (reach LAST N)
         src.now at (at + valid) to (length (bytes_of target.old)) }
-    ensures { Escapes (mode_numbered MODE) (reach LAST N) (at + valid) 1 1
+    ensures { Advanced (mode_numbered MODE) (reach LAST N) (at + valid) 1 1
         src.now (state target.old at to ticks.old) (state target.new result.0 result.1 ticks.new) }
 {
     if mask.is_clear() {

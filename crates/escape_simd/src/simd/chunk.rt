@@ -3,7 +3,7 @@ ghost use Rattle.std.specs.Prelude.{◌≡◌, ◌+◌, ◌*◌, ◌≤◌, leng
 ghost use Rattle.escape_lanes.specs.Masks.{whole_mask};
 ghost use Rattle.escape_lanes.specs.Written.{bytes_of};
 ghost use Rattle.escape_simd.specs.Modes.{mode_numbered};
-ghost use Rattle.escape_simd.specs.Stretch.{Escapes, HasRoom, Passed, state};
+ghost use Rattle.escape_simd.specs.Stretch.{Advanced, HasRoom, Reached, state};
 
 use crate::simd::Classifier;
 use crate::simd::by_mask::escape_by_mask;
@@ -11,8 +11,8 @@ use crate::simd::store::store_lanes;
 use escape_lanes::simd::escape_mask::{EscapeMask, classify_four};
 use escape_lanes::simd::target::{Target, Ticks};
 
-/// Escapes the text's vector at `at` from `from` on, by its mask: the vector before may have passed the rest of a
-/// separator. Returns the places after it.
+/// Escapes the text's vector at `at` by its mask, from `from` on: a separator may begin in the one before.
+/// Returns the places after it.
 #[inline(always)]
 pub(crate) fn vector_from<V: Classifier<MODE, N>, const MODE: u8, const N: usize>(
     src: &[u8],
@@ -24,10 +24,10 @@ pub(crate) fn vector_from<V: Classifier<MODE, N>, const MODE: u8, const N: usize
     ticks: &mut Ticks,
 ) -> (usize, usize)
     requires { (mask ≡ whole_mask (take N (drop at src.now)))
-        × Passed (mode_numbered MODE) src.now at from
+        × Reached (mode_numbered MODE) src.now at from
         × (at + 2 * N ≤ length src.now)
         × HasRoom (mode_numbered MODE) N src.now from (at + N) to (length (bytes_of target.old)) }
-    ensures { Escapes (mode_numbered MODE) N (at + N) 1 1
+    ensures { Advanced (mode_numbered MODE) N (at + N) 1 1
         src.now (state target.old from to ticks.old) (state target.new result.0 result.1 ticks.new) }
 {
     let skipped = from - at;
@@ -35,8 +35,7 @@ pub(crate) fn vector_from<V: Classifier<MODE, N>, const MODE: u8, const N: usize
     escape_by_mask::<V, MODE, N, false>(src, from, N - skipped, left, target, to, ticks)
 }
 
-/// Escapes four vectors of the text. They are classified at once, since most are clean. Returns the places after
-/// them.
+/// Escapes four vectors of the text, classified at once, since most are clean. Returns the places after them.
 #[inline(always)]
 pub(crate) fn chunk<V: Classifier<MODE, N>, const MODE: u8, const N: usize>(
     src: &[u8],
@@ -47,7 +46,7 @@ pub(crate) fn chunk<V: Classifier<MODE, N>, const MODE: u8, const N: usize>(
 ) -> (usize, usize)
     requires { (at + 5 * N ≤ length src.now)
         × HasRoom (mode_numbered MODE) N src.now at (at + 4 * N) to (length (bytes_of target.old)) }
-    ensures { Escapes (mode_numbered MODE) N (at + 4 * N) 4 0
+    ensures { Advanced (mode_numbered MODE) N (at + 4 * N) 4 0
         src.now (state target.old at to ticks.old) (state target.new result.0 result.1 ticks.new) }
 {
     let ((v1, mut mask1), (v2, mut mask2), (v3, mut mask3), (v4, mut mask4), clear) =

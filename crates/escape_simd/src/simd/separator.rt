@@ -12,7 +12,8 @@ use escape_lanes::tables::{LINE_SEPARATOR, PARAGRAPH_SEPARATOR};
 #[inline(always)]
 pub(crate) fn is_separator<const MODE: u8>(src: &[u8], at: usize) -> bool
     requires { at < length src.now }
-    ensures begins { result ≡ true → (mode_numbered MODE ≡ script) × (begins_separator (drop at src.now) ≡ true) }
+    ensures begins { result ≡ true
+        → (mode_numbered MODE ≡ script) × (begins_separator (drop at src.now) ≡ true) }
     ensures none { result ≡ false → mode_numbered MODE ≡ script → begins_separator (drop at src.now) ≡ false }
 {
     if !is_script::<MODE>() {

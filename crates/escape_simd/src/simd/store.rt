@@ -11,8 +11,8 @@ use escape_lanes::simd::target::Target;
 /// How far a vector's store may reach past a text: kernels of more lanes store a text's last bytes exactly.
 const WIDEST_REACH: usize = 32;
 
-/// Stores a loaded vector at `to`, whose first `left` lanes are the text's bytes from `from` on. Uses up the mask, which
-/// tells of these. Returns the places after them.
+/// Stores a loaded vector at `to`, whose first `left` lanes are the text's bytes from `from` on. Uses up the
+/// mask, which tells of these. Returns the places after them.
 ///
 /// Where `LAST`, these may be the text's last bytes, and the store reaches at most 32 bytes past them.
 #[inline]

@@ -4,7 +4,7 @@ ghost use Rattle.std.specs.List.{flat_map};
 ghost use Rattle.escape_lanes.specs.Masks.{is_clear, whole_mask};
 ghost use Rattle.escape_lanes.specs.Written.{bytes_of};
 ghost use Rattle.escape_simd.specs.Modes.{mode_numbered};
-ghost use Rattle.escape_simd.specs.Stretch.{AreTailMasks, Escapes, HasRoom, reach, state};
+ghost use Rattle.escape_simd.specs.Stretch.{AreTailMasks, Advanced, HasRoom, reach, state};
 
 use crate::simd::Classifier;
 use crate::simd::by_mask::escape_by_mask;
@@ -12,8 +12,7 @@ use crate::simd::store::store_lanes;
 use escape_lanes::simd::escape_mask::{EscapeMask, classify, classify_front};
 use escape_lanes::simd::target::{Target, Ticks};
 
-/// The masks of a text's last bytes, fewer than those of two vectors: of their last vector, and where they fill one, of their
-/// first one.
+/// The masks of a text shorter than two vectors: of its last vector, and if it fills one, of its first.
 #[derive(Drop)]
 pub(crate) struct TailMasks<const MODE: u8> {
     pub first: EscapeMask<MODE>,
@@ -49,8 +48,7 @@ pub(crate) fn classify_short<V: Classifier<MODE, N>, const MODE: u8, const N: us
     (v, TailMasks { first, last })
 }
 
-/// Loads and classifies the first and the last vector of a text of as many bytes as a vector has or more, and of fewer than
-/// two have.
+/// Loads and classifies the first and the last vector of a text of one vector or more, and fewer than two.
 #[inline(always)]
 pub(crate) fn classify_pair<V: Classifier<MODE, N>, const MODE: u8, const N: usize>(
     text: &[u8],
@@ -68,7 +66,7 @@ pub(crate) fn classify_pair<V: Classifier<MODE, N>, const MODE: u8, const N: usi
     (v1, v2, TailMasks { first, last })
 }
 
-/// Returns the last vector of a text, with zeros after it, so that a vector can be loaded from each of its bytes on.
+/// Returns a text's last vector, with zeros after it: so a vector can be loaded from each of its bytes on.
 #[inline(always)]
 fn spill_last<V: Classifier<MODE, N>, const MODE: u8, const N: usize>(text: &[u8]) -> [[u8; N]; 2]
     ensures { flat_map (λ row. row) result
@@ -84,7 +82,7 @@ fn spill_last<V: Classifier<MODE, N>, const MODE: u8, const N: usize>(text: &[u8
 }
 
 /// Escapes the bytes before the last vector of a text shorter than two vectors, by the mask of its first one.
-/// Returns how many bytes of the last vector it passed (the rest of a separator, in script mode), and the place after them.
+/// Returns how many bytes of the last vector went with them (script: of a separator), and the place after.
 #[inline(always)]
 fn escape_before_last<V: Classifier<MODE, N>, const MODE: u8, const N: usize>(
     text: &[u8],
@@ -97,7 +95,7 @@ fn escape_before_last<V: Classifier<MODE, N>, const MODE: u8, const N: usize>(
     requires mask { N ≤ length text.now → first ≡ whole_mask (take N text.now) }
     requires room { HasRoom (mode_numbered MODE) (reach true N)
         text.now 0 (length text.now) to (length (bytes_of target.old)) }
-    ensures { Escapes (mode_numbered MODE) (reach true N)
+    ensures { Advanced (mode_numbered MODE) (reach true N)
         (length text.now - N) (length text.now / N) (length text.now / N) text.now
         (state target.old 0 to ticks.old)
         (state target.new (length text.now - N + result.0) result.1 ticks.new) }
@@ -124,7 +122,7 @@ pub(crate) fn escape_flagged_tail<V: Classifier<MODE, N>, const MODE: u8, const 
     requires { AreTailMasks N text.now first last
         × HasRoom (mode_numbered MODE) (reach true N)
         text.now 0 (length text.now) to (length (bytes_of target.old)) }
-    ensures { Escapes (mode_numbered MODE) (reach true N)
+    ensures { Advanced (mode_numbered MODE) (reach true N)
         (length text.now) (length text.now / N + 1) (length text.now / N + 1) text.now
         (state target.old 0 to ticks.old) (state target.new (length text.now) result ticks.new) }
 {
@@ -136,8 +134,7 @@ pub(crate) fn escape_flagged_tail<V: Classifier<MODE, N>, const MODE: u8, const 
     escape_by_mask::<V, MODE, N, true>(held, 0, left, mask, target, end, ticks).1
 }
 
-/// Stores a text shorter than two vectors, if none of its bytes is flagged. Returns the place after it, or else its
-/// masks.
+/// Stores a text shorter than two vectors if it is clean. Returns the place after it, or else its masks.
 #[inline(always)]
 pub(crate) fn store_clean_tail<V: Classifier<MODE, N>, const MODE: u8, const N: usize>(
     text: &[u8],
@@ -148,7 +145,7 @@ pub(crate) fn store_clean_tail<V: Classifier<MODE, N>, const MODE: u8, const N: 
     requires { (length text.now < 2 * N)
         × HasRoom (mode_numbered MODE) (reach true N)
         text.now 0 (length text.now) to (length (bytes_of target.old)) }
-    ensures clean { IfOk result (λ end. Escapes (mode_numbered MODE) (reach true N)
+    ensures clean { IfOk result (λ end. Advanced (mode_numbered MODE) (reach true N)
         (length text.now) (length text.now / N + 1) 0 text.now
         (state target.old 0 to ticks.old) (state target.new (length text.now) end ticks.new)) }
     ensures flagged { IfErr result (λ masks. AreTailMasks N text.now masks.first masks.last) }
@@ -177,27 +174,4 @@ pub(crate) fn store_clean_tail<V: Classifier<MODE, N>, const MODE: u8, const N: 
     // The last vector overlaps the first one.
     store_lanes::<V, MODE, N, true>(v2, text, last, N, &mut masks.last, target, to + last);
     Ok(to + count)
-}
-
-/// Escapes a text shorter than two vectors. Returns the place after it.
-#[inline(always)]
-pub(crate) fn escape_tail<V: Classifier<MODE, N>, const MODE: u8, const N: usize>(
-    text: &[u8],
-    target: &mut Target<'_, N>,
-    to: usize,
-    ticks: &mut Ticks,
-) -> usize
-    requires { (length text.now < 2 * N)
-        × HasRoom (mode_numbered MODE) (reach true N)
-        text.now 0 (length text.now) to (length (bytes_of target.old)) }
-    ensures { Escapes (mode_numbered MODE) (reach true N)
-        (length text.now) (length text.now / N + 1) 0 text.now
-        (state target.old 0 to ticks.old) (state target.new (length text.now) result ticks.new) }
-{
-    match store_clean_tail::<V, MODE, N>(text, target, to, ticks) {
-        Ok(end) => end,
-        Err(masks) => {
-            escape_flagged_tail::<V, MODE, N>(text, masks.first, masks.last, target, to, ticks)
-        }
-    }
 }

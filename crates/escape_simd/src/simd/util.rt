@@ -4,7 +4,7 @@ ghost use Rattle.escape_lanes.specs.Mode.{mode_of};
 ghost use Rattle.escape_lanes.specs.Replacement.{needs_escape};
 ghost use Rattle.escape_lanes.specs.Written.{bytes_of, stored_of, escaped_of, quotes_of, IsSameSlice};
 ghost use Rattle.escape_simd.specs.Modes.{mode_numbered};
-ghost use Rattle.escape_simd.specs.Output.{inner, passed};
+ghost use Rattle.escape_simd.specs.Output.{inner, source_len};
 ghost use Rattle.escape_simd.specs.Stretch.{EscapedRun, HasRunRoom, IsFlaggedAt, Stretch, run_end, run_reach};
 
 mod blocks;
@@ -30,7 +30,7 @@ pub(crate) fn escape<const MODE: u8, const N: usize>(
     requires room { to + 8 ≤ length (bytes_of target.old) }
     ensures stretch { Stretch (mode_numbered MODE) (run_reach (mode_numbered MODE))
         src.now target.old target.new (at, to) result }
-    ensures place { result.0 ≡ at + passed (mode_numbered MODE) (drop at src.now) }
+    ensures place { result.0 ≡ at + source_len (mode_numbered MODE) (drop at src.now) }
     ensures stored { stored_of target.new ≡ stored_of target.old }
 {
     if is_separator::<MODE>(src, at) {
@@ -63,12 +63,12 @@ pub(crate) fn escape_run<F: RunEnd<MODE>, const MODE: u8, const N: usize>(
     let mut next = at;
     let mut end = to;
     'run: loop {
-        let (after, reached) = escape::<MODE, N>(src, next, target, end);
+        let (after, after_end) = escape::<MODE, N>(src, next, target, end);
         if !run.goes_on(src, stop, next, after) {
-            return (after, reached);
+            return (after, after_end);
         }
         next = after;
-        end = reached;
+        end = after_end;
     }
 }
 

@@ -5,7 +5,8 @@ ghost use Rattle.escape_simd.specs.Formatted.{IsFormatted, IsQuoted, IsWritten, 
 ghost use Rattle.escape_simd.specs.Headline.{IsOnlyOutput};
 ghost use Rattle.escape_simd.specs.Laws.{IsOfOneText};
 ghost use Rattle.escape_simd.specs.Modes.{mode_numbered};
-ghost use Rattle.escape_simd.specs.Output.{bound, inner, quote_if};
+ghost use Rattle.escape_simd.specs.Output.{bound, inner};
+ghost use Rattle.escape_simd.specs.Parts.{quote_if};
 ghost use Rattle.escape_simd.specs.Stretch.{AreTailMasks, HasRoom, reach};
 
 use crate::simd::Classifier;
@@ -62,9 +63,10 @@ pub(crate) fn format_string<V: Classifier<MODE, N>, const MODE: u8, const N: usi
     escape_to_slice::<V, MODE, true, N>(value.as_bytes(), dst, open)
 }
 
-/// Escapes the text to `dst` from `to` on, and writes the last quotation mark if `CLOSED`. Returns the place after both.
+/// Escapes the text to `dst` from `to` on, and if `CLOSED`, writes the last quotation mark. Returns the place
+/// after it.
 ///
-/// A clean short text needs no frame: the other two are tail calls, as they write that quotation mark themselves.
+/// A clean short text needs no frame: the other two write that quotation mark themselves, and are tail calls.
 #[inline(never)]
 pub(crate) fn escape_to_slice<
     V: Classifier<MODE, N>,

@@ -16,8 +16,8 @@ use escape_lanes::simd::short::{half, has_long, shorten_vector};
 use escape_lanes::simd::target::{Target, Ticks};
 use std::simd::prelude::*;
 
-/// Returns whether a vector's first `valid` bytes can go by blocks: true only if these keep the bound on stores, as a block
-/// without an escape counts as one. Returns `false` too where turns are faster.
+/// Returns whether a vector's first `valid` bytes can go by blocks: only if these keep the bound on stores,
+/// as a block without an escape counts as one. False also where turns are faster.
 #[inline(always)]
 pub(crate) fn are_paid(bits: u64, valid: usize) -> bool
     requires some { none_set (bits_of 64 bits) ≡ false }
@@ -27,8 +27,8 @@ pub(crate) fn are_paid(bits: u64, valid: usize) -> bool
 {
     let blocks = (valid + 7) / 8;
     let escapes = count_flagged(bits);
-    // Of two blocks one has an escape. More are faster than turns if there are as many escapes. As a block has at most
-    // eight of them, an eighth of the escapes is at most the count of blocks that have one.
+    // Of two blocks one has an escape. More are faster than turns if there are as many escapes. A block has at
+    // most eight: so an eighth of the escapes is at most the count of blocks that have one.
     blocks <= 2 || (blocks <= escapes && 8 * blocks < escapes + 8 * count_gaps(bits, valid) + 16)
 }
 
@@ -44,8 +44,8 @@ pub(crate) fn are_short<const MODE: u8, const N: usize>(src: &[u8], at: usize, b
     has_short_escapes::<MODE>() && !has_long::<MODE>(&src[at..at + N], bits)
 }
 
-/// Pays for the mask's first block of eight, if no byte of it is flagged: by the vector's own classification, unless a block
-/// before used it, and else by one of what is left. Returns the mask, and whether that classification is still unused.
+/// Pays for the mask's first block of eight, if no byte of it is flagged: by the vector's own mask, unless
+/// that was used, else by one of what is left. Returns the mask, and whether the vector's own is unused.
 #[inline(always)]
 fn pay_block<const MODE: u8>(
     mask: EscapeMask<MODE>,
@@ -72,7 +72,7 @@ fn pay_block<const MODE: u8>(
     (mask.rest(0, ticks), false)
 }
 
-/// Escapes the text's next eight bytes at `_at`, or as many as the mask tells of if these are fewer: `block` begins with them,
+/// Escapes the text's next eight bytes at `_at`, or as many as the mask tells of: `block` begins with them,
 /// shortened. Uses up the mask if none of them is flagged. Returns the place after eight.
 #[inline(always)]
 fn put_block<const MODE: u8, const N: usize>(

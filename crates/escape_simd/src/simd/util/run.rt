@@ -1,7 +1,7 @@
 //! How far a run of escapes goes: as its mask tells, or its bytes.
 ghost use Rattle.std.specs.Prelude.{◌≡◌, ℕ, ◌+◌, ◌<◌, ◌≤◌, true, false, List, length, drop};
 ghost use Rattle.escape_simd.specs.Modes.{mode_numbered};
-ghost use Rattle.escape_simd.specs.Output.{passed};
+ghost use Rattle.escape_simd.specs.Output.{source_len};
 ghost use Rattle.escape_simd.specs.Stretch.{IsFlaggedAt, IsRunAt, IsRunEnd, run_end};
 ghost use Rattle.escape_simd.specs.RunLaws.{entry-flagged};
 
@@ -19,7 +19,7 @@ pub(crate) trait RunEnd<const MODE: u8>: Drop {
     /// Returns whether the run goes on at `next`, the place after what was escaped at `at`.
     fn goes_on(&mut self, src: &[u8], stop: usize, at: usize, next: usize) -> bool
         requires { goes self.old src.now stop at
-            × (next ≡ at + passed (mode_numbered MODE) (drop at src.now))
+            × (next ≡ at + source_len (mode_numbered MODE) (drop at src.now))
             × (next ≤ length src.now) }
         ensures goes { result ≡ true → goes self.new src.now stop next }
         ensures ends { result ≡ false → ends self.new src.now stop next };
@@ -34,7 +34,7 @@ impl<const MODE: u8> RunEnd<MODE> for EscapeMask<MODE> {
 
     ghost ends = { λ mask src stop at. IsRunEnd (mode_numbered MODE) src stop at mask };
 
-    /// Whether no flag is left is asked first: most vectors have one run, and leave here what goes through their runs too.
+    /// Whether no flag is left is asked first: most vectors have one run, and leave here.
     #[inline(always)]
     fn goes_on(&mut self, _: &[u8], _: usize, _: usize, next: usize) -> bool {
         self.clear_first();

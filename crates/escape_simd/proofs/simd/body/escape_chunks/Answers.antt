@@ -16,7 +16,7 @@ chunks-preserved g c =
     let on = stretch-on c.chunk.ensures.stretch in
     record {
       so_far = body-on so_far 4 g.met.V.Classifier.several (omega (arith, c.chunks-test.true, i)) (omega arith) (omega arith) c.chunk.ensures;
-      fits = omega (arith, on, c.chunk.ensures.passed.near, c.if-end-last_end.true, c.chunks.invariant.fits, g.met.V.Classifier.several);
+      fits = omega (arith, on, c.chunk.ensures.reached.near, c.if-end-last_end.true, c.chunks.invariant.fits, g.met.V.Classifier.several);
     }
 
 pub returns-else-end-last_end : goal.returns-else-end-last_end

@@ -1,9 +1,9 @@
-use Rattle.escape_simd.proofs.Words.{true≢false, ◌+◌, ◌-◌, ◌∙◌, ℕ, not, nat_eq, List, length, length-drop, take, drop, refl, ap, sym, arith, take_all, bytes_of, mode_numbered, told_by, whole_mask, Escapes, IsVectorAt, Mode, Target, reach, state}
+use Rattle.escape_simd.proofs.Words.{true≢false, ◌+◌, ◌-◌, ◌∙◌, ℕ, not, nat_eq, List, length, length-drop, take, drop, refl, ap, sym, arith, take_all, bytes_of, mode_numbered, told_by, whole_mask, Advanced, IsVectorAt, Mode, Target, reach, state}
 use denote.Param.{number, value_of}
 use Rattle.escape_simd.proofs.Escapes.{bytewise-but-script}
 use Rattle.escape_simd.proofs.Lanes.{mask-clean}
 use Rattle.escape_simd.proofs.Stretches.{reach-bounds}
-use Rattle.escape_simd.proofs.Vectors.{escapes-ended, escapes-later, vector-blocks, vector-clean, vector-has_blocks, vector-later, vector-stores}
+use Rattle.escape_simd.proofs.Vectors.{advanced-ended, advanced-later, vector-blocks, vector-clean, vector-has_blocks, vector-later, vector-stores}
 use Rattle.escape_simd.proofs.simd.by_mask.escape_by_mask.Goals as goal
 
 pub store-requires : goal.store-requires
@@ -51,8 +51,8 @@ escape_by_turns-next-requires g c =
 
 -- the first bytes of a text, as they were escaped as a text of their own
 by-turns : {N : ℕ} {mode : Mode} {slack valid size : ℕ} {src : List ℕ} {at to end t0 t1 next : ℕ} {old new : Target N} → IsVectorAt mode N slack src at (at + valid) to size
-    → Escapes mode slack valid 1 1 (take (length src - at) (drop at src)) (state old 0 to t0) (state new next end t1) → Escapes mode slack (at + valid) 1 1 src (state old at to t0) (state new (at + next) end t1)
-by-turns {src = src} {at = at} v e = escapes-later src (take (length src - at) (drop at src)) at (take_all (length src - at) (drop at src) (omega (arith, length-drop at src))) (omega (arith, v.inside)) e
+    → Advanced mode slack valid 1 1 (take (length src - at) (drop at src)) (state old 0 to t0) (state new next end t1) → Advanced mode slack (at + valid) 1 1 src (state old at to t0) (state new (at + next) end t1)
+by-turns {src = src} {at = at} v e = advanced-later src (take (length src - at) (drop at src)) at (take_all (length src - at) (drop at src) (omega (arith, length-drop at src))) (omega (arith, v.inside)) e
 
 pub returns-then-is_script : goal.returns-then-is_script
 returns-then-is_script g c = by-turns c.requires.1 c.escape_by_turns-next.ensures
@@ -60,4 +60,4 @@ returns-then-is_script g c = by-turns c.requires.1 c.escape_by_turns-next.ensure
 pub returns : goal.returns
 returns g c =
     let e = by-turns c.requires.1 c.escape_by_turns-next.ensures in
-    escapes-ended refl (e.passed.exact (bytewise-but-script (λ e. true≢false (sym (c.is_script.ensures.1 e) ∙ c.if-is_script.false)))) refl e
+    advanced-ended refl (e.reached.exact (bytewise-but-script (λ e. true≢false (sym (c.is_script.ensures.1 e) ∙ c.if-is_script.false)))) refl e

@@ -1,8 +1,8 @@
-use Rattle.escape_simd.proofs.Words.{◌≡◌, ◌≤◌, ℕ, take-take, ◌+◌, ◌*◌, ◌∙◌, List, length, take, drop, ap, refl, subst, sym, arith, bytes_of, mode_numbered, told_by, Escapes, HasRoom, IsClassified, IsStored, MaskOf, Mode, Passed, Target, state}
+use Rattle.escape_simd.proofs.Words.{◌≡◌, ◌≤◌, ℕ, take-take, ◌+◌, ◌*◌, ◌∙◌, List, length, take, drop, ap, refl, subst, sym, arith, bytes_of, mode_numbered, told_by, Advanced, HasRoom, IsClassified, IsStored, MaskOf, Mode, Reached, Target, state}
 use Rattle.escape_simd.proofs.Lanes.{CleanFrom}
 use Rattle.escape_simd.proofs.Parts.{clean-four}
 use Rattle.escape_simd.proofs.Stretches.{room-least, room-near, room-on}
-use Rattle.escape_simd.proofs.Vectors.{escapes-asked, escapes-bordered, escapes-ended, escapes-onward, passed-to, vector-clean}
+use Rattle.escape_simd.proofs.Vectors.{advanced-asked, advanced-bordered, advanced-ended, advanced-onward, reached-to, vector-clean}
 use Rattle.escape_simd.proofs.simd.chunk.chunk.Goals as goal
 
 -- each of the vectors can be stored
@@ -35,9 +35,9 @@ store_lanes-requires g c =
 
 -- a vector of a clean chunk was stored
 module _ {N : ℕ} {mode : Mode} {src : List ℕ} {at : ℕ} (inside : at + 4 * N ≤ length src) (clean : CleanFrom mode src at (at + 4 * N)) where
-  stored-on : {old new : Target N} {i p next end t : ℕ} → IsStored N src old new i N p → next ≡ i + N → end ≡ p + N → at ≤ i → next ≤ at + 4 * N → Escapes mode N next 1 1 src (state old i p t) (state new next end t)
+  stored-on : {old new : Target N} {i p next end t : ℕ} → IsStored N src old new i N p → next ≡ i + N → end ≡ p + N → at ≤ i → next ≤ at + 4 * N → Advanced mode N next 1 1 src (state old i p t) (state new next end t)
   stored-on {old} {new} {i} {p} {next} {end} {t} s is ends after before =
-      escapes-ended (sym is) (sym is) (sym ends) (vector-clean mode N src old new i N p t (omega (arith, inside, is, before)) (λ q from until. clean q (omega (arith, after, from)) (omega (arith, before, is, until))) s)
+      advanced-ended (sym is) (sym is) (sym ends) (vector-clean mode N src old new i N p t (omega (arith, inside, is, before)) (λ q from until. clean q (omega (arith, after, from)) (omega (arith, before, is, until))) s)
 
 pub returns-then-clear : goal.returns-then-clear
 returns-then-clear g c =
@@ -50,34 +50,34 @@ returns-then-clear g c =
     let s2 = stored-on inside clean e2.stored p2 e2.places.1 (omega (arith, p1)) (omega (arith, p1, p2)) in
     let s3 = stored-on inside clean e3.stored p3 e3.places.1 (omega (arith, p1, p2)) (omega (arith, p1, p2, p3)) in
     let s4 = stored-on inside clean e4.stored p4 e4.places.1 (omega (arith, p1, p2, p3)) (omega (arith, p1, p2, p3, p4)) in
-    escapes-asked c.args.ticks.now 4 (omega (arith, four.ticks)) (escapes-bordered (omega (arith, p1, p2, p3, p4)) (escapes-onward (escapes-onward (escapes-onward s1 s2) s3) s4))
+    advanced-asked c.args.ticks.now 4 (omega (arith, four.ticks)) (advanced-bordered (omega (arith, p1, p2, p3, p4)) (advanced-onward (advanced-onward (advanced-onward s1 s2) s3) s4))
 
 -- a vector more is there, where those before it were escaped
 module _ {N : ℕ} (vectors : ℕ) {mode : Mode} {src : List ℕ} {at to : ℕ} {old mid : Target N} (whole : at + (vectors + 1) * N ≤ length src) (room : HasRoom mode N src at (at + vectors * N) to (length (bytes_of old))) where
-  next-vector : {border i p v a t0 t1 : ℕ} (next : ℕ) → next + N ≤ at + vectors * N → Escapes mode N border v a src (state old at to t0) (state mid i p t1) → HasRoom mode N src i (next + N) p (length (bytes_of mid))
+  next-vector : {border i p v a t0 t1 : ℕ} (next : ℕ) → next + N ≤ at + vectors * N → Advanced mode N border v a src (state old at to t0) (state mid i p t1) → HasRoom mode N src i (next + N) p (length (bytes_of mid))
   next-vector next before e = room-near (next + N) N before (omega (arith, whole)) (omega arith) (room-on e.stretch room)
 
 pub vector_from-next-requires : goal.vector_from-next-requires
 vector_from-next-requires g c =
     let n : ℕ = g.row.N in let i = c.requires.0 in
-    (omega arith, (omega arith, (c.classify_four-v1.ensures.first.told, passed-to (mode_numbered g.row.MODE) c.args.src.now c.args.at, omega (arith, i), room-near (c.args.at + n) n (omega arith) (omega (arith, i)) (omega arith) c.requires.1)))
+    (omega arith, (omega arith, (c.classify_four-v1.ensures.first.told, reached-to (mode_numbered g.row.MODE) c.args.src.now c.args.at, omega (arith, i), room-near (c.args.at + n) n (omega arith) (omega (arith, i)) (omega arith) c.requires.1)))
 
 pub vector_from-next-requires-2 : goal.vector_from-next-requires-2
 vector_from-next-requires-2 g c =
     let n : ℕ = g.row.N in let e = c.vector_from-next.ensures in
-    (omega arith, (omega arith, (c.classify_four-v1.ensures.second.told, e.passed, omega (arith, c.requires.0), next-vector 4 c.requires.0 c.requires.1 (c.args.at + n) (omega arith) e)))
+    (omega arith, (omega arith, (c.classify_four-v1.ensures.second.told, e.reached, omega (arith, c.requires.0), next-vector 4 c.requires.0 c.requires.1 (c.args.at + n) (omega arith) e)))
 
 pub vector_from-next-requires-3 : goal.vector_from-next-requires-3
 vector_from-next-requires-3 g c =
     let n : ℕ = g.row.N in let e = c.vector_from-next-2.ensures in
-    (omega arith, (omega arith, (c.classify_four-v1.ensures.third.told, subst (λ border. Passed (mode_numbered g.row.MODE) c.args.src.now border c.vector_from-next-2.result.0) (omega arith) e.passed, omega (arith, c.requires.0), next-vector 4 c.requires.0 c.requires.1 (c.args.at + 2 * n) (omega arith) (escapes-onward c.vector_from-next.ensures e))))
+    (omega arith, (omega arith, (c.classify_four-v1.ensures.third.told, subst (λ border. Reached (mode_numbered g.row.MODE) c.args.src.now border c.vector_from-next-2.result.0) (omega arith) e.reached, omega (arith, c.requires.0), next-vector 4 c.requires.0 c.requires.1 (c.args.at + 2 * n) (omega arith) (advanced-onward c.vector_from-next.ensures e))))
 
 pub vector_from-requires : goal.vector_from-requires
 vector_from-requires g c =
     let n : ℕ = g.row.N in let e = c.vector_from-next-3.ensures in
-    (omega arith, (omega arith, (c.classify_four-v1.ensures.fourth.told, subst (λ border. Passed (mode_numbered g.row.MODE) c.args.src.now border c.vector_from-next-3.result.0) (omega arith) e.passed, omega (arith, c.requires.0), next-vector 4 c.requires.0 c.requires.1 (c.args.at + 3 * n) (omega arith) (escapes-onward (escapes-onward c.vector_from-next.ensures c.vector_from-next-2.ensures) e))))
+    (omega arith, (omega arith, (c.classify_four-v1.ensures.fourth.told, subst (λ border. Reached (mode_numbered g.row.MODE) c.args.src.now border c.vector_from-next-3.result.0) (omega arith) e.reached, omega (arith, c.requires.0), next-vector 4 c.requires.0 c.requires.1 (c.args.at + 3 * n) (omega arith) (advanced-onward (advanced-onward c.vector_from-next.ensures c.vector_from-next-2.ensures) e))))
 
 pub returns : goal.returns
 returns g c =
-    let all = escapes-onward (escapes-onward (escapes-onward c.vector_from-next.ensures c.vector_from-next-2.ensures) c.vector_from-next-3.ensures) c.vector_from.ensures in
-    escapes-asked c.args.ticks.now 4 (omega (arith, c.classify_four-v1.ensures.ticks)) (escapes-bordered (omega arith) all)
+    let all = advanced-onward (advanced-onward (advanced-onward c.vector_from-next.ensures c.vector_from-next-2.ensures) c.vector_from-next-3.ensures) c.vector_from.ensures in
+    advanced-asked c.args.ticks.now 4 (omega (arith, c.classify_four-v1.ensures.ticks)) (advanced-bordered (omega arith) all)

@@ -1,6 +1,6 @@
 use Rattle.escape_simd.proofs.Words.{◌≡◌, ◌-◌, ◌+◌, ◌∙◌, ℕ, List, length, length-drop, length-take-le, take, drop, ap, arith, bytes_of, mode_numbered, mask_from, whole_mask}
 use Rattle.escape_simd.proofs.Lanes.{mask-left}
-use Rattle.escape_simd.proofs.Vectors.{escapes-bordered, vector-left}
+use Rattle.escape_simd.proofs.Vectors.{advanced-bordered, vector-left}
 use Rattle.escape_simd.proofs.simd.chunk.vector_from.Goals as goal
 
 pub skip-left-requires : goal.skip-left-requires
@@ -17,4 +17,4 @@ escape_by_mask-requires g c =
     (omega arith, (omega arith, (told, vector-left mode n src at from c.args.to (length (bytes_of c.args.target.now)) g.met.V.Classifier.several p r.2 r.3)))
 
 pub returns : goal.returns
-returns g c = escapes-bordered (omega (arith, c.requires.1.whole, c.requires.1.near, g.met.V.Classifier.several)) c.escape_by_mask.ensures
+returns g c = advanced-bordered (omega (arith, c.requires.1.whole, c.requires.1.near, g.met.V.Classifier.several)) c.escape_by_mask.ensures

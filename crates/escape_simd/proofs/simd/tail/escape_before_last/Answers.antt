@@ -1,7 +1,7 @@
 use Rattle.escape_simd.proofs.Words.{◌≡◌, ◌≤◌, ◌∙◌, ℕ, ◌+◌, ◌-◌, true, List, length, length-take-le, take, ap, refl, arith, reach, take-take, mask_from, whole_mask}
 use Rattle.escape_simd.proofs.Last.{two-begun}
 use Rattle.escape_simd.proofs.Stretches.{room-near}
-use Rattle.escape_simd.proofs.Vectors.{escapes-ended}
+use Rattle.escape_simd.proofs.Vectors.{advanced-ended}
 use Rattle.escape_simd.proofs.simd.tail.escape_before_last.Goals as goal
 
 pub cut-front-requires : goal.cut-front-requires
@@ -19,6 +19,6 @@ pub returns : goal.returns
 returns g c =
     let e = c.escape_by_mask-next.ensures in let text : List ℕ = c.args.text.now in let border : ℕ = length text - g.row.N in let next = c.escape_by_mask-next.result.0 in
     let one = two-begun g.row.N (length text) (omega (arith, c.if-text.false)) c.requires.few in
-    let there : next ≡ border + (next - border) = omega (arith, e.passed.whole) in
-    let ended = escapes-ended (omega arith) there refl e in
-    record { stretch = ended.stretch; passed = ended.passed; cost = omega (arith, one, ended.cost) }
+    let there : next ≡ border + (next - border) = omega (arith, e.reached.whole) in
+    let ended = advanced-ended (omega arith) there refl e in
+    record { stretch = ended.stretch; reached = ended.reached; cost = omega (arith, one, ended.cost) }

@@ -1,7 +1,7 @@
-use Rattle.escape_simd.proofs.Words.{◌≡◌, ℕ, List, true, ◌+◌, ◌-◌, ◌∙◌, and_parts, length, take, length-drop, drop, replicate, ap, sym, subst, arith, is_clear, mode_numbered, take-append_seam, take_all, take-take, told_by, Escapes, reach, state}
+use Rattle.escape_simd.proofs.Words.{◌≡◌, ℕ, List, true, ◌+◌, ◌-◌, ◌∙◌, and_parts, length, take, length-drop, drop, replicate, ap, sym, subst, arith, is_clear, mode_numbered, take-append_seam, take_all, take-take, told_by, Advanced, reach, state}
 use Rattle.escape_simd.proofs.Last.{one-begun, tail-clean_back, tail-clean_front, two-begun, two-clean}
 use Rattle.escape_simd.proofs.Stretches.{room-least}
-use Rattle.escape_simd.proofs.Vectors.{escapes-asked, escapes-ended, vector-clean}
+use Rattle.escape_simd.proofs.Vectors.{advanced-asked, advanced-ended, vector-clean}
 use Rattle.escape_simd.proofs.simd.tail.store_clean_tail.Goals as goal
 
 pub store_lanes-requires : goal.store_lanes-requires
@@ -28,8 +28,8 @@ returns-then-count-clause-clean g c =
     let clear = (and_parts (is_clear mode c.classify_short-v.result.1.first) (is_clear mode c.classify_short-v.result.1.last) (sym c.are_clear.ensures ∙ c.if-not-are_clear.false)).1 in
     let clean = tail-clean_back mode c.classify_short-v.ensures.masks clear in
     let e = vector-clean mode (reach true n) text c.args.target.now c.store_lanes.new.target 0 (length text) c.args.to c.classify_short-v.new.ticks (omega arith) (λ p late early. clean p (omega (arith, c.if-count.true)) (omega (arith, early))) c.store_lanes.ensures.stored in
-    subst (λ v. Escapes mode (reach true n) (length text) v 0 text (state c.args.target.now 0 c.args.to c.args.ticks.now) (state c.store_lanes.new.target (length text) (c.args.to + length text) c.classify_short-v.new.ticks)) (one-begun n (length text) c.if-count.true)
-    (escapes-asked c.args.ticks.now 1 c.classify_short-v.ensures.tick (escapes-ended (omega arith) (omega arith) (omega arith) e))
+    subst (λ v. Advanced mode (reach true n) (length text) v 0 text (state c.args.target.now 0 c.args.to c.args.ticks.now) (state c.store_lanes.new.target (length text) (c.args.to + length text) c.classify_short-v.new.ticks)) (one-begun n (length text) c.if-count.true)
+    (advanced-asked c.args.ticks.now 1 c.classify_short-v.ensures.tick (advanced-ended (omega arith) (omega arith) (omega arith) e))
 
 pub returns-clause-clean : goal.returns-clause-clean
 returns-clause-clean g c =
@@ -37,5 +37,5 @@ returns-clause-clean g c =
     let some = c.if-count.false in let masks = c.classify_pair-v1.ensures.masks in
     let clear = and_parts (is_clear mode c.classify_pair-v1.result.2.first) (is_clear mode c.classify_pair-v1.result.2.last) (sym c.are_clear-2.ensures ∙ c.if-not-are_clear-2.false) in
     let e = two-clean some c.requires.0 (tail-clean_front mode masks some clear.0) (tail-clean_back mode masks clear.1) c.store_lanes-2.ensures.stored c.store_lanes-3.ensures.stored in
-    subst (λ v. Escapes mode (reach true n) (length text) v 0 text (state c.args.target.now 0 c.args.to c.args.ticks.now) (state c.store_lanes-3.new.target (length text) (c.args.to + length text) t)) (two-begun n (length text) some c.requires.0)
-    (escapes-asked c.args.ticks.now 2 c.classify_pair-v1.ensures.ticks e)
+    subst (λ v. Advanced mode (reach true n) (length text) v 0 text (state c.args.target.now 0 c.args.to c.args.ticks.now) (state c.store_lanes-3.new.target (length text) (c.args.to + length text) t)) (two-begun n (length text) some c.requires.0)
+    (advanced-asked c.args.ticks.now 2 c.classify_pair-v1.ensures.ticks e)

@@ -1,7 +1,7 @@
-use Rattle.escape_simd.proofs.Words.{◌≡◌, ℕ, ◌+◌, true, ◌==◌, List, length, take, drop, get_or, codes, if◌then◌else◌, refl, sym, ap, ◌∙◌, arith, script, entry_count, padded, mode_numbered, begins_separator, passed, first_replacement}
+use Rattle.escape_simd.proofs.Words.{◌≡◌, ℕ, ◌+◌, true, ◌==◌, List, length, take, drop, get_or, codes, if◌then◌else◌, refl, sym, ap, ◌∙◌, arith, script, entry_count, padded, mode_numbered, begins_separator, source_len, first_replacement}
 use Rattle.escape_simd.proofs.ReplacementLemmas.{length-replacement}
 use Rattle.escape_simd.proofs.Stretches.{escaped_unit, ended}
-use Rattle.escape_simd.proofs.Escapes.{entry-counts, entry-front, entry-long, first-alone, third-at, third-inside, passed-alone}
+use Rattle.escape_simd.proofs.Escapes.{entry-counts, entry-front, entry-long, first-alone, third-at, third-inside, source_len-alone}
 use Rattle.escape_simd.proofs.simd.util.escape.Goals as goal
 
 -- the entry of a separator begins with what stands for it
@@ -18,8 +18,8 @@ returns-then-is_separator g c =
     let mode = mode_numbered g.row.MODE in let src : List ℕ = c.args.src.now in let at : ℕ = c.args.at in let e = c.escape.ensures in
     let is = c.is_separator.ensures.begins c.if-is_separator.true in let third = is.0 in let begins = is.1 in
     let f = separator-front src at (get_or src (at + 2) 0) c.separator_entry.result.now begins refl c.separator_entry.ensures in
-    let three : passed mode (drop at src) ≡ 3 = ap (λ m. passed m (drop at src)) third ∙ rw begins refl in
-    let step : at + passed mode (drop at src) ≡ at + 3 = ap (λ k. at + k) three in
+    let three : source_len mode (drop at src) ≡ 3 = ap (λ m. source_len m (drop at src)) third ∙ rw begins refl in
+    let step : at + source_len mode (drop at src) ≡ at + 3 = ap (λ k. at + k) three in
     record {
       stretch =
           ended (escaped_unit mode src c.args.target.now c.escape.new.self at c.args.to c.separator_entry.result.now c.requires.flagged.0 c.requires.flagged.1 6 e.same_slice e.bytes c.requires.room f.0 (omega arith)
@@ -33,7 +33,7 @@ returns g c =
     let mode = mode_numbered g.row.MODE in let src : List ℕ = c.args.src.now in let at : ℕ = c.args.at in let e = c.escape-2.ensures in let b : ℕ = get_or src at 0 in
     let none = c.is_separator.ensures.none c.if-is_separator.false in
     let needed = c.requires.flagged.1 in let entry = c.entry-entry.ensures in
-    let step : at + passed mode (drop at src) ≡ at + 1 = ap (λ k. at + k) (passed-alone mode src at none) in
+    let step : at + source_len mode (drop at src) ≡ at + 1 = ap (λ k. at + k) (source_len-alone mode src at none) in
     let six = (length-replacement mode b).1 in let count = entry.count ∙ entry-counts mode b needed in
     record {
       stretch =

@@ -2,6 +2,7 @@
 use Rattle.std.specs.Prelude.{◌≡◌, ℕ, ◌+◌, ◌*◌, ◌<◌, ◌≤◌, Bool, false, List, [], ◌++◌, length, take, drop, slice_index, if◌then◌else◌}
 use Rattle.escape_lanes.specs.Mode.{Mode}
 use Rattle.escape_lanes.specs.Replacement.{needs_escape}
+use Rattle.escape_simd.specs.Formatted.{IsWrittenAt}
 use Rattle.escape_simd.specs.Output.{inner, quote_of}
 
 -- The first `next` bytes of a text were escaped to the bytes from `to` up to `end`: what is written and what is yet to be written
@@ -24,3 +25,7 @@ pub record IsFront (mode : Mode) (text : List ℕ) (at end : ℕ) : Type 0 where
 -- the quotation mark of an output if it is wanted, and else nothing
 abbrev pub quote_if : Bool → Mode → List ℕ
 quote_if wanted mode = if wanted then quote_of mode else []
+
+-- What stands for a text, and that quotation mark, stand in the bytes from `to` up to `end`.
+abbrev pub IsEscapedAt : ℕ → Mode → Bool → List ℕ → List ℕ → List ℕ → ℕ → ℕ → Type 0
+IsEscapedAt slack mode closed text old new to end = IsWrittenAt slack (inner mode text ++ quote_if closed mode) old new to end

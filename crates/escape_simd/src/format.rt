@@ -4,14 +4,14 @@ ghost use Rattle.std.specs.Prelude.{◌+◌, ◌*◌, ◌≤◌, ◌++◌, true,
 ghost use Rattle.escape_lanes.specs.Mode.{json, html, script};
 ghost use Rattle.escape_simd.specs.Escaping.{IsEscaping};
 ghost use Rattle.escape_simd.specs.Examples.{HtmlExamples, JsonExamples, ScriptExamples};
-ghost use Rattle.escape_simd.specs.Formatted.{IsInnerWritten, IsWritten, IsWrittenAt};
+ghost use Rattle.escape_simd.specs.Formatted.{IsInnerWritten, IsWritten};
 ghost use Rattle.escape_simd.specs.Headline.{IsOnlyOutput};
 ghost use Rattle.escape_simd.specs.Json.{IsOnlyJson};
 ghost use Rattle.escape_simd.specs.Kernels.{lanes_of};
 ghost use Rattle.escape_simd.specs.Laws.{AgreesWithEach};
 ghost use Rattle.escape_simd.specs.Modes.{escaping, mode_numbered};
-ghost use Rattle.escape_simd.specs.Output.{bound, inner, quote_of, quoted};
-ghost use Rattle.escape_simd.specs.Parts.{quote_if};
+ghost use Rattle.escape_simd.specs.Output.{bound, quote_of, quoted};
+ghost use Rattle.escape_simd.specs.Parts.{IsEscapedAt};
 ghost use Rattle.escape_simd.specs.Script.{IsOnlyScript};
 ghost use Rattle.escape_simd.specs.Stretch.{reach};
 
@@ -269,9 +269,8 @@ fn escape_by<const MODE: u8, const CLOSED: bool>(
     to: usize,
 ) -> usize
     requires { to + 6 * length text.now + 32 ≤ length dst.old }
-    ensures { IsWrittenAt (reach true (lanes_of kernel))
-        (inner (mode_numbered MODE) text.now ++ quote_if CLOSED (mode_numbered MODE))
-        dst.old dst.new to result }
+    ensures { IsEscapedAt (reach true (lanes_of kernel)) (mode_numbered MODE) CLOSED
+        text.now dst.old dst.new to result }
 {
     match kernel {
         Kernel::Avx2 => escape_to_slice::<avx2::Simd256u, MODE, CLOSED, 32>(text, dst, to),
@@ -288,9 +287,8 @@ fn escape_by_other<const MODE: u8, const CLOSED: bool>(
     to: usize,
 ) -> usize
     requires { to + 6 * length text.now + 32 ≤ length dst.old }
-    ensures { IsWrittenAt (reach true (lanes_of kernel))
-        (inner (mode_numbered MODE) text.now ++ quote_if CLOSED (mode_numbered MODE))
-        dst.old dst.new to result }
+    ensures { IsEscapedAt (reach true (lanes_of kernel)) (mode_numbered MODE) CLOSED
+        text.now dst.old dst.new to result }
 {
     match kernel {
         Kernel::V128 => escape_to_slice::<v128::Simd128u, MODE, CLOSED, 16>(text, dst, to),

@@ -126,14 +126,8 @@ pub(crate) fn escape_by_mask<
         let end = escape_blocks::<MODE, N>(src, at, valid, mask, target, to, ticks);
         return (at + valid, end);
     }
-    let (next, end) = escape_by_turns::<V, MODE, N, LAST>(
-        &src[at..],
-        valid,
-        mask,
-        target,
-        to,
-        ticks,
-    );
+    let text = &src[at..];
+    let (next, end) = escape_by_turns::<V, MODE, N, LAST>(text, valid, mask, target, to, ticks);
     if is_script::<MODE>() {
         return (at + next, end);
     }

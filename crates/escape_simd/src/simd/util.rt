@@ -101,15 +101,9 @@ pub fn escape_unchecked<const HTML: bool, const N: usize>(
     ensures stored { stored_of target.new ≡ stored_of target.old }
     ensures quotes { quotes_of target.new ≡ quotes_of target.old }
 {
+    let stop = src.len();
     if HTML {
-        return escape_run::<Entries, { HTML_MODE }, N>(
-            src,
-            src.len(),
-            at,
-            &mut Entries,
-            target,
-            to,
-        );
+        return escape_run::<Entries, { HTML_MODE }, N>(src, stop, at, &mut Entries, target, to);
     }
-    escape_run::<Entries, { JSON_MODE }, N>(src, src.len(), at, &mut Entries, target, to)
+    escape_run::<Entries, { JSON_MODE }, N>(src, stop, at, &mut Entries, target, to)
 }

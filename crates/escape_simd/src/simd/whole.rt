@@ -1,12 +1,12 @@
 //! Whole texts: to a target, and to a slice with quotation marks or without.
-ghost use Rattle.std.specs.Prelude.{◌+◌, ◌*◌, ◌<◌, ◌≤◌, ◌++◌, true, length, take, chars};
+ghost use Rattle.std.specs.Prelude.{◌+◌, ◌*◌, ◌<◌, ◌≤◌, true, length, take, chars};
 ghost use Rattle.escape_lanes.specs.Written.{bytes_of};
-ghost use Rattle.escape_simd.specs.Formatted.{IsFormatted, IsQuoted, IsWritten, IsWrittenAt};
+ghost use Rattle.escape_simd.specs.Formatted.{IsFormatted, IsQuoted, IsWritten};
 ghost use Rattle.escape_simd.specs.Headline.{IsOnlyOutput};
 ghost use Rattle.escape_simd.specs.Laws.{IsOfOneText};
 ghost use Rattle.escape_simd.specs.Modes.{mode_numbered};
-ghost use Rattle.escape_simd.specs.Output.{bound, inner};
-ghost use Rattle.escape_simd.specs.Parts.{quote_if};
+ghost use Rattle.escape_simd.specs.Output.{bound};
+ghost use Rattle.escape_simd.specs.Parts.{IsEscapedAt, quote_if};
 ghost use Rattle.escape_simd.specs.Stretch.{AreTailMasks, HasRoom, reach};
 
 use crate::simd::Classifier;
@@ -75,9 +75,7 @@ pub(crate) fn escape_to_slice<
     const N: usize,
 >(text: &[u8], dst: &mut [u8], to: usize) -> usize
     requires { to + 6 * length text.now + 32 ≤ length dst.old }
-    ensures { IsWrittenAt (reach true N)
-        (inner (mode_numbered MODE) text.now ++ quote_if CLOSED (mode_numbered MODE))
-        dst.old dst.new to result }
+    ensures { IsEscapedAt (reach true N) (mode_numbered MODE) CLOSED text.now dst.old dst.new to result }
 {
     // The empty text goes this way too, so the short way needs no test for it.
     if text.is_empty() || 2 * N <= text.len() {
@@ -102,9 +100,7 @@ fn escape_long<V: Classifier<MODE, N>, const MODE: u8, const CLOSED: bool, const
     to: usize,
 ) -> usize
     requires { to + 6 * length text.now + 32 ≤ length dst.old }
-    ensures { IsWrittenAt (reach true N)
-        (inner (mode_numbered MODE) text.now ++ quote_if CLOSED (mode_numbered MODE))
-        dst.old dst.new to result }
+    ensures { IsEscapedAt (reach true N) (mode_numbered MODE) CLOSED text.now dst.old dst.new to result }
 {
     let mut target = Target::<N>::new(dst);
     let end = escape_bytes::<V, MODE, N>(text, &mut target, to, &mut Ticks::new());
@@ -124,9 +120,7 @@ pub(crate) fn escape_flagged<
     requires masks { AreTailMasks N text.now first last }
     requires room { HasRoom (mode_numbered MODE) (reach true N)
         text.now 0 (length text.now) to (length dst.old) }
-    ensures { IsWrittenAt (reach true N)
-        (inner (mode_numbered MODE) text.now ++ quote_if CLOSED (mode_numbered MODE))
-        dst.old dst.new to result }
+    ensures { IsEscapedAt (reach true N) (mode_numbered MODE) CLOSED text.now dst.old dst.new to result }
 {
     let mut target = Target::<N>::new(dst);
     let end = escape_flagged_tail::<V, MODE, N>(

@@ -1,21 +1,16 @@
 //! A page with a table of strangers' texts, and with data in a script element.
 ghost use Rattle.std.specs.Prelude.{◌≡◌, ◌++◌, flat_map, take, vec_len, OnOk, OnErr};
-ghost use Rattle.escape_lanes.specs.Mode.{html, script};
-ghost use Rattle.escape_simd.specs.Output.{plain};
 ghost use Rattle.escape_text.specs.Page.{tags_of};
-ghost use Rattle.escape_callers.specs.Written.{row_of, row_markup};
+ghost use Rattle.escape_callers.specs.Written.{row_of, row_markup, guests_of, guests_markup};
 
 use escape_simd::Refusal;
-use escape_text::page::{Part, page_into};
+use escape_text::page::Part::{Markup, Script, Text};
+use escape_text::page::page_into;
 use std::alloc::Allocator;
 
 const BEFORE_TITLE: &str = "<h1>";
 
 const BEFORE_ROWS: &str = "</h1><table><tr><th>Name</th></tr>";
-
-const ROW: &str = "<tr><td>";
-
-const END_ROW: &str = "</td></tr>";
 
 const BEFORE_USER: &str = "</table><script id=\"user\" type=\"application/json\">";
 
@@ -30,17 +25,13 @@ pub fn append_page<A: Allocator>(
     user: &str,
     page: &mut Vec<u8, A>,
 ) -> Result<(), Refusal>
-    ensures exact { OnOk result (page.new.items ≡ page.old.items
-        ++ BEFORE_TITLE.now ++ plain html title.now ++ BEFORE_ROWS.now
-        ++ flat_map row_of names.now
-        ++ BEFORE_USER.now ++ plain script user.now ++ AFTER_USER.now) }
+    ensures exact { OnOk result (page.new.items
+        ≡ page.old.items ++ guests_of title.now names.now user.now) }
     ensures unchanged { OnErr result (page.new.items ≡ page.old.items) }
 
-    // The page's tags are the template's, whatever the title and the names are.
-    ensures tags { OnOk result (tags_of page.new.items ≡ tags_of (page.old.items
-        ++ (BEFORE_TITLE.now ++ BEFORE_ROWS.now)
-        ++ flat_map (λ _. row_markup) names.now
-        ++ (BEFORE_USER.now ++ AFTER_USER.now))) }
+    // The page's tags are the template's, whatever the texts are.
+    ensures tags { OnOk result (tags_of page.new.items
+        ≡ tags_of (page.old.items ++ guests_markup names.now)) }
 {
     let len = page.len();
     let appended = append_parts(title, names, user, page);
@@ -58,49 +49,30 @@ fn append_parts<'a, A: Allocator>(
     user: &'a str,
     page: &mut Vec<u8, A>,
 ) -> Result<(), Refusal>
-    ensures exact { OnOk result (page.new.items ≡ page.old.items
-        ++ BEFORE_TITLE.now ++ plain html title.now ++ BEFORE_ROWS.now
-        ++ flat_map row_of names.now
-        ++ BEFORE_USER.now ++ plain script user.now ++ AFTER_USER.now) }
+    ensures exact { OnOk result (page.new.items
+        ≡ page.old.items ++ guests_of title.now names.now user.now) }
     ensures front { take (vec_len page.old) page.new.items ≡ page.old.items }
-    ensures tags { OnOk result (tags_of page.new.items ≡ tags_of (page.old.items
-        ++ (BEFORE_TITLE.now ++ BEFORE_ROWS.now)
-        ++ flat_map (λ _. row_markup) names.now
-        ++ (BEFORE_USER.now ++ AFTER_USER.now))) }
+    ensures tags { OnOk result (tags_of page.new.items
+        ≡ tags_of (page.old.items ++ guests_markup names.now)) }
 {
-    page_into(
-        &[
-            Part::Markup(BEFORE_TITLE),
-            Part::Text(title),
-            Part::Markup(BEFORE_ROWS),
-        ],
-        page,
-    )?;
+    let head = [Markup(BEFORE_TITLE), Text(title), Markup(BEFORE_ROWS)];
+    page_into(&head, page)?;
     append_rows(names, page)?;
-    page_into(
-        &[
-            Part::Markup(BEFORE_USER),
-            Part::Script(user),
-            Part::Markup(AFTER_USER),
-        ],
-        page,
-    )?;
+    let data = [Markup(BEFORE_USER), Script(user), Markup(AFTER_USER)];
+    page_into(&data, page)?;
     Ok(())
 }
 
 #[tactic(auto, using(escape_text::proofs::Many::many, escape_text::proofs::PageLaws::tags))]
 fn append_rows<A: Allocator>(names: &[&str], page: &mut Vec<u8, A>) -> Result<(), Refusal>
-    ensures exact { OnOk result (page.new.items ≡ page.old.items
-        ++ flat_map row_of names.now) }
+    ensures exact { OnOk result (page.new.items ≡ page.old.items ++ flat_map row_of names.now) }
     ensures front { take (vec_len page.old) page.new.items ≡ page.old.items }
-    ensures tags { OnOk result (tags_of page.new.items ≡ tags_of (page.old.items
-        ++ flat_map (λ _. row_markup) names.now)) }
+    ensures tags { OnOk result (tags_of page.new.items
+        ≡ tags_of (page.old.items ++ flat_map (λ _. row_markup) names.now)) }
 {
     for name in names {
-        page_into(
-            &[Part::Markup(ROW), Part::Text(name), Part::Markup(END_ROW)],
-            page,
-        )?;
+        let row = [Markup("<tr><td>"), Text(name), Markup("</td></tr>")];
+        page_into(&row, page)?;
     }
     Ok(())
 }

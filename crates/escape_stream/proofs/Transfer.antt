@@ -3,7 +3,7 @@ use Rattle.std.proofs.Common.{◌≡◌, ℕ, ◌+◌, List, ◌++◌, Option, l
 use Rattle.std.proofs.lemmas.List.{take_at, take_all}
 use Rattle.std.specs.Io.KnownBytes.{Appends, Consumes, Keeps}
 use Rattle.std.proofs.KnownBytes.{Appends-trans, Appends-kept, Consumes-trans}
-use Rattle.escape_stream.specs.Run.{AppendsBeginning}
+use Rattle.escape_stream.specs.Run.{AppendsFront}
 
 -- the front stayed, and the read filled what stands after it
 pub Consumes-more : (a b c : Option (List ℕ)) (xs ys : List ℕ) (f n : ℕ) → take f ys ≡ take f xs
@@ -19,7 +19,7 @@ Appends-more a b c xs f n before write =
     subst (Appends a c) (sym (take-add f n xs)) (Appends-trans a b c (take f xs) (take n (drop f xs)) before write)
 
 -- bytes were written, and then a beginning of the next ones: a beginning of all of them
-pub beginning-after : (a b c : Option (List ℕ)) (xs ys zs all : List ℕ) → all ≡ xs ++ (ys ++ zs) → Appends a b xs → AppendsBeginning b c ys → AppendsBeginning a c all
+pub beginning-after : (a b c : Option (List ℕ)) (xs ys zs all : List ℕ) → all ≡ xs ++ (ys ++ zs) → Appends a b xs → AppendsFront b c ys → AppendsFront a c all
 beginning-after a b c xs ys zs all is before more =
     let front = take more.count ys in
     let rest = drop more.count ys ++ zs in
@@ -34,7 +34,7 @@ beginning-after a b c xs ys zs all is before more =
     }
 
 -- all of them
-pub beginning-all : (a b c : Option (List ℕ)) (xs : List ℕ) → Appends a b xs → Keeps b c → AppendsBeginning a c xs
+pub beginning-all : (a b c : Option (List ℕ)) (xs : List ℕ) → Appends a b xs → Keeps b c → AppendsFront a c xs
 beginning-all a b c xs written kept = record {
   count = length xs;
   appended = subst (Appends a c) (sym (take_all (length xs) xs (le_refl (length xs)))) (Appends-kept a b c xs written kept);

@@ -8,7 +8,7 @@ use Rattle.escape_lanes.specs.Mode.{Mode}
 use Rattle.escape_simd.specs.Output.{inner, plain, quote_of}
 use Rattle.escape_simd.proofs.Pieces.{inner-piece}
 use Rattle.escape_simd.proofs.Whole.{plain-parts}
-use Rattle.escape_stream.specs.Run.{AppendsBeginning}
+use Rattle.escape_stream.specs.Run.{AppendsFront}
 use Rattle.escape_stream.proofs.Transfer.{beginning-after}
 
 -- what was written for a text up to a place, and then of its next piece
@@ -21,7 +21,7 @@ module _ (mode : Mode) (text : List ℕ) (at next : ℕ) (a b c : Option (List �
       (Appends-trans a b c (inner mode (take at text)) piece before more)
 
   -- a beginning of it
-  pub piece-beginning : AppendsBeginning b c piece → AppendsBeginning a c (inner mode text)
+  pub piece-beginning : AppendsFront b c piece → AppendsFront a c (inner mode text)
   piece-beginning more =
       let rest = inner mode (slice_range text next (length text)) in
       let all : inner mode text ≡ inner mode (take at text) ++ (piece ++ rest) =
@@ -38,15 +38,15 @@ module _ (mode : Mode) (text : List ℕ) (a b c : Option (List ℕ)) where
   parts = plain-parts mode text ∙ append_assoc (quote_of mode) (inner mode text) (quote_of mode)
 
   -- in its first quotation mark
-  pub ends-in_open : AppendsBeginning a c (quote_of mode) → AppendsBeginning a c (plain mode text)
+  pub ends-in_open : AppendsFront a c (quote_of mode) → AppendsFront a c (plain mode text)
   ends-in_open more = beginning-after a a c [] (quote_of mode) (inner mode text ++ quote_of mode) (plain mode text) parts (Appends-nil a) more
 
   -- between both
-  pub ends-in_text : Appends a b (quote_of mode) → AppendsBeginning b c (inner mode text) → AppendsBeginning a c (plain mode text)
+  pub ends-in_text : Appends a b (quote_of mode) → AppendsFront b c (inner mode text) → AppendsFront a c (plain mode text)
   ends-in_text before more = beginning-after a b c (quote_of mode) (inner mode text) (quote_of mode) (plain mode text) parts before more
 
   -- in its last one
-  pub ends-in_close : Appends a b (quote_of mode ++ inner mode text) → AppendsBeginning b c (quote_of mode) → AppendsBeginning a c (plain mode text)
+  pub ends-in_close : Appends a b (quote_of mode ++ inner mode text) → AppendsFront b c (quote_of mode) → AppendsFront a c (plain mode text)
   ends-in_close before more =
       beginning-after a b c (quote_of mode ++ inner mode text) (quote_of mode) [] (plain mode text)
       (plain-parts mode text ∙ ap (λ l. (quote_of mode ++ inner mode text) ++ l) (sym (append-nil (quote_of mode)))) before more

@@ -15,8 +15,8 @@ pub record WholeInput (unread rest : Option (List ℕ)) (P : List ℕ → Type 0
   pub read : IsReadWhole unread rest bytes
   pub fact : P bytes
 
--- a writer's bytes grew by a beginning of these bytes
-pub record AppendsBeginning (held grown : Option (List ℕ)) (bytes : List ℕ) : Type 0 where
+-- a writer's bytes grew by the first `count` of these bytes
+pub record AppendsFront (held grown : Option (List ℕ)) (bytes : List ℕ) : Type 0 where
   pub count : ℕ
   pub appended : Appends held grown (take count bytes)
 
@@ -28,4 +28,4 @@ pub record AppendsEscaped (mode : Mode) (held grown : Option (List ℕ)) (bytes 
 -- the bytes are text, and a writer's bytes grew by a beginning of its escaping
 pub record AppendsEscapedBeginning (mode : Mode) (held grown : Option (List ℕ)) (bytes : List ℕ) : Type 0 where
   pub is_text : IsUtf8 bytes
-  pub beginning : AppendsBeginning held grown (plain mode bytes)
+  pub beginning : AppendsFront held grown (plain mode bytes)

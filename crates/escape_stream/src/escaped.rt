@@ -3,7 +3,7 @@ ghost use Rattle.std.specs.Prelude.{◌⊎◌, ◌≡◌, ◌≢◌, ◌+◌, �
 ghost use Rattle.std.specs.Io.KnownBytes.{Appends, Keeps};
 ghost use Rattle.escape_simd.specs.Modes.{escaping};
 ghost use Rattle.escape_simd.specs.Output.{plain, inner, quote_of, bound};
-ghost use Rattle.escape_stream.specs.Run.{AppendsBeginning};
+ghost use Rattle.escape_stream.specs.Run.{AppendsFront};
 
 use crate::fault::ToolFault;
 use crate::write::{flush, write_all};
@@ -33,7 +33,7 @@ pub(crate) fn write_escaped<A: Allocator, W: Write>(
     ensures unchanged { IfErr result (λ fault. fault ≢ ToolFault.WriteFailed
         → Keeps (W.contents output.old) (W.contents output.new)) }
     ensures beginning { IsErrOf result ToolFault.WriteFailed
-        → AppendsBeginning (W.contents output.old) (W.contents output.new) (plain (escaping mode) text.now) }
+        → AppendsFront (W.contents output.old) (W.contents output.new) (plain (escaping mode) text.now) }
     ensures too_large { IsErrOf result ToolFault.TooLarge
         ↔ (usize.MAX < bound (escaping mode) (length text.now)) }
     ensures faults { IfErr result (λ fault. (fault ≡ ToolFault.TooLarge)
@@ -69,7 +69,7 @@ fn write_whole<W: Write>(
     ensures whole { OnOk result
         (Appends (W.contents output.old) (W.contents output.new) (plain (escaping mode) text.now)) }
     ensures beginning { OnErr result
-        (AppendsBeginning (W.contents output.old) (W.contents output.new) (plain (escaping mode) text.now)) }
+        (AppendsFront (W.contents output.old) (W.contents output.new) (plain (escaping mode) text.now)) }
     ensures fault { IfErr result (λ fault. fault ≡ ToolFault.WriteFailed) }
 {
     write_quote(mode, output)?;
@@ -83,7 +83,7 @@ fn write_quote<W: Write>(mode: Mode, output: &mut W) -> Result<(), ToolFault>
     ensures whole { OnOk result
         (Appends (W.contents output.old) (W.contents output.new) (quote_of (escaping mode))) }
     ensures beginning { OnErr result
-        (AppendsBeginning (W.contents output.old) (W.contents output.new) (quote_of (escaping mode))) }
+        (AppendsFront (W.contents output.old) (W.contents output.new) (quote_of (escaping mode))) }
     ensures fault { IfErr result (λ fault. fault ≡ ToolFault.WriteFailed) }
 {
     write_all(output, mode.quote().as_bytes())
@@ -103,7 +103,7 @@ fn write_pieces<W: Write>(
     ensures whole { OnOk result
         (Appends (W.contents output.old) (W.contents output.new) (inner (escaping mode) text.now)) }
     ensures beginning { OnErr result
-        (AppendsBeginning (W.contents output.old) (W.contents output.new) (inner (escaping mode) text.now)) }
+        (AppendsFront (W.contents output.old) (W.contents output.new) (inner (escaping mode) text.now)) }
     ensures fault { IfErr result (λ fault. fault ≡ ToolFault.WriteFailed) }
 {
     let mut at = 0;

@@ -1,7 +1,7 @@
 //! Writing bytes whole.
 ghost use Rattle.std.specs.Prelude.{◌≡◌, OnOk, IfErr, OnErr};
 ghost use Rattle.std.specs.Io.KnownBytes.{Appends, Keeps};
-ghost use Rattle.escape_stream.specs.Run.{AppendsBeginning};
+ghost use Rattle.escape_stream.specs.Run.{AppendsFront};
 
 use crate::fault::ToolFault;
 use std::io::Write;
@@ -15,7 +15,7 @@ pub(crate) fn write_all<W: Write>(output: &mut W, bytes: &[u8]) -> Result<(), To
     ensures whole { OnOk result
         (Appends (W.contents output.old) (W.contents output.new) bytes.now) }
     ensures beginning { OnErr result
-        (AppendsBeginning (W.contents output.old) (W.contents output.new) bytes.now) }
+        (AppendsFront (W.contents output.old) (W.contents output.new) bytes.now) }
     ensures fault { IfErr result (λ fault. fault ≡ ToolFault.WriteFailed) }
 {
     let mut written = 0;

@@ -1,6 +1,6 @@
 -- The laws of tags. Under `#[tactic(auto, using(escape_text::proofs::PageLaws::tags))]` a caller has the clause that the
 -- tags of a page are those of its template.
-use Rattle.std.proofs.Common.{◌≡◌, ◌≢◌, ℕ, ◌+◌, ◌<◌, false, List, [], ◌∷◌, ◌++◌, All, IsUtf8, Result, Ok, Err, OnOk, flat_map, length, take, get_or, refl, sym, ap, ◌∙◌, arith}
+use Rattle.std.proofs.Common.{◌≡◌, ◌≢◌, ℕ, ◌+◌, ◌<◌, false, List, [], ◌∷◌, ◌++◌, All, IsUtf8, Result, Ok, Err, OnOk, flat_map, length, take, get_or, refl, sym, ap, ◌∙◌, append_assoc, arith}
 use Rattle.std.specs.List.{join_by}
 use Rattle.std.proofs.lemmas.Bool.{cond-false}
 use Rattle.std.proofs.lemmas.List.Elements.{All-tail, filter-append}
@@ -50,6 +50,11 @@ page_tags (Text text ∷ parts) =
     tags_of-append (plain html text.now) (page_of parts) ∙ ap (λ xs. xs ++ tags_of (page_of parts)) (html_has_no_tags text.now) ∙ page_tags parts
 page_tags (Script text ∷ parts) =
     tags_of-append (plain script text.now) (page_of parts) ∙ ap (λ xs. xs ++ tags_of (page_of parts)) (script_has_no_tags text.now) ∙ page_tags parts
+
+-- the tags of what is appended, and then of what is appended after it
+pub tags_then : (old a now b new : List ℕ) → tags_of now ≡ tags_of (old ++ a) → tags_of new ≡ tags_of (now ++ b) → tags_of new ≡ tags_of (old ++ (a ++ b))
+tags_then old a now b new first second =
+    second ∙ tags_of-append now b ∙ ap (λ tags. tags ++ tags_of b) first ∙ sym (tags_of-append (old ++ a) b) ∙ ap tags_of (append_assoc old a b)
 
 -- one more of the pages that a loop appends, each with the same markup
 pub tags_more : {X : Type 0} (markup : List ℕ) (xs : List X) (i : ℕ) → i < length xs → (old now new : List ℕ)

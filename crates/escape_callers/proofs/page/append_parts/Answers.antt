@@ -1,14 +1,8 @@
-use Rattle.std.proofs.Common.{◌≡◌, ℕ, List, ◌++◌, flat_map, sym, ap, ◌∙◌, append_assoc}
-use Rattle.escape_text.specs.Page.{tags_of}
-use Rattle.escape_text.proofs.PageLaws.{tags_of-append}
+use Rattle.std.proofs.Common.{ℕ, List, ◌++◌, flat_map}
+use Rattle.escape_text.proofs.PageLaws.{tags_then}
 use Rattle.escape_callers.specs.declared.page.TheConstants.{BEFORE_TITLE, BEFORE_ROWS, BEFORE_USER, AFTER_USER}
 use Rattle.escape_callers.specs.Written.{row_markup}
 use Rattle.escape_callers.proofs.page.append_parts.Goals as goal
-
--- a part, and another one after it
-tags_then : (old a now b new : List ℕ) → tags_of now ≡ tags_of (old ++ a) → tags_of new ≡ tags_of (now ++ b) → tags_of new ≡ tags_of (old ++ (a ++ b))
-tags_then old a now b new first second =
-    second ∙ tags_of-append now b ∙ ap (λ tags. tags ++ tags_of b) first ∙ sym (tags_of-append (old ++ a) b) ∙ ap tags_of (append_assoc old a b)
 
 pub returns-clause-tags : goal.returns-clause-tags
 returns-clause-tags g c =

@@ -5,10 +5,12 @@ ghost use Rattle.std.specs.Prelude.{◌≤◌, length};
 
 mod modes;
 mod per_byte;
+mod records;
 mod texts;
 mod timing;
 
 use modes::{MODES, Mode};
+use records::measure_records;
 use std::env;
 use std::io::read_to_string;
 use std::test::Fail;
@@ -26,6 +28,10 @@ fn main(rt: HostRuntime) -> Result<(), Fail> {
     if is_word(&word, "lines") {
         return measure_lines(&rt);
     }
+    if is_word(&word, "records") {
+        let input = read_to_string(rt.alloc(), rt.reader())?;
+        return measure_records(&rt, &lines(rt.alloc(), &input)?);
+    }
     let measures = is_word(&word, "measure");
     if measures {
         println!(rt; "mode corpus   bytes          {COLUMNS}")?;
@@ -35,7 +41,7 @@ fn main(rt: HostRuntime) -> Result<(), Fail> {
     }
     if !measures {
         println!(rt; "every kernel and call writes what the loop writes")?;
-        println!(rt; "usage: escape_bench measure|lines")?;
+        println!(rt; "usage: escape_bench measure|lines|records")?;
     }
     Ok(())
 }

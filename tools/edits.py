@@ -23,9 +23,9 @@ def path_of(edit):
     return must_fail if must_fail.exists() else TOP / "tools/bodies" / f"{crate}.{name}.edit"
 
 
-def says_answer(path):
-    """Whether the edit says that an answer by hand alone refuses it."""
-    return "refused: by an answer\n" in path.read_text()
+def says_answer(edit):
+    """Whether tools/answers.list has the edit, named as CRATE/FUNCTION.NAME: an answer by hand alone refuses it."""
+    return edit in (TOP / "tools/answers.list").read_text().split()
 
 
 def edited(folder, path):

@@ -3,7 +3,7 @@ use Rattle.std.specs.Prelude.{◌≡◌, ℕ, ◌+◌, ◌*◌, ◌<◌, ◌≤�
 use Rattle.escape_lanes.specs.Mode.{Mode}
 use Rattle.escape_lanes.specs.Replacement.{needs_escape}
 use Rattle.escape_simd.specs.Formatted.{IsWrittenAt}
-use Rattle.escape_simd.specs.Output.{inner, quote_of}
+use Rattle.escape_simd.specs.Output.{inner, plain, quote_of}
 
 -- The first `next` bytes of a text were escaped to the bytes from `to` up to `end`: what is written and what is yet to be written
 -- stay one text. What lies `slack` bytes past all of it is left alone.
@@ -26,6 +26,10 @@ pub record IsFront (mode : Mode) (text : List ℕ) (at end : ℕ) : Type 0 where
 abbrev pub quote_if : Bool → Mode → List ℕ
 quote_if wanted mode = if wanted then quote_of mode else []
 
--- What stands for a text, and that quotation mark, stand in the bytes from `to` up to `end`.
+-- how many bytes a text of n bytes may need, with quotation marks or without
+abbrev pub room_for : Bool → Mode → ℕ → ℕ
+room_for quoted mode n = 6 * n + 32 + 3 * length (quote_if quoted mode)
+
+-- What stands for a text stands in the bytes from `to` up to `end`, between quotation marks or without.
 abbrev pub IsEscapedAt : ℕ → Mode → Bool → List ℕ → List ℕ → List ℕ → ℕ → ℕ → Type 0
-IsEscapedAt slack mode closed text old new to end = IsWrittenAt slack (inner mode text ++ quote_if closed mode) old new to end
+IsEscapedAt slack mode quoted text old new to end = IsWrittenAt slack (if quoted then plain mode text else inner mode text) old new to end

@@ -11,16 +11,15 @@ ghost use Rattle.escape_simd.specs.Kernels.{lanes_of};
 ghost use Rattle.escape_simd.specs.Laws.{AgreesWithEach};
 ghost use Rattle.escape_simd.specs.Modes.{escaping, mode_numbered};
 ghost use Rattle.escape_simd.specs.Output.{bound, quote_of, quoted};
-ghost use Rattle.escape_simd.specs.Parts.{IsEscapedAt};
+ghost use Rattle.escape_simd.specs.Parts.{IsEscapedAt, room_for};
 ghost use Rattle.escape_simd.specs.Script.{IsOnlyScript};
 ghost use Rattle.escape_simd.specs.Stretch.{reach};
 
 use crate::kernel::Kernel;
 use crate::mode::Mode;
 use crate::simd::{
-    HTML_MODE, JSON_MODE, SCRIPT_MODE, avx2, avx512, escape_to_slice, neon, quote, sse2, v128,
+    HTML_MODE, JSON_MODE, SCRIPT_MODE, avx2, avx512, escape_to_slice, neon, sse2, v128,
 };
-use escape_lanes::simd::target::Target;
 
 /// Writes the output of a text in the mode `mode` to the front of `dst`, with the kernel `kernel`. Returns the length
 /// of the output in bytes. The call allocates nothing and does not fail.
@@ -40,10 +39,11 @@ pub fn format_text(kernel: Kernel, mode: Mode, value: &str, dst: &mut [u8]) -> u
     ensures output { IsEscaping (escaping mode) value.now (take result dst.new) }
     ensures agree { AgreesWithEach (escaping mode) value.now result (take result dst.new) }
 {
+    let text = value.as_bytes();
     match mode {
-        Mode::Json => format_by::<{ JSON_MODE }>(kernel, value, dst),
-        Mode::Html => format_by::<{ HTML_MODE }>(kernel, value, dst),
-        Mode::Script => format_by::<{ SCRIPT_MODE }>(kernel, value, dst),
+        Mode::Json => escape_by::<{ JSON_MODE }, true>(kernel, text, dst),
+        Mode::Html => escape_by::<{ HTML_MODE }, true>(kernel, text, dst),
+        Mode::Script => escape_by::<{ SCRIPT_MODE }, true>(kernel, text, dst),
     }
 }
 
@@ -71,9 +71,9 @@ pub fn format_inner(kernel: Kernel, mode: Mode, value: &str, dst: &mut [u8]) -> 
 {
     let text = value.as_bytes();
     match mode {
-        Mode::Json => escape_by::<{ JSON_MODE }, false>(kernel, text, dst, 0),
-        Mode::Html => escape_by::<{ HTML_MODE }, false>(kernel, text, dst, 0),
-        Mode::Script => escape_by::<{ SCRIPT_MODE }, false>(kernel, text, dst, 0),
+        Mode::Json => escape_by::<{ JSON_MODE }, false>(kernel, text, dst),
+        Mode::Html => escape_by::<{ HTML_MODE }, false>(kernel, text, dst),
+        Mode::Script => escape_by::<{ SCRIPT_MODE }, false>(kernel, text, dst),
     }
 }
 
@@ -249,52 +249,41 @@ pub fn format_script_inner(kernel: Kernel, value: &str, dst: &mut [u8]) -> usize
     format_inner(kernel, Mode::Script, value, dst)
 }
 
-/// Writes the output for the text in the mode numbered `MODE` by the kernel.
-fn format_by<const MODE: u8>(kernel: Kernel, value: &str, dst: &mut [u8]) -> usize
-    requires { bound (mode_numbered MODE) (length value.now) ≤ length dst.old }
-    ensures { IsWritten (lanes_of kernel) (mode_numbered MODE) value.now dst.old dst.new result }
-{
-    let open = quote::<MODE, true, 32>(&mut Target::<32>::new(dst), 0);
-    escape_by::<MODE, true>(kernel, value.as_bytes(), dst, open)
-}
-
-/// Writes what stands for the text in the mode numbered `MODE` to `dst` from `to` on, by the kernel, and the last quotation
-/// mark if `CLOSED`. Returns the index after both.
+/// Writes what stands for the text in the mode numbered `MODE` to the front of `dst`, by the kernel, between quotation
+/// marks if `QUOTED`. Returns the index after it.
 ///
 /// The default kernel is compared first: so it takes one comparison, and no jump by a table.
-fn escape_by<const MODE: u8, const CLOSED: bool>(
+fn escape_by<const MODE: u8, const QUOTED: bool>(
     kernel: Kernel,
     text: &[u8],
     dst: &mut [u8],
-    to: usize,
 ) -> usize
-    requires { to + 6 * length text.now + 32 ≤ length dst.old }
-    ensures { IsEscapedAt (reach true (lanes_of kernel)) (mode_numbered MODE) CLOSED
-        text.now dst.old dst.new to result }
+    requires { room_for QUOTED (mode_numbered MODE) (length text.now) ≤ length dst.old }
+    ensures { IsEscapedAt (reach true (lanes_of kernel)) (mode_numbered MODE) QUOTED
+        text.now dst.old dst.new 0 result }
 {
     match kernel {
-        Kernel::Avx2 => escape_to_slice::<avx2::Simd256u, MODE, CLOSED, 32>(text, dst, to),
-        _ => escape_by_other::<MODE, CLOSED>(kernel, text, dst, to),
+        Kernel::Avx2 => escape_to_slice::<avx2::Simd256u, MODE, QUOTED, 32>(text, dst, 0),
+        _ => escape_by_other::<MODE, QUOTED>(kernel, text, dst),
     }
 }
 
 /// As [`escape_by`], by any kernel.
 #[inline(never)]
-fn escape_by_other<const MODE: u8, const CLOSED: bool>(
+fn escape_by_other<const MODE: u8, const QUOTED: bool>(
     kernel: Kernel,
     text: &[u8],
     dst: &mut [u8],
-    to: usize,
 ) -> usize
-    requires { to + 6 * length text.now + 32 ≤ length dst.old }
-    ensures { IsEscapedAt (reach true (lanes_of kernel)) (mode_numbered MODE) CLOSED
-        text.now dst.old dst.new to result }
+    requires { room_for QUOTED (mode_numbered MODE) (length text.now) ≤ length dst.old }
+    ensures { IsEscapedAt (reach true (lanes_of kernel)) (mode_numbered MODE) QUOTED
+        text.now dst.old dst.new 0 result }
 {
     match kernel {
-        Kernel::V128 => escape_to_slice::<v128::Simd128u, MODE, CLOSED, 16>(text, dst, to),
-        Kernel::Sse2 => escape_to_slice::<sse2::Simd128u, MODE, CLOSED, 16>(text, dst, to),
-        Kernel::Neon => escape_to_slice::<neon::Simd128u, MODE, CLOSED, 16>(text, dst, to),
-        Kernel::Avx2 => escape_to_slice::<avx2::Simd256u, MODE, CLOSED, 32>(text, dst, to),
-        Kernel::Avx512 => escape_to_slice::<avx512::Simd512u, MODE, CLOSED, 64>(text, dst, to),
+        Kernel::V128 => escape_to_slice::<v128::Simd128u, MODE, QUOTED, 16>(text, dst, 0),
+        Kernel::Sse2 => escape_to_slice::<sse2::Simd128u, MODE, QUOTED, 16>(text, dst, 0),
+        Kernel::Neon => escape_to_slice::<neon::Simd128u, MODE, QUOTED, 16>(text, dst, 0),
+        Kernel::Avx2 => escape_to_slice::<avx2::Simd256u, MODE, QUOTED, 32>(text, dst, 0),
+        Kernel::Avx512 => escape_to_slice::<avx512::Simd512u, MODE, QUOTED, 64>(text, dst, 0),
     }
 }

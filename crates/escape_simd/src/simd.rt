@@ -19,4 +19,4 @@ pub use escape_lanes::simd::mode::{HTML_MODE, JSON_MODE, SCRIPT_MODE};
 pub use escape_lanes::simd::{BitMask, Mask, Simd, bits, target};
 pub(crate) use escape_lanes::simd::{Classifier, LoadLast};
 pub(crate) use tail::{classify_pair, classify_short};
-pub(crate) use whole::{escape_flagged, escape_to_slice, quote};
+pub(crate) use whole::{escape_flagged, escape_to_slice};

@@ -4,7 +4,7 @@ ghost use Rattle.escape_simd.specs.Modes.{mode_numbered};
 ghost use Rattle.escape_simd.specs.Output.{inner, quote_of};
 ghost use Rattle.escape_simd.specs.Stretch.{AreTailMasks};
 
-use crate::output::push::{fill, push_all};
+use crate::output::push::{fill, push_all, push_quote};
 use crate::output::{N, V};
 use crate::simd::{escape_chunks, escape_flagged, escape_to_slice};
 use escape_lanes::simd::escape_mask::EscapeMask;
@@ -36,8 +36,9 @@ pub(super) fn append_flagged<const MODE: u8, A: Allocator>(
         return append_dense::<MODE, A>(text, first, last, dst);
     }
     push_all(dst, &[0; FEW_ZEROS]);
-    let end = escape_flagged::<V, MODE, true, N>(text, first, last, dst, old);
+    let end = escape_flagged::<V, MODE, false, N>(text, first, last, dst, old);
     dst.truncate(end);
+    push_quote::<MODE, A>(dst);
 }
 
 /// As [`append_flagged`], over as many zeros as the bound. It stands apart, so that few zeros save fewer registers.
@@ -55,8 +56,9 @@ fn append_dense<const MODE: u8, A: Allocator>(
 {
     let old = dst.len();
     fill(dst, old + 6 * text.len() + N);
-    let end = escape_flagged::<V, MODE, true, N>(text, first, last, dst, old);
+    let end = escape_flagged::<V, MODE, false, N>(text, first, last, dst, old);
     dst.truncate(end);
+    push_quote::<MODE, A>(dst);
 }
 
 /// Appends what stands for the text's bytes, and the last quotation mark. The vector is filled for a chunk or
@@ -76,6 +78,7 @@ pub(super) fn append_in_place<const MODE: u8, A: Allocator>(src: &[u8], dst: &mu
         end = next;
     }
     fill(dst, end + 6 * left.len() + N);
-    let close = escape_to_slice::<V, MODE, true, N>(left, dst, end);
+    let close = escape_to_slice::<V, MODE, false, N>(left, dst, end);
     dst.truncate(close);
+    push_quote::<MODE, A>(dst);
 }

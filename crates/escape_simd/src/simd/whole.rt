@@ -6,7 +6,7 @@ ghost use Rattle.escape_simd.specs.Headline.{IsOnlyOutput};
 ghost use Rattle.escape_simd.specs.Laws.{IsOfOneText};
 ghost use Rattle.escape_simd.specs.Modes.{mode_numbered};
 ghost use Rattle.escape_simd.specs.Output.{bound};
-ghost use Rattle.escape_simd.specs.Parts.{IsEscapedAt, quote_if};
+ghost use Rattle.escape_simd.specs.Parts.{IsEscapedAt, quote_if, room_for};
 ghost use Rattle.escape_simd.specs.Stretch.{AreTailMasks, HasRoom, reach};
 
 use crate::simd::Classifier;
@@ -59,33 +59,32 @@ pub(crate) fn format_string<V: Classifier<MODE, N>, const MODE: u8, const N: usi
     ensures headline { IsOnlyOutput (mode_numbered MODE) (take result dst.new) (chars value.now) }
     ensures equal_texts { IsOfOneText (mode_numbered MODE) value.now (take result dst.new) }
 {
-    let open = quote::<MODE, true, N>(&mut Target::<N>::new(dst), 0);
-    escape_to_slice::<V, MODE, true, N>(value.as_bytes(), dst, open)
+    escape_to_slice::<V, MODE, true, N>(value.as_bytes(), dst, 0)
 }
 
-/// Escapes the text to `dst` from `to` on, and if `CLOSED`, writes the last quotation mark. Returns the place
-/// after it.
+/// Escapes the text to `dst` from `to` on, between quotation marks if `QUOTED`. Returns the place after it.
 ///
-/// A clean short text needs no frame: the other two write that quotation mark themselves, and are tail calls.
+/// A clean short text needs no frame: the other two write what it wrote again, and are tail calls.
 #[inline(never)]
 pub(crate) fn escape_to_slice<
     V: Classifier<MODE, N>,
     const MODE: u8,
-    const CLOSED: bool,
+    const QUOTED: bool,
     const N: usize,
 >(text: &[u8], dst: &mut [u8], to: usize) -> usize
-    requires { to + 6 * length text.now + 32 ≤ length dst.old }
-    ensures { IsEscapedAt (reach true N) (mode_numbered MODE) CLOSED text.now dst.old dst.new to result }
+    requires { to + room_for QUOTED (mode_numbered MODE) (length text.now) ≤ length dst.old }
+    ensures { IsEscapedAt (reach true N) (mode_numbered MODE) QUOTED text.now dst.old dst.new to result }
 {
     // The empty text goes this way too, so the short way needs no test for it.
     if text.is_empty() || 2 * N <= text.len() {
-        return escape_long::<V, MODE, CLOSED, N>(text, dst, to);
+        return escape_long::<V, MODE, QUOTED, N>(text, dst, to);
     }
     let mut target = Target::<N>::new(dst);
-    match store_clean_tail::<V, MODE, N>(text, &mut target, to, &mut Ticks::new()) {
-        Ok(end) => quote::<MODE, CLOSED, N>(&mut target, end),
+    let open = quote::<MODE, QUOTED, N>(&mut target, to);
+    match store_clean_tail::<V, MODE, N>(text, &mut target, open, &mut Ticks::new()) {
+        Ok(close) => quote::<MODE, QUOTED, N>(&mut target, close),
         Err(masks) => {
-            escape_flagged::<V, MODE, CLOSED, N>(text, masks.first, masks.last, dst, to)
+            escape_flagged::<V, MODE, QUOTED, N>(text, masks.first, masks.last, dst, to)
         }
     }
 }
@@ -94,17 +93,18 @@ pub(crate) fn escape_to_slice<
 ///
 /// The target is made here: so the compiler keeps it in registers.
 #[inline(never)]
-fn escape_long<V: Classifier<MODE, N>, const MODE: u8, const CLOSED: bool, const N: usize>(
+fn escape_long<V: Classifier<MODE, N>, const MODE: u8, const QUOTED: bool, const N: usize>(
     text: &[u8],
     dst: &mut [u8],
     to: usize,
 ) -> usize
-    requires { to + 6 * length text.now + 32 ≤ length dst.old }
-    ensures { IsEscapedAt (reach true N) (mode_numbered MODE) CLOSED text.now dst.old dst.new to result }
+    requires { to + room_for QUOTED (mode_numbered MODE) (length text.now) ≤ length dst.old }
+    ensures { IsEscapedAt (reach true N) (mode_numbered MODE) QUOTED text.now dst.old dst.new to result }
 {
     let mut target = Target::<N>::new(dst);
-    let end = escape_bytes::<V, MODE, N>(text, &mut target, to, &mut Ticks::new());
-    quote::<MODE, CLOSED, N>(&mut target, end)
+    let open = quote::<MODE, QUOTED, N>(&mut target, to);
+    let close = escape_bytes::<V, MODE, N>(text, &mut target, open, &mut Ticks::new());
+    quote::<MODE, QUOTED, N>(&mut target, close)
 }
 
 /// As [`escape_to_slice`], of a text shorter than two vectors, by its masks.
@@ -114,22 +114,17 @@ fn escape_long<V: Classifier<MODE, N>, const MODE: u8, const CLOSED: bool, const
 pub(crate) fn escape_flagged<
     V: Classifier<MODE, N>,
     const MODE: u8,
-    const CLOSED: bool,
+    const QUOTED: bool,
     const N: usize,
 >(text: &[u8], first: EscapeMask<MODE>, last: EscapeMask<MODE>, dst: &mut [u8], to: usize) -> usize
     requires masks { AreTailMasks N text.now first last }
-    requires room { HasRoom (mode_numbered MODE) (reach true N)
-        text.now 0 (length text.now) to (length dst.old) }
-    ensures { IsEscapedAt (reach true N) (mode_numbered MODE) CLOSED text.now dst.old dst.new to result }
+    requires room { HasRoom (mode_numbered MODE) (reach true N) text.now 0 (length text.now)
+        (to + length (quote_if QUOTED (mode_numbered MODE))) (length dst.old) }
+    ensures { IsEscapedAt (reach true N) (mode_numbered MODE) QUOTED text.now dst.old dst.new to result }
 {
     let mut target = Target::<N>::new(dst);
-    let end = escape_flagged_tail::<V, MODE, N>(
-        text,
-        first,
-        last,
-        &mut target,
-        to,
-        &mut Ticks::new(),
-    );
-    quote::<MODE, CLOSED, N>(&mut target, end)
+    let open = quote::<MODE, QUOTED, N>(&mut target, to);
+    let mut ticks = Ticks::new();
+    let close = escape_flagged_tail::<V, MODE, N>(text, first, last, &mut target, open, &mut ticks);
+    quote::<MODE, QUOTED, N>(&mut target, close)
 }

@@ -1,13 +1,14 @@
 use Rattle.std.proofs.Common.{rules}
+use Rattle.escape_simd.specs.Kernels.{lanes_of}
 use Rattle.escape_simd.specs.Modes.{escaping}
-use Rattle.escape_simd.proofs.EscapingLemmas.{IsEscaping-output}
+use Rattle.escape_simd.proofs.Whole.{text_written}
 use Rattle.escape_simd.proofs.format.format_text.Goals as goal
 
-pub returns-in-Json-clause-output : goal.returns-in-Json-clause-output
-returns-in-Json-clause-output c = let e = c.format_by.ensures.exact in IsEscaping-output (escaping c.args.mode) _ _ (search (rules, e)) c.utf8.value
+pub returns-in-Json : goal.returns-in-Json
+returns-in-Json c = text_written {lanes = lanes_of c.args.kernel} {mode = escaping c.args.mode} c.as_bytes-text.ensures.value (search (rules, c.escape_by.ensures)) c.utf8.value
 
-pub returns-in-Html-clause-output : goal.returns-in-Html-clause-output
-returns-in-Html-clause-output c = let e = c.format_by-in-Html.ensures.exact in IsEscaping-output (escaping c.args.mode) _ _ (search (rules, e)) c.utf8.value
+pub returns-in-Html : goal.returns-in-Html
+returns-in-Html c = text_written {lanes = lanes_of c.args.kernel} {mode = escaping c.args.mode} c.as_bytes-text.ensures.value (search (rules, c.escape_by-in-Html.ensures)) c.utf8.value
 
-pub returns-in-Script-clause-output : goal.returns-in-Script-clause-output
-returns-in-Script-clause-output c = let e = c.format_by-in-Script.ensures.exact in IsEscaping-output (escaping c.args.mode) _ _ (search (rules, e)) c.utf8.value
+pub returns-in-Script : goal.returns-in-Script
+returns-in-Script c = text_written {lanes = lanes_of c.args.kernel} {mode = escaping c.args.mode} c.as_bytes-text.ensures.value (search (rules, c.escape_by-in-Script.ensures)) c.utf8.value

@@ -1,21 +1,19 @@
 use Rattle.escape_simd.proofs.Words.{ℕ, List, true, length, ap, subst, arith, bytes_of, mode_numbered, HasRoom, IsFormatted, reach}
-use Rattle.escape_simd.proofs.Stretches.{reach-bounds, room-six}
-use Rattle.escape_simd.proofs.Whole.{whole_formatted, bound-quotes, close-inside, quote-short}
+use Rattle.escape_simd.proofs.Stretches.{reach-bounds}
+use Rattle.escape_simd.proofs.Whole.{whole_formatted, bound-quotes, close-inside, whole-room}
 use Rattle.escape_simd.proofs.simd.whole.format.Goals as goal
 
 pub escape_bytes-close-requires : goal.escape_bytes-close-requires
 escape_bytes-close-requires g c =
-    let mode = mode_numbered g.row.MODE in let text : List ℕ = c.as_bytes.result.now in let o = c.quote-open.ensures in (
+    let mode = mode_numbered g.row.MODE in let o = c.quote-open.ensures in (
       omega arith,
-      room-six mode (reach true g.row.N) text 0 (length text) c.quote-open.result (length (bytes_of c.quote-open.new.target)) (omega arith) (omega arith)
-          (omega (arith, bound-quotes mode (length c.args.value.now), quote-short mode, ap length c.as_bytes.ensures.value, o.quoted.ends, o.same_slice.len, c.requires)),
+      whole-room mode (reach true g.row.N) c.as_bytes.result.now c.quote-open.result (length (bytes_of c.quote-open.new.target)) (omega (arith, bound-quotes mode (length c.args.value.now), ap length c.as_bytes.ensures.value, o.quoted.ends, o.same_slice.len, c.requires)),
     )
 
 pub quote-requires : goal.quote-requires
 quote-requires g c =
-    let mode = mode_numbered g.row.MODE in let text : List ℕ = c.as_bytes.result.now in let o = c.quote-open.ensures in
-    let room = room-six mode 32 text 0 (length text) c.quote-open.result (length (bytes_of c.quote-open.new.target)) (omega arith) (omega arith)
-    (omega (arith, bound-quotes mode (length c.args.value.now), quote-short mode, ap length c.as_bytes.ensures.value, o.quoted.ends, o.same_slice.len, c.requires)) in
+    let mode = mode_numbered g.row.MODE in let o = c.quote-open.ensures in
+    let room = whole-room mode 32 c.as_bytes.result.now c.quote-open.result (length (bytes_of c.quote-open.new.target)) (omega (arith, bound-quotes mode (length c.args.value.now), ap length c.as_bytes.ensures.value, o.quoted.ends, o.same_slice.len, c.requires)) in
     (omega arith, close-inside c.escape_bytes-close.ensures.stretch room (omega arith))
 
 pub returns : goal.returns

@@ -1,10 +1,11 @@
-use Rattle.escape_simd.proofs.Words.{ℕ, List, subst, rules, bytes_of, mode_numbered, quote_of, IsWritten, IsWrittenAt}
-use Rattle.escape_simd.proofs.Whole.{between-quotes, written-laws}
+use Rattle.escape_simd.proofs.Words.{length, ap, arith, rules, mode_numbered}
+use Rattle.escape_simd.proofs.Whole.{bound-quotes, text_written}
 use Rattle.escape_simd.proofs.simd.whole.format_string.Goals as goal
+
+pub escape_to_slice-requires : goal.escape_to_slice-requires
+escape_to_slice-requires g c = omega (arith, bound-quotes (mode_numbered g.row.MODE) (length c.args.value.now), ap length c.as_bytes.ensures.value, c.requires)
 
 pub returns : goal.returns
 returns g c =
-    let mode = mode_numbered g.row.MODE in
-    let before = subst (λ (xs : List ℕ). IsWrittenAt 0 (quote_of mode) xs (bytes_of c.quote-open.new.target) 0 c.quote-open.result) c.new.ensures.bytes c.quote-open.ensures.quoted in
-    let w = between-quotes {lanes = g.row.N} before (search (rules, c.escape_to_slice.ensures)) in
-    written-laws (subst (λ (xs : List ℕ). IsWritten g.row.N mode xs c.args.dst.now c.escape_to_slice.new.dst c.escape_to_slice.result) c.as_bytes.ensures.value w) c.utf8.value
+    let t = text_written {lanes = g.row.N} {mode = mode_numbered g.row.MODE} c.as_bytes.ensures.value (search (rules, c.escape_to_slice.ensures)) c.utf8.value in
+    record { written = t.written; headline = t.output.headline; equal_texts = t.output.equal_texts }

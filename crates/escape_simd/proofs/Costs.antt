@@ -7,9 +7,9 @@ use Rattle.escape_simd.proofs.Vectors.{advanced-ended, advanced-later, reached-t
 
 -- The bytes before `at` were passed, at a cost of a vector for each run and each whole vector. No write reached further past what the
 -- whole ends at than those of its last bytes may.
-pub record BodySoFar {N : ℕ} (mode : Mode) (src : List ℕ) (old new : Target N) (at to end ticks_old ticks_new : ℕ) : Type 0 where
-  pub stretch : Stretch mode (rest_length mode src at + reach true N) src old new (0, to) (at, end)
-  pub cost : Cost mode (at / N) 0 src (state old 0 to ticks_old) (state new at end ticks_new)
+pub record BodySoFar {N : ℕ} (mode : Mode) (src : List ℕ) (old new : State N) : Type 0 where
+  pub stretch : Stretch mode (rest_length mode src new.at + reach true N) src old.target new.target (old.at, old.to) (new.at, new.to)
+  pub cost : Cost mode (new.at / N) 0 src old new
 
 -- room in a target that is the same
 pub room-same : {N : ℕ} {mode : Mode} {slack : ℕ} {src : List ℕ} {old new : Target N} {at stop to : ℕ} → new ≡ old → HasRoom mode slack src at stop to (length (bytes_of old)) → HasRoom mode slack src at stop to (length (bytes_of new))
@@ -19,7 +19,7 @@ room-same is h = rw is h
 cost-onward : {N : ℕ} {mode : Mode} {src : List ℕ} {v1 v2 : ℕ} {old mid new : State N} (vectors : ℕ) → v1 + v2 ≤ vectors → Cost mode v1 0 src old mid → Cost mode v2 0 src mid new → Cost mode vectors 0 src old new
 cost-onward vectors few a b = omega arith
 
-module _ {N : ℕ} {mode : Mode} {src : List ℕ} {old mid : Target N} {at to end t0 t1 : ℕ} (so_far : BodySoFar mode src old mid at to end t0 t1) where
+module _ {N : ℕ} {mode : Mode} {src : List ℕ} {old mid : Target N} {at to end t0 t1 : ℕ} (so_far : BodySoFar mode src (state old 0 to t0) (state mid at end t1)) where
   -- there is room for what follows, where a vector more is there
   pub body-room : (stop : ℕ) → HasRoom mode (reach true N) src 0 (length src) to (length (bytes_of old)) → stop + N ≤ length src → HasRoom mode N src at stop end (length (bytes_of mid))
   body-room stop room inside = room-near stop N (omega (arith, inside)) (omega arith) (omega (arith, inside)) (room-on so_far.stretch room)
@@ -39,7 +39,7 @@ module _ {N : ℕ} {mode : Mode} {src : List ℕ} {old mid : Target N} {at to en
   body-rest room few = (omega (arith, few, last-long), room-later last (length last) (length last) last-is last-long (room-on so_far.stretch room) refl)
 
   -- so many vectors were passed
-  pub body-on : {new : Target N} {next close t2 : ℕ} (vectors : ℕ) → 16 ≤ N → at + (vectors + 1) * N ≤ length src → (vectors + 1) * N ≡ vectors * N + N → (at / N + vectors) * N ≡ at / N * N + vectors * N → Advanced mode N (at + vectors * N) vectors 0 src (state mid at end t1) (state new next close t2) → BodySoFar mode src old new next to close t0 t2
+  pub body-on : {new : Target N} {next close t2 : ℕ} (vectors : ℕ) → 16 ≤ N → at + (vectors + 1) * N ≤ length src → (vectors + 1) * N ≡ vectors * N + N → (at / N + vectors) * N ≡ at / N * N + vectors * N → Advanced mode N (at + vectors * N) vectors 0 src (state mid at end t1) (state new next close t2) → BodySoFar mode src (state old 0 to t0) (state new next close t2)
   body-on {new} {next} {close} {t2} vectors several inside more whole e =
       let r = rest-bounds mode src next in let far = (reach-bounds true N several).0 in let l = e.stretch.limit in let p = e.reached in
       let w = div-mul-le_self at N in

@@ -1,5 +1,5 @@
 -- A text that is appended: from registers, or part by part in place.
-use Rattle.escape_simd.proofs.Words.{◌≡◌, ℕ, ◌+◌, ◌-◌, ◌<◌, ◌≤◌, Bool, true, false, cond, List, [], ◌++◌, length, length-drop, take, drop, slice_range, replicate, get_or, sym, ap, ◌∙◌, append_assoc, arith, count_by, take-add, take-append-add, take-append_seam, nat_tests, append-nil, take-append-drop, take-take, take_all, get_or-le-sum_by, MaskOf, IsClassified, is_clear, ◌*◌, ◌&&◌, and_parts, Mode, bytes_of, Target, inner, quote_of, IsFront, IsPartAt, AreTailMasks, reach}
+use Rattle.escape_simd.proofs.Words.{◌≡◌, ℕ, ◌+◌, ◌-◌, ◌<◌, ◌≤◌, Bool, true, false, cond, List, [], ◌++◌, length, length-drop, take, drop, slice_range, replicate, get_or, sym, ap, ◌∙◌, append_assoc, arith, count_by, take-add, take-append-add, take-append_seam, nat_tests, append-nil, take-append-drop, take-take, take_all, get_or-le-sum_by, MaskOf, IsClassified, is_clear, ◌*◌, ◌&&◌, and_parts, Mode, bytes_of, Target, inner, quote_of, IsFront, IsPartAt, AreTailMasks, reach, state}
 use Rattle.escape_simd.proofs.Costs.{BodySoFar}
 use Rattle.escape_simd.proofs.Lanes.{CleanFrom, clean-list, mask-clean}
 use Rattle.escape_simd.proofs.Last.{tail-clean_back, tail-clean_front}
@@ -17,7 +17,7 @@ pub vector-over : (old src before : List ℕ) (len at n e : ℕ) → len ≡ len
 vector-over old src before len at n e is on so_far = grind (arith, take-append-add, take-take, append_assoc, take-add)
 
 -- what was escaped of a text to a target, as its bytes have it
-pub part-escaped : {N : ℕ} {mode : Mode} {src bytes : List ℕ} {old new : Target N} {at to end t0 t1 : ℕ} → BodySoFar mode src old new at to end t0 t1 → bytes_of old ≡ bytes → end ≤ length bytes → 0 < at
+pub part-escaped : {N : ℕ} {mode : Mode} {src bytes : List ℕ} {old new : Target N} {at to end t0 t1 : ℕ} → BodySoFar mode src (state old 0 to t0) (state new at end t1) → bytes_of old ≡ bytes → end ≤ length bytes → 0 < at
     → IsPartAt mode (reach true N) src bytes (bytes_of new) at to end
 part-escaped {N} {mode} {src} {bytes} {old} {new} {at} {to} {end} so_far is fits on =
     let s = so_far.stretch in let most = stretch-on s in

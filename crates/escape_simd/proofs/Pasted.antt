@@ -1,5 +1,5 @@
 -- A vector escaped in blocks, block after block.
-use Rattle.escape_simd.proofs.Words.{◌≡◌, ℕ, ◌+◌, ◌-◌, ◌*◌, ◌/◌, ◌<◌, ◌≤◌, min, Bool, true, false, cond, not, ◌&&◌, List, ◌++◌, length, take, drop, map, replicate, nat_eq, get_or, refl, sym, ap, ap₂, subst, ◌∙◌, arith, append_assoc, length-append, length-take-le, length-drop, drop-append-le, drop-map, take-append-le, replicate-append-replicate, paste, nat_tests, drop-drop, length-map, take-map, take-take, get_or-take, get_or-drop, get_or_past, bits_of, clear_first, length-bits_of, IsMaskOf, MaskOf, lanes_of_mask, mask_from, whole_mask, Mode, needs_escape, bytes_of, stored_of, Target, shortened, flag_count, flagged_blocks, put_apart, IsBlock, IsBlockAt, Stretch, HasBlocks, HasRoom, length-replicate, count_by-le-length}
+use Rattle.escape_simd.proofs.Words.{◌≡◌, ℕ, ◌+◌, ◌-◌, ◌*◌, ◌/◌, ◌<◌, ◌≤◌, min, Bool, true, false, cond, not, ◌&&◌, List, ◌++◌, length, take, drop, map, replicate, nat_eq, get_or, refl, sym, ap, ap₂, subst, ◌∙◌, arith, append_assoc, length-append, length-take-le, length-drop, drop-append-le, drop-map, take-append-le, replicate-append-replicate, paste, nat_tests, drop-drop, length-map, take-map, take-take, get_or-take, get_or-drop, get_or_past, bits_of, clear_first, length-bits_of, IsMaskOf, MaskOf, lanes_of_mask, mask_from, whole_mask, Mode, needs_escape, bytes_of, stored_of, Target, shortened, flag_count, flagged_blocks, put_apart, IsBlock, IsBlockAt, State, Stretch, HasBlocks, HasRoom, state, length-replicate, count_by-le-length}
 use Rattle.escape_simd.proofs.Lanes.{HoldsFlags, mask-holds, mask-left}
 use Rattle.escape_simd.proofs.RestSteps.{rest-between}
 use Rattle.escape_simd.proofs.PutApart.{AreMarked, count-none, blocks-none, blocks-one, blocks-onward, length-put_apart, marked-apart}
@@ -81,20 +81,17 @@ paid-lanes mode left same = ap₂ (λ bytes from. lanes_of_mask mode (mask_from 
 
 -- Block after block
 
--- Of the text's `valid` bytes at `at`, with these flags, those of so many blocks were escaped, and the blocks end at `end`. The last
--- one may have more bytes. A block without a flag counts as a vector.
-pub record AreDone {N : ℕ} (mode : Mode) (src : List ℕ) (bits : List Bool) (old new : Target N) (at valid to end blocks : ℕ) : Type 0 where
-  pub stretch : Stretch mode 16 src old new (at, to) (at + min (8 * blocks) valid, end - (8 * blocks - valid))
-  pub far : to + 8 * blocks ≤ end
-  pub stored : stored_of new + flagged_blocks blocks bits ≡ stored_of old + blocks
+-- Of a text's `valid` bytes, with these flags, those of so many blocks were escaped, and the blocks end at the new state's places. The
+-- last one may have more bytes. A block without a flag counts as a vector. It was classified, but for the first, for which the
+-- vector's own classification is unused until then.
+pub record BlocksSoFar {N : ℕ} (mode : Mode) (src : List ℕ) (bits : List Bool) (valid blocks : ℕ) (unused : Bool) (old new : State N) : Type 0 where
+  pub stretch : Stretch mode 16 src old.target new.target (old.at, old.to) (min new.at (old.at + valid), new.to - (new.at - (old.at + valid)))
+  pub far : old.to + 8 * blocks ≤ new.to
+  pub stored : stored_of new.target + flagged_blocks blocks bits ≡ stored_of old.target + blocks
   pub few : blocks ≤ (valid + 7) / 8
-
--- The same, with whether the vector's own classification is still unused. Each further block without a flag was classified.
-pub record BlocksSoFar {N : ℕ} (mode : Mode) (src : List ℕ) (bits : List Bool) (old new : Target N) (at valid to end blocks : ℕ) (unused : Bool) (ticks_old ticks_new : ℕ) : Type 0 where
-  pub done : AreDone mode src bits old new at valid to end blocks
-  pub none : unused ≡ true → stored_of new ≡ stored_of old
-  pub some : unused ≡ false → stored_of old + 1 ≤ stored_of new
-  pub counted : ticks_new + cond unused 0 1 + stored_of old ≡ ticks_old + stored_of new
+  pub none : unused ≡ true → stored_of new.target ≡ stored_of old.target
+  pub some : unused ≡ false → stored_of old.target + 1 ≤ stored_of new.target
+  pub counted : new.ticks + cond unused 0 1 + stored_of old.target ≡ old.ticks + stored_of new.target
 
 module _ {mode : Mode} {src : List ℕ} {at valid to size : ℕ} {whole : MaskOf} (is : whole ≡ whole_mask (take valid (drop at src))) (h : HasBlocks mode src at valid to size) where
   -- the flags
@@ -128,13 +125,16 @@ module _ {mode : Mode} {src : List ℕ} {at valid to size : ℕ} {whole : MaskOf
         ∙ take-append-le 8 (drop (8 * block) f ++ replicate (64 - length whole.bytes) false) (replicate (8 * block) false) wide
         ∙ ap (take 8) (sym part) ∙ ap (λ n. take 8 (drop (8 * block) (clear_first n (f ++ replicate (64 - length whole.bytes) false)))) (sym first)
 
-    module _ {N : ℕ} {old mid : Target N} {p : ℕ} (size_is : size ≡ length (bytes_of old)) (d : AreDone mode src all old mid at valid to p block) where
+    module _ {N : ℕ} {old mid : Target N} {p t0 t1 : ℕ} {unused : Bool} (size_is : size ≡ length (bytes_of old)) (b : BlocksSoFar mode src all valid block unused (state old at to t0) (state mid (at + 8 * block) p t1)) where
+      -- all of it is a stretch
+      left-stretch : Stretch mode 16 src old mid (at, to) (at + 8 * block, p)
+      left-stretch = ended b.stretch (omega (arith, more)) (omega (arith, more))
+
       -- it can be escaped by blocks
       pub left-blocks : HasBlocks mode src (at + 8 * block) (length mask.bytes) p (length (bytes_of mid))
       left-blocks =
-          let here : at + min (8 * block) valid ≡ at + 8 * block = omega (arith, more) in let end : p - (8 * block - valid) ≡ p = omega (arith, more) in
           let stop : at + valid ≡ at + 8 * block + length mask.bytes = omega (arith, left-long, more) in
-          let room = subst (λ i. HasRoom mode 16 src (at + 8 * block) i p (length (bytes_of mid))) stop (room-on (ended d.stretch here end) (subst (λ n. HasRoom mode 16 src at (at + valid) to n) size_is h.room)) in
+          let room = subst (λ i. HasRoom mode 16 src (at + 8 * block) i p (length (bytes_of mid))) stop (room-on left-stretch (subst (λ n. HasRoom mode 16 src at (at + valid) to n) size_is h.room)) in
           record {
             some = omega (arith, left-long, more);
             short = λ k few needed. let e : at + (8 * block + k) ≡ at + 8 * block + k = omega arith in rw e at (h.short (8 * block + k) (omega (arith, few, left-long)) (rw (sym e) at needed));
@@ -145,35 +145,24 @@ module _ {mode : Mode} {src : List ℕ} {at valid to size : ℕ} {whole : MaskOf
           }
 
       -- with it one more is done
-      done-block : {new : Target N} {end : ℕ} → IsBlockAt mode mask src mid new (at + 8 * block) p end → AreDone mode src all old new at valid to end (block + 1)
-      done-block e =
-          let next : at + 8 * block + min 8 (length mask.bytes) ≡ at + min (8 * (block + 1)) valid = omega (arith, more, left-long) in
-          let count = blocks-onward block 1 all in let one = blocks-one (drop (8 * block) all) in let here = blocks-one (lanes_of_mask mode mask) in
-          record {
-            stretch = ended (onward_at d.stretch e.stretch (omega (arith, more)) (omega (arith, more))) next (omega (arith, left-long, more, e.after));
-            far = omega (arith, d.far, e.after);
-            stored = omega (arith, d.stored, e.stored, count, one, here, ap flag_count left-eight);
+      pub blocks-next : {new : Target N} {end t2 : ℕ} {unused2 : Bool} → IsBlockAt mode mask src mid new (at + 8 * block) p end → unused2 ≡ (unused && not (nat_eq (flag_count (take 8 (lanes_of_mask mode mask))) 0))
+          → t2 ≡ t1 + cond (not unused && nat_eq (flag_count (take 8 (lanes_of_mask mode mask))) 0) 1 0 → BlocksSoFar mode src all valid (block + 1) unused2 (state old at to t0) (state new (at + 8 * (block + 1)) end t2)
+      blocks-next e u t =
+          let stored = e.stored in let one = blocks-one (lanes_of_mask mode mask) in let first = blocks-one (drop (8 * block) all) in record {
+            stretch = ended (onward_at left-stretch e.stretch refl refl) (omega (arith, more, left-long)) (omega (arith, left-long, more, e.after));
+            far = omega (arith, b.far, e.after);
+            stored = omega (arith, b.stored, stored, blocks-onward block 1 all, first, one, ap flag_count left-eight);
             few = omega (arith, more);
+            none = grind (arith, nat_tests, stored, one, u, t, b.none, b.some, b.counted);
+            some = grind (arith, nat_tests, stored, one, u, t, b.none, b.some, b.counted);
+            counted = grind (arith, nat_tests, stored, one, u, t, b.none, b.some, b.counted);
           }
 
-  -- with its classification
-  pub blocks-next : {N : ℕ} {old mid new : Target N} {p block end ticks_old ticks ticks2 : ℕ} {mask : MaskOf} {unused unused2 : Bool} → size ≡ length (bytes_of old) → BlocksSoFar mode src all old mid at valid to p block unused ticks_old ticks → 8 * block < valid
-      → IsMaskOf mask (drop (8 * block) whole.bytes) → IsBlockAt mode mask src mid new (at + 8 * block) p end → unused2 ≡ (unused && not (nat_eq (flag_count (take 8 (lanes_of_mask mode mask))) 0))
-      → ticks2 ≡ ticks + cond (not unused && nat_eq (flag_count (take 8 (lanes_of_mask mode mask))) 0) 1 0 → BlocksSoFar mode src all old new at valid to end (block + 1) unused2 ticks_old ticks2
-  blocks-next {mask = mask} size_is b more left e u t =
-      let stored = e.stored in let one = blocks-one (lanes_of_mask mode mask) in
-      record {
-        done = done-block _ more left size_is b.done e;
-        none = grind (arith, nat_tests, stored, one, u, t, b.none, b.some, b.counted);
-        some = grind (arith, nat_tests, stored, one, u, t, b.none, b.some, b.counted);
-        counted = grind (arith, nat_tests, stored, one, u, t, b.none, b.some, b.counted);
-      }
-
   -- the last block
-  module _ {N : ℕ} {old new : Target N} {end blocks : ℕ} (d : AreDone mode src all old new at valid to end blocks) (over : valid ≤ 8 * blocks) where
+  module _ {N : ℕ} {old new : Target N} {end blocks t0 t1 : ℕ} {unused : Bool} (b : BlocksSoFar mode src all valid blocks unused (state old at to t0) (state new (at + 8 * blocks) end t1)) (over : valid ≤ 8 * blocks) where
     -- all of it is a stretch
     pub done-stretch : Stretch mode 16 src old new (at, to) (at + valid, end - (8 * blocks - valid))
-    done-stretch = grind (arith, nat_tests, ended)
+    done-stretch = ended b.stretch (omega (arith, over)) (omega (arith, over))
 
     -- no block after it has a flag
     pub done-stored : stored_of new + flagged_blocks 8 all ≡ stored_of old + (valid + 7) / 8
@@ -181,9 +170,9 @@ module _ {mode : Mode} {src : List ℕ} {at valid to size : ℕ} {whole : MaskOf
         let left : List Bool = drop (8 * blocks) all in
         let held = mask-holds mode src at valid at whole (ap (λ m. m.bytes) is) (omega (arith, h.inside)) (omega (arith, ap (λ m. m.from) is)) in
         let none = count-none left (λ i s. absurd (let t = held.set (8 * blocks + i) (sym (get_or-drop (8 * blocks) all i false) ∙ s) in omega (arith, t, over))) in
-        let eight : blocks + (8 - blocks) ≡ 8 = omega (arith, d.few, h.few) in
-        omega (arith, d.stored, d.few, over, blocks-none (8 - blocks) left none, rw eight at (blocks-onward blocks (8 - blocks) all))
+        let eight : blocks + (8 - blocks) ≡ 8 = omega (arith, b.few, h.few) in
+        omega (arith, b.stored, b.few, over, blocks-none (8 - blocks) left none, rw eight at (blocks-onward blocks (8 - blocks) all))
 
     -- each of them but the first was classified
-    pub done-ticks : {unused : Bool} {ticks_old ticks_new : ℕ} → BlocksSoFar mode src all old new at valid to end blocks unused ticks_old ticks_new → ticks_new ≡ ticks_old + ((valid + 7) / 8 - (flagged_blocks 8 all + 1))
-    done-ticks b = grind (arith, nat_tests, b.counted, b.some, b.none, done-stored)
+    pub done-ticks : t1 ≡ t0 + ((valid + 7) / 8 - (flagged_blocks 8 all + 1))
+    done-ticks = grind (arith, nat_tests, b.counted, b.some, b.none, done-stored)

@@ -1,5 +1,5 @@
 -- How a run of escapes goes on, and how far a mask tells of one.
-use Rattle.escape_simd.proofs.Words.{◌≡◌, ℕ, ◌+◌, ◌<◌, ◌≤◌, inl, inr, Bool, true, false, true≢false, List, [], ◌∷◌, length, drop, get_or, refl, ap, sym, ◌∙◌, arith, length-bits_of, bits_of, bytes_of, first_set, none_set, MaskOf, lanes_of_mask, mask_from, Mode, needs_escape, entry_count, escaped_count, Target, source_len, run_count_after, run_end, run_reach, EscapedRun, HasRunRoom, IsFlaggedAt, IsRunAt, IsRunEnd, Stretch, stored_of}
+use Rattle.escape_simd.proofs.Words.{◌≡◌, ℕ, ◌+◌, ◌<◌, ◌≤◌, inl, inr, Bool, true, false, List, length, drop, get_or, refl, ap, sym, ◌∙◌, arith, bytes_of, first_set, none_set, MaskOf, lanes_of_mask, mask_from, Mode, needs_escape, entry_count, escaped_count, Target, source_len, run_count_after, run_end, run_reach, EscapedRun, HasRunRoom, IsFlaggedAt, IsRunAt, IsRunEnd, Stretch, stored_of}
 use Rattle.escape_simd.proofs.Escapes.{entry-counts, passed-after}
 use Rattle.escape_simd.proofs.ReplacementLemmas.{length-replacement}
 use Rattle.escape_simd.proofs.Texts.{escaped-here, first-here, next-here, one≤source_len, run_end-here}

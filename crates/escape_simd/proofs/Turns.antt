@@ -7,13 +7,12 @@ use Rattle.escape_simd.proofs.RestSteps.{clean_escaped, clean_inner, clean_rest,
 use Rattle.escape_simd.proofs.RunsOfFlags.{run-room}
 use Rattle.escape_simd.proofs.Lanes.{CleanFrom, HoldsFlags, cleared-later, first-set, first_set-here, held-first, held-none, mask-holds}
 
--- The bytes of a vector from `next` on are left, with what is written at `to`. The mask tells of these, which were stored by it.
-pub record IsLeftAt (mode : Mode) (N slack : ℕ) (src : List ℕ) (valid next to size : ℕ) (mask : MaskOf) : Type 0 where
+-- The bytes of a vector from `next` on are left. The mask tells of these, which were stored by it.
+pub record IsLeftAt (N : ℕ) (src : List ℕ) (valid next : ℕ) (mask : MaskOf) : Type 0 where
   pub told : mask ≡ mask_from (take valid src) next 1
   pub few : valid ≤ N
   pub inside : valid + N ≤ length src
   pub before : next < valid
-  pub room : HasRoom mode slack src next valid to size
 
 -- The last clean bytes of a vector were passed, after a run of escapes.
 abbrev pub IsFinished : {N : ℕ} → Mode → ℕ → List ℕ → ℕ → State N → State N → Type 0
@@ -25,12 +24,12 @@ IsFinished mode slack src border old new = record {
 }
 
 -- its lanes
-left-held : {mode : Mode} {N slack : ℕ} {src : List ℕ} {valid next to size : ℕ} {mask : MaskOf} → IsLeftAt mode N slack src valid next to size mask → HoldsFlags mode src 0 valid next (lanes_of_mask mode mask)
-left-held {mode} {src = src} {valid = valid} {next = next} {mask = mask} l = mask-holds mode src 0 valid next mask (ap (λ m. m.bytes) l.told) (omega (arith, l.inside)) (omega (arith, ap (λ m. m.from) l.told))
+left-held : {N : ℕ} (mode : Mode) {src : List ℕ} {valid next : ℕ} {mask : MaskOf} → IsLeftAt N src valid next mask → HoldsFlags mode src 0 valid next (lanes_of_mask mode mask)
+left-held mode {src = src} {valid = valid} {next = next} {mask = mask} l = mask-holds mode src 0 valid next mask (ap (λ m. m.bytes) l.told) (omega (arith, l.inside)) (omega (arith, ap (λ m. m.from) l.told))
 
 -- none is set before
-left-later : {mode : Mode} {N slack : ℕ} {src : List ℕ} {valid next to size : ℕ} {mask : MaskOf} → IsLeftAt mode N slack src valid next to size mask → (k : ℕ) → get_or (lanes_of_mask mode mask) k false ≡ true → next ≤ k
-left-later {mode} {src = src} {valid = valid} {next = next} {mask = mask} l k s = omega (arith, cleared-later mask.from _ k s, ap (λ m. m.from) l.told)
+left-later : {N : ℕ} (mode : Mode) {src : List ℕ} {valid next : ℕ} {mask : MaskOf} → IsLeftAt N src valid next mask → (k : ℕ) → get_or (lanes_of_mask mode mask) k false ≡ true → next ≤ k
+left-later mode {mask = mask} l k s = omega (arith, cleared-later mask.from _ k s, ap (λ m. m.from) l.told)
 
 -- the text's clean bytes from `from` on, as far as the border, stand in a target from `to` on
 abbrev pub CleanAhead : {N : ℕ} → Mode → List ℕ → Target N → ℕ → ℕ → ℕ → Type 0
@@ -39,14 +38,15 @@ CleanAhead mode src target from border to = (count : ℕ) → from + count ≤ b
 
 -- The bytes up to `next` were passed, of a text's first vector whose mask now tells of those from there on. Of the vectors stored all
 -- but the first were classified.
-pub record TurnsSoFar {N : ℕ} (mode : Mode) (slack : ℕ) (src : List ℕ) (old new : Target N) (valid next to end : ℕ) (mask : MaskOf) (ticks_old ticks_new : ℕ) : Type 0 where
+pub record TurnsSoFar {N : ℕ} (mode : Mode) (slack : ℕ) (src : List ℕ) (valid : ℕ) (mask : MaskOf) (old new : State N) : Type 0 where
   pub eight : 8 ≤ slack
-  pub left : IsLeftAt mode N slack src valid next end (length (bytes_of new)) mask
+  pub left : IsLeftAt N src valid new.at mask
+  pub room : HasRoom mode slack src new.at valid new.to (length (bytes_of new.target))
   pub some : is_clear mode mask ≡ false
-  pub stretch : Stretch mode (valid - next + slack) src old new (0, to) (next, end)
-  pub ahead : CleanAhead mode src new next valid end
-  pub stored : stored_of new + run_count mode (drop next src) ≤ stored_of old + run_count mode src + 1
-  pub classified : ticks_new + stored_of old + 1 ≡ ticks_old + stored_of new
+  pub stretch : Stretch mode (valid - new.at + slack) src old.target new.target (old.at, old.to) (new.at, new.to)
+  pub ahead : CleanAhead mode src new.target new.at valid new.to
+  pub stored : stored_of new.target + run_count mode (drop new.at src) ≤ stored_of old.target + run_count mode (drop old.at src) + 1
+  pub classified : new.ticks + stored_of old.target + 1 ≡ old.ticks + stored_of new.target
 
 -- where a row of bytes stands in a target, its clean front does
 pub ahead-front : {N : ℕ} (mode : Mode) (src : List ℕ) (target : Target N) (from border to left : ℕ) → border ≤ from + left
@@ -68,7 +68,7 @@ ahead-runs mode src from next forward clean = sym (clean_runs mode src from next
 
 -- the turns begin
 pub turns-begin : {N : ℕ} {mode : Mode} {slack : ℕ} {src : List ℕ} {old new : Target N} {valid to : ℕ} {mask : MaskOf} {ticks : ℕ} → 8 ≤ slack → mask ≡ mask_from (take valid src) 0 1 → IsVectorAt mode N slack src 0 valid to (length (bytes_of old))
-    → is_clear mode mask ≡ false → IsStored slack src old new 0 valid to → TurnsSoFar mode slack src old new valid 0 to to mask ticks ticks
+    → is_clear mode mask ≡ false → IsStored slack src old new 0 valid to → TurnsSoFar mode slack src valid mask (state old 0 to ticks) (state new 0 to ticks)
 turns-begin {mode = mode} {slack = slack} {src = src} {old = old} {new = new} {valid = valid} {to = to} {mask = mask} eight is v some s =
     let held = mask-holds mode src 0 valid 0 mask (ap (λ m. m.bytes) is) (omega (arith, v.inside)) (omega (arith, ap (λ m. m.from) is)) in
     let first = (first-set mode src 0 valid 0 (lanes_of_mask mode mask) held some).0 in let ahead = ahead-front mode src new 0 valid to valid (omega arith) s.ahead in
@@ -77,25 +77,25 @@ turns-begin {mode = mode} {slack = slack} {src = src} {old = old} {new = new} {v
     grind (arith, is)
 
 -- what is known of the first flagged byte of those that are left
-first-left : {N : ℕ} {mode : Mode} {slack : ℕ} {src : List ℕ} {valid next to size flagged : ℕ} {mask : MaskOf} → IsLeftAt mode N slack src valid next to size mask → is_clear mode mask ≡ false → flagged ≡ first_set (lanes_of_mask mode mask)
+first-left : {N : ℕ} (mode : Mode) {src : List ℕ} {valid next flagged : ℕ} {mask : MaskOf} → IsLeftAt N src valid next mask → is_clear mode mask ≡ false → flagged ≡ first_set (lanes_of_mask mode mask)
     → IsFlaggedAt mode src flagged × (next ≤ flagged) × (flagged < valid) × CleanFrom mode src next flagged
-first-left {mode = mode} {src = src} {valid = valid} {next = next} {flagged = flagged} {mask = mask} l some is =
-    let h = left-held l in let later = left-later l (first_set (lanes_of_mask mode mask)) (first_set-here (lanes_of_mask mode mask) some) in
+first-left mode {src = src} {valid = valid} {next = next} {flagged = flagged} {mask = mask} l some is =
+    let h = left-held mode l in let later = left-later mode l (first_set (lanes_of_mask mode mask)) (first_set-here (lanes_of_mask mode mask) some) in
     let inside = l.inside in grind (arith, first-set, held-first)
 
 -- one turn: the first byte that is flagged is escaped
 module _ {N : ℕ} {mode : Mode} {slack : ℕ} {src : List ℕ} {old mid : Target N} {valid next to end flagged : ℕ} {mask : MaskOf} {ticks_old ticks_new : ℕ}
-    (so_far : TurnsSoFar mode slack src old mid valid next to end mask ticks_old ticks_new) (is : flagged ≡ first_set (lanes_of_mask mode mask)) where
+    (so_far : TurnsSoFar mode slack src valid mask (state old 0 to ticks_old) (state mid next end ticks_new)) (is : flagged ≡ first_set (lanes_of_mask mode mask)) where
   -- it is one of those left
   pub turn-place : IsFlaggedAt mode src flagged × (next ≤ flagged) × (flagged < valid) × CleanFrom mode src next flagged
-  turn-place = first-left so_far.left so_far.some is
+  turn-place = first-left mode so_far.left so_far.some is
 
   -- it begins a run, which has room
   pub turn-run : IsRunAt mode src valid flagged mask × HasRunRoom mode src flagged valid (end + (flagged - next)) (length (bytes_of mid))
   turn-run =
       let w = so_far.left in let p = turn-place in let clean = ahead-passed mode slack src mid next valid flagged end so_far.ahead p.1 (omega (arith, p)) (omega (arith, w.inside)) p.3 in (
         record { bytes = ap (λ m. m.bytes) w.told; some = so_far.some; first = is; flagged = p.0; before = p.2; inside = omega (arith, w.inside) },
-        inl (room-near valid 8 (omega arith) (omega (arith, w.inside)) (omega (arith, so_far.eight)) (room-on clean w.room)),
+        inl (room-near valid 8 (omega arith) (omega (arith, w.inside)) (omega (arith, so_far.eight)) (room-on clean so_far.room)),
       )
 
   -- and its first entry
@@ -116,7 +116,7 @@ module _ {N : ℕ} {mode : Mode} {slack : ℕ} {src : List ℕ} {old mid : Targe
 
     -- what is left has room
     turn-rest_room : HasRoom mode slack src after valid after_end (length (bytes_of new))
-    turn-rest_room = record { fits = omega (arith, turn-stretch.limit, so_far.stretch.limit, so_far.left.room.fits, done.stretch.same_slice.len) }
+    turn-rest_room = record { fits = omega (arith, turn-stretch.limit, so_far.stretch.limit, so_far.room.fits, done.stretch.same_slice.len) }
 
     -- the bytes that are left are a vector's
     pub turn-left : IsVectorAt mode N slack src after valid after_end (length (bytes_of new))
@@ -139,10 +139,10 @@ module _ {N : ℕ} {mode : Mode} {slack : ℕ} {src : List ℕ} {old mid : Targe
 
       -- it was stored, and the turns go on
       pub turn-stored : {later : Target N} {left : MaskOf} {ticks : ℕ} → left ≡ mask_from rest.bytes after 1 → lanes_of_mask mode left ≡ lanes_of_mask mode rest → IsStored slack src new later after (valid - after) after_end → ticks ≡ ticks_new + 1
-          → TurnsSoFar mode slack src old later valid after to after_end left ticks_old ticks
+          → TurnsSoFar mode slack src valid left (state old 0 to ticks_old) (state later after after_end ticks)
       turn-stored {later = later} {left = left} told same s tick =
           let w = so_far.left in let stops = over.stops some in let runs = turn-runs in
-          let l : IsLeftAt mode N slack src valid after after_end (length (bytes_of new)) left = record { told = told ∙ ap (λ xs. mask_from xs after 1) over.bytes; few = w.few; inside = w.inside; before = stops.0; room = turn-rest_room } in
+          let l : IsLeftAt N src valid after left = record { told = told ∙ ap (λ xs. mask_from xs after 1) over.bytes; few = w.few; inside = w.inside; before = stops.0 } in let room = turn-rest_room in
           let some_left : is_clear mode left ≡ false = ap none_set same ∙ some in
           let ahead = ahead-front mode src later after valid after_end (valid - after) (omega arith) s.ahead in
           let stored = stored_ahead mode slack src new later after (valid - after) after_end s (omega (arith, l.before, l.inside)) in

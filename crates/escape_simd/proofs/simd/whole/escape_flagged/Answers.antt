@@ -1,4 +1,4 @@
-use Rattle.escape_simd.proofs.Words.{true, length, ap, rules, arith, reach}
+use Rattle.escape_simd.proofs.Words.{true, length, ap, rules, arith}
 use Rattle.escape_simd.proofs.Stretches.{reach-bounds, room-least}
 use Rattle.escape_simd.proofs.Whole.{enclosed}
 use Rattle.escape_simd.proofs.simd.whole.escape_flagged.Goals as goal

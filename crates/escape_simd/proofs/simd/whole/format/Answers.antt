@@ -1,5 +1,4 @@
-use Rattle.escape_simd.proofs.Words.{ℕ, List, true, length, ap, subst, arith, bytes_of, mode_numbered, HasRoom, IsFormatted, reach}
-use Rattle.escape_simd.proofs.Stretches.{reach-bounds}
+use Rattle.escape_simd.proofs.Words.{true, length, ap, subst, arith, bytes_of, mode_numbered, IsFormatted, reach}
 use Rattle.escape_simd.proofs.Whole.{whole_formatted, bound-quotes, close-inside, whole-room}
 use Rattle.escape_simd.proofs.simd.whole.format.Goals as goal
 

@@ -7,7 +7,7 @@ use Rattle.escape_simd.proofs.simd.util.blocks.escape_blocks.Goals.{else-blocks-
 pub blocks-2-init : goal.blocks-2-init
 unfolding flagged_blocks
 blocks-2-init g c = record {
-  so_far = record { done = search rules; none = λ _. refl; some = λ used. cc; counted = omega arith };
+  so_far = search rules;
   left = record { bytes = refl; from = ap (λ m. m.from) c.requires.0 };
   fresh = λ _. ap (λ m. m.stored) c.requires.0;
   more = omega (arith, c.requires.5.some);
@@ -37,7 +37,7 @@ put_block-end-requires g c =
           block-half c.args.src.now c.args.at c.blocks-2.block _ c.half-eight.result piece c.half-eight.ensures.block,
           record { bytes = told ∙ ap (λ n. take n (drop (c.args.at + 8 * c.blocks-2.block) c.args.src.now)) (sym long); from = left.from },
           λ none. p.paid (ap (λ bits. flag_count (take 8 bits)) (sym (paid-lanes (mode_numbered g.row.MODE) i.left p.same)) ∙ none),
-          left-blocks c.requires.0 c.requires.5 c.blocks-2.block i.more left refl i.so_far.done,
+          left-blocks c.requires.0 c.requires.5 c.blocks-2.block i.more left refl i.so_far,
         ),
       ),
     )
@@ -52,7 +52,7 @@ blocks-2-preserved g c =
     let i = c.blocks-2.invariant in let p = c.pay_block.ensures in let e = c.put_block-end.ensures in let left = paid-left i.left p.same in let lanes = paid-lanes (mode_numbered g.row.MODE) i.left p.same in
     let next : 8 * c.blocks-2.block + 8 ≡ 8 * (c.blocks-2.block + 1) = omega arith in
     record {
-      so_far = blocks-next c.requires.0 c.requires.5 refl i.so_far i.more left e.block (rw (sym lanes) at p.left) (rw (sym lanes) at p.ticks);
+      so_far = blocks-next c.requires.0 c.requires.5 c.blocks-2.block i.more left refl i.so_far e.block (rw (sym lanes) at p.left) (rw (sym lanes) at p.ticks);
       left = record {
         bytes = ap (λ m. m.bytes) c.skip-mask.ensures ∙ ap (drop 8) (e.same.bytes ∙ left.bytes) ∙ drop-drop 8 (8 * c.blocks-2.block) c.args.mask.bytes ∙ ap (λ n. drop n c.args.mask.bytes) next;
         from = ap (λ m. m.from) c.skip-mask.ensures;
@@ -67,7 +67,7 @@ returns g c = elim c.blocks-2-test.branch [
   | then-blocks-2-test+then-valid-block w ↦
       let i = c.blocks-2.invariant in let p = w.pay_block.ensures in
       let lanes = paid-lanes (mode_numbered g.row.MODE) i.left p.same in
-      let b = blocks-next c.requires.0 c.requires.5 refl i.so_far i.more (paid-left i.left p.same) w.put_block-end.ensures.block (rw (sym lanes) at p.left) (rw (sym lanes) at p.ticks) in
+      let b = blocks-next c.requires.0 c.requires.5 c.blocks-2.block i.more (paid-left i.left p.same) refl i.so_far w.put_block-end.ensures.block (rw (sym lanes) at p.left) (rw (sym lanes) at p.ticks) in
       let over : c.args.valid ≤ 8 * (c.blocks-2.block + 1) = omega (arith, w.if-valid-block.true) in
-      rw (w.target-is, w.end-is, w.block-is, w.ticks-is) (record { stretch = done-stretch c.requires.0 c.requires.5 b.done over; stored = done-stored c.requires.0 c.requires.5 b.done over; ticks = done-ticks c.requires.0 c.requires.5 b.done over b })
+      rw (w.target-is, w.end-is, w.block-is, w.ticks-is) (record { stretch = done-stretch c.requires.0 c.requires.5 b over; stored = done-stored c.requires.0 c.requires.5 b over; ticks = done-ticks c.requires.0 c.requires.5 b over })
 ]

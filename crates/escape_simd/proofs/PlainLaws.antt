@@ -1,7 +1,7 @@
 -- The laws that callers rest on, each of the plain escaping itself: of `plain mode bytes`, whatever the bytes, or of a text.
-use Rattle.escape_simd.proofs.Words.{ℕ, List, IsUtf8, chars, length, refl, Mode, IsEscaping, JoinsTexts, IsOfOneText, HasOutputLength, plain, IsOnlyOutput}
+use Rattle.escape_simd.proofs.Words.{ℕ, List, IsUtf8, length, refl, Mode, IsEscaping, JoinsTexts, HasOutputLength, plain}
 use Rattle.escape_simd.proofs.EscapingLemmas.{IsEscaping-output}
-use Rattle.escape_simd.proofs.OutputLemmas.{IsUtf8-output, IsOnlyOutput-output, IsOfOneText-output, HasOutputLength-output, JoinsTexts-output}
+use Rattle.escape_simd.proofs.OutputLemmas.{IsUtf8-output, HasOutputLength-output, JoinsTexts-output}
 -- Of any bytes
 
 -- HTML: none of the bytes `"`, `'`, `/`, `<` and `>`, and each ampersand begins an entity
@@ -25,14 +25,6 @@ plain_length mode bytes = HasOutputLength-output mode bytes (plain mode bytes) r
 pub plain_is_utf8 : (mode : Mode) (bytes : List ℕ) → IsUtf8 bytes → IsUtf8 (plain mode bytes)
 plain_is_utf8 mode bytes utf8 = IsUtf8-output mode bytes (plain mode bytes) utf8 refl
 
--- the only output
-pub plain_is_only : (mode : Mode) (bytes : List ℕ) → IsUtf8 bytes → IsOnlyOutput mode (plain mode bytes) (chars bytes)
-plain_is_only mode bytes utf8 = IsOnlyOutput-output mode bytes (plain mode bytes) refl utf8
-
--- of no other text
-pub plain_is_of_one_text : (mode : Mode) (bytes : List ℕ) → IsUtf8 bytes → IsOfOneText mode bytes (plain mode bytes)
-plain_is_of_one_text mode bytes utf8 = IsOfOneText-output mode bytes (plain mode bytes) refl utf8
-
--- all of this
+-- all that is said of an output: the only one, of no other text
 pub plain_is_escaping : (mode : Mode) (bytes : List ℕ) → IsUtf8 bytes → IsEscaping mode bytes (plain mode bytes)
 plain_is_escaping mode bytes utf8 = IsEscaping-output mode bytes (plain mode bytes) refl utf8

@@ -33,29 +33,9 @@ pub(super) fn append_flagged<const MODE: u8, A: Allocator>(
     let old = dst.len();
     let most = text.len() + 5 * (count_flagged(first.bits()) + count_flagged(last.bits())) + N;
     if FEW_ZEROS < most || dst.capacity() - old < FEW_ZEROS {
-        return append_dense::<MODE, A>(text, first, last, dst);
+        return append_in_place::<MODE, A>(text, dst);
     }
     push_all(dst, &[0; FEW_ZEROS]);
-    let end = escape_flagged::<V, MODE, false, N>(text, first, last, dst, old);
-    dst.truncate(end);
-    push_quote::<MODE, A>(dst);
-}
-
-/// As [`append_flagged`], over as many zeros as the bound. It stands apart, so that few zeros save fewer registers.
-#[inline(never)]
-fn append_dense<const MODE: u8, A: Allocator>(
-    text: &[u8],
-    first: EscapeMask<MODE>,
-    last: EscapeMask<MODE>,
-    dst: &mut Vec<u8, A>,
-)
-    requires masks { AreTailMasks N text.now first last }
-    requires room { vec_len dst.old + 6 * length text.now + N ≤ vec_capacity dst.old }
-    ensures { dst.new.items ≡ dst.old.items
-        ++ (inner (mode_numbered MODE) text.now ++ quote_of (mode_numbered MODE)) }
-{
-    let old = dst.len();
-    fill(dst, old + 6 * text.len() + N);
     let end = escape_flagged::<V, MODE, false, N>(text, first, last, dst, old);
     dst.truncate(end);
     push_quote::<MODE, A>(dst);

@@ -8,12 +8,6 @@ use crate::simd::Simd;
 use escape_lanes::simd::mode::is_quoted;
 use std::alloc::Allocator;
 
-/// How many bytes of a vector are filled with zeros at a time, if it has room for them.
-///
-/// The output for a text shorter than two vectors has at most so many bytes. The compiler fills these by stores, without
-/// a call: by `resize` alone, JSON source lines take an eighth longer.
-const ZEROS: usize = 448;
-
 /// Appends the bytes to a vector that has room for them.
 ///
 /// It tests for room all the same, and returns if there is none: so the compiler removes the call that allocates,
@@ -63,9 +57,6 @@ pub(super) fn fill<A: Allocator>(dst: &mut Vec<u8, A>, len: usize)
     ensures filled { (vec_len dst.old ≤ vec_len dst.new) × (len ≤ vec_len dst.new) }
     ensures capacity { vec_capacity dst.old ≤ vec_capacity dst.new }
 {
-    'zeros: while dst.len() < len && ZEROS <= dst.capacity() - dst.len() {
-        push_all(dst, &[0; ZEROS]);
-    }
     if dst.len() < len {
         let Ok(()) = dst.resize(len, 0) else {
             unreachable!()

@@ -186,6 +186,9 @@ lock() {
   flock 9
 }
 
+# Prints how many proofs may run side by side: one for each processor, and for each 3 GB of free memory.
+side_by_side() { awk -v n="$(nproc)" '/^MemAvail/ { n = int($2 / 3e6) < n ? int($2 / 3e6) : n } END { print n < 1 ? 1 : n }' /proc/meminfo; }
+
 # is_fresh BUILD CRATE..: whether the build is there, and no source of the crates is newer. Folders count, for files that
 # were removed. Some crates lack one.
 is_fresh() {
@@ -211,10 +214,11 @@ build() {
   return "$status"
 }
 
-# The build gets the time at which it began, so that a later edit outdates it.
+# The build gets the time at which it began, so that a later edit outdates it. Two jobs prove it: each further one proves
+# again what it shares with the others, and saves little time.
 build_anew() {
-  local log=$top/.build/$1-$2.log began=$top/.build/$1-$2.began made=$top/crates/$1/out started=$SECONDS words=(--cpu "$2")
-  [ "$2" != aarch64 ] || words=(--target aarch64-unknown-linux-gnu)
+  local log=$top/.build/$1-$2.log began=$top/.build/$1-$2.began made=$top/crates/$1/out started=$SECONDS words=(--cpu "$2" --jobs 2)
+  [ "$2" != aarch64 ] || words=(--target aarch64-unknown-linux-gnu --jobs 2)
   if is_program "$1"; then
     words=(run "${words[@]}") made+=/$1
   elif is_library "$1"; then

@@ -145,7 +145,6 @@ pub fn format_html_string(kernel: Kernel, value: &str, dst: &mut [u8]) -> usize
 /// let mut dst = [0; 38];
 /// let text = format_html_str(Kernel::Avx2, "<", &mut dst); // &lt;
 /// ```
-#[tactic(auto, using(crate::proofs::ExamplesLemmas::html_examples))]
 pub fn format_html_str<'a>(kernel: Kernel, value: &str, dst: &'a mut [u8]) -> &'a str
     requires has_room { bound html (length value.now) ≤ length dst.old }
     ensures output { IsEscaping html value.now result.now }
@@ -211,7 +210,6 @@ pub fn format_script_str<'a>(kernel: Kernel, value: &str, dst: &'a mut [u8]) -> 
 /// let mut dst = [0; 38];
 /// let len = format_json_inner(Kernel::Avx2, "\"", &mut dst); // 2
 /// ```
-#[tactic(auto, using(crate::proofs::ExamplesLemmas::json_examples))]
 pub fn format_json_inner(kernel: Kernel, value: &str, dst: &mut [u8]) -> usize
     requires has_room { 6 * length value.now + 32 ≤ length dst.old }
     ensures written { IsInnerWritten (lanes_of kernel) json value.now dst.old dst.new result }
@@ -238,7 +236,6 @@ pub fn format_json_inner(kernel: Kernel, value: &str, dst: &mut [u8]) -> usize
 /// let mut dst = [0; 38];
 /// let len = format_script_inner(Kernel::Avx2, "<", &mut dst); // 6
 /// ```
-#[tactic(auto, using(crate::proofs::ExamplesLemmas::script_examples))]
 pub fn format_script_inner(kernel: Kernel, value: &str, dst: &mut [u8]) -> usize
     requires has_room { 6 * length value.now + 32 ≤ length dst.old }
     ensures written { IsInnerWritten (lanes_of kernel) script value.now dst.old dst.new result }

@@ -46,9 +46,3 @@ lanes_of w (suc k) n = not (nat_eq (n % 2 ^ w) 0) ∷ lanes_of w k (n / 2 ^ w)
 -- the lowest k lanes of four bits each
 abbrev pub nibbles_of : ℕ → ℕ → List Bool
 nibbles_of = lanes_of 4
-
--- k lanes are k truth values
-pub length-lanes_of : (w k n : ℕ) → length (lanes_of w k n) ≡ k
-unfolding lanes_of
-length-lanes_of w zero n = refl
-length-lanes_of w (suc k) n = ap suc (length-lanes_of w k (n / 2 ^ w))

@@ -1,5 +1,5 @@
 -- Vectors and masks as lists of lanes.
-use Rattle.std.specs.Prelude.{◌≡◌, ℕ, ◌<◌, Bool, List, length, map, not, nat_le, slice_index_or, if◌then◌else◌}
+use Rattle.std.specs.Prelude.{◌≡◌, ℕ, ◌<◌, Bool, List, length, map, nat_le, slice_index_or}
 
 -- n lanes, each below a bound
 pub record AreBelow (bound n : ℕ) (lanes : List ℕ) : Type 0 where
@@ -15,7 +15,3 @@ AreBytes = AreBelow 256
 -- whether each lane is flagged
 abbrev pub flagged_lanes : List ℕ → List Bool
 flagged_lanes = map (λ b. nat_le 0x80 b)
-
--- exactly one of both
-abbrev pub is_one_of : Bool → Bool → Bool
-is_one_of p q = if p then not q else q

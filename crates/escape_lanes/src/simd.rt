@@ -5,7 +5,6 @@ pub mod avx512;
 pub mod bits;
 mod by_width;
 pub mod classifier;
-mod down;
 pub mod escape_mask;
 mod front;
 mod halves;

@@ -2,8 +2,8 @@
 ghost use Rattle.std.specs.Prelude.{◌≡◌, ◌≤◌, ◌<◌, ◌-◌, ◌++◌, length, map, drop, replicate, slice_index};
 ghost use Rattle.escape_lanes.specs.Lanes.{AreBytes, AreBelow};
 
+use crate::simd::halves::{both_16, both_32};
 use crate::simd::last::{last_16, last_32, last_64};
-use crate::simd::needs::repeated;
 use std::simd::prelude::*;
 
 /// A width, as its vector.
@@ -24,7 +24,7 @@ pub trait ByWidth<const N: usize> {
 impl ByWidth<16> for u8x16 {
     #[inline(always)]
     fn look_up(table: &[u8; 16], places: &u8x16) -> u8x16 {
-        repeated(table).swizzle_dyn_within::<16>(*places)
+        u8x16::from_array(*table).swizzle_dyn_within::<16>(*places)
     }
 
     #[inline(always)]
@@ -36,7 +36,8 @@ impl ByWidth<16> for u8x16 {
 impl ByWidth<32> for u8x32 {
     #[inline(always)]
     fn look_up(table: &[u8; 16], places: &u8x32) -> u8x32 {
-        repeated(table).swizzle_dyn_within::<16>(*places)
+        let table = u8x16::from_array(*table);
+        both_16(table, table).swizzle_dyn_within::<16>(*places)
     }
 
     #[inline(always)]
@@ -48,7 +49,9 @@ impl ByWidth<32> for u8x32 {
 impl ByWidth<64> for u8x64 {
     #[inline(always)]
     fn look_up(table: &[u8; 16], places: &u8x64) -> u8x64 {
-        repeated(table).swizzle_dyn_within::<16>(*places)
+        let table = u8x16::from_array(*table);
+        let pair = both_16(table, table);
+        both_32(pair, pair).swizzle_dyn_within::<16>(*places)
     }
 
     #[inline(always)]

@@ -74,7 +74,7 @@ impl<const MODE: u8> EscapeMask<MODE> {
         ensures { result ≡ mask_from [] 0 1 }
     {
         let mut stored = Tally::new();
-        stored.raise();
+        stored.raise_by(1);
         EscapeMask {
             bits: 0,
             of: Known::of(&[]),
@@ -88,7 +88,7 @@ impl<const MODE: u8> EscapeMask<MODE> {
         requires { self.old.stored ≡ 0 }
         ensures { self.new ≡ used_up self.old }
     {
-        self.stored.raise();
+        self.stored.raise_by(1);
     }
 
     /// Returns the mask as a number.

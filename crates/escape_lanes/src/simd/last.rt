@@ -6,7 +6,6 @@ ghost use Rattle.std.specs.Prelude.{◌≡◌, ◌+◌, ◌*◌, ◌-◌, ◌<�
 ghost use Rattle.std.specs.Simd.Lanes.{number_l};
 ghost use Rattle.escape_lanes.specs.Lanes.{AreBytes};
 
-use crate::simd::down::down_16;
 use crate::simd::halves::{both_4, both_8, both_16, both_32};
 use crate::simd::lanes;
 use crate::simd::traits::LoadStore;
@@ -102,6 +101,12 @@ fn joined(src: &[u8], count: usize) -> u8x16
     u64x2::from_array([up_to_three(src, count), 0]).to_le_bytes()
 }
 
+// The places of 16 lanes, and after them places that read as 0.
+const PLACES: [u8; 32] = [
+    0, 1, 2, 3, 4, 5, 6, 7, 8, 9, 10, 11, 12, 13, 14, 15, 128, 128, 128, 128, 128, 128, 128, 128,
+    128, 128, 128, 128, 128, 128, 128, 128,
+];
+
 /// Returns the last `count` bytes of a text of 16 bytes or more: its last 16, moved down by a look-up.
 #[inline(always)]
 fn moved_down(src: &[u8], count: usize) -> u8x16
@@ -109,7 +114,8 @@ fn moved_down(src: &[u8], count: usize) -> u8x16
     requires long { 16 ≤ length src.now }
     ensures { result ≡ drop (length src.now - count) src.now ++ replicate (16 - count) 0 }
 {
-    down_16(&lanes::load(&src[src.len() - 16..]), 16 - count)
+    let last: u8x16 = lanes::load(&src[src.len() - 16..]);
+    last.swizzle_dyn(lanes::load(&PLACES[16 - count..]))
 }
 
 /// Returns the last `count` bytes, with zeros after them, in 16 lanes.

@@ -53,22 +53,6 @@ pub(crate) fn json_needs<const N: usize>(v: &Simd<u8, N>) -> Simd<u8, N>
     control_or_quote ^ is_without(v, 0, b'\\')
 }
 
-/// Returns the table again in each block of sixteen lanes, as a look-up within blocks reads it.
-#[inline(always)]
-pub(crate) fn repeated<const N: usize>(table: &[u8; 16]) -> Simd<u8, N>
-    requires { N % 16 ≡ 0 }
-    ensures full { length result ≡ N }
-    ensures lanes { (k : ℕ) → k < N → slice_index result k ≡ slice_index table.now (k % 16) }
-{
-    let mut lanes = [0; N];
-    let all = &mut lanes[..];
-    // By blocks and not by bytes, so that at 64 lanes the compiler makes a constant of it too.
-    for block in 0..N / 16 {
-        all[16 * block..16 * block + 16].copy_from_slice(table);
-    }
-    Simd::from_array(lanes)
-}
-
 /// Returns what the table has for the low half of each lane.
 #[inline(always)]
 fn by_low_half<const N: usize>(v: &Simd<u8, N>, table: &[u8; 16]) -> Simd<u8, N>

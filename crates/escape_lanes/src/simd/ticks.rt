@@ -23,30 +23,20 @@ impl Tally {
         Tally {}
     }
 
-    // A count is never written to: the next one is a new value.
+    // A count is never written to: the greater one is a new value.
     #[inline(always)]
-    fn one_more(_before: &Tally) -> Tally
-        ensures { result.count ≡ _before.now.count + 1 }
+    fn more(_before: &Tally, _by: usize) -> Tally
+        ensures { result.count ≡ _before.now.count + _by }
     {
         Tally {}
     }
 
-    /// Raises the count by one.
+    /// Raises the count by so many.
     #[inline(always)]
-    pub(crate) fn raise(&mut self)
-        ensures { self.new.count ≡ self.old.count + 1 }
+    pub(crate) fn raise_by(&mut self, by: usize)
+        ensures { self.new.count ≡ self.old.count + by }
     {
-        *self = Tally::one_more(self);
-    }
-
-    /// Raises the count by `more`. The loop does nothing that runs, and is dropped.
-    #[inline(always)]
-    pub(crate) fn raise_by(&mut self, more: usize)
-        ensures { self.new.count ≡ self.old.count + more }
-    {
-        for _ in 0..more {
-            self.raise();
-        }
+        *self = Tally::more(self, by);
     }
 }
 
@@ -81,6 +71,6 @@ impl Ticks {
     pub(crate) fn tick(&mut self)
         ensures { self.new ≡ self.old + 1 }
     {
-        self.tally.raise();
+        self.tally.raise_by(1);
     }
 }

@@ -8,16 +8,15 @@ ghost use Rattle.escape_lanes.specs.Mode.{json, html, mode_of};
 ghost use Rattle.escape_lanes.specs.Replacement.{needs_escape};
 ghost use Rattle.escape_lanes.specs.Words.{lanes_of_word, lanes_of_words, words-bytes};
 
-mod mask;
 mod script;
 
 use crate::simd::classifier::Classifier;
+use crate::simd::lane_mask::LaneMask;
 use crate::simd::lanes;
 use crate::simd::last::{self, LoadLast};
 use crate::simd::mode::{is_quoted, is_script};
 use crate::simd::target::Ticks;
 use crate::simd::traits::{BitMask, Simd};
-pub use mask::Mask128;
 pub use script::script_mask;
 use std::simd::prelude::{u8x16, u64x1};
 
@@ -28,6 +27,9 @@ pub struct Simd128u {
     low: u64,
     high: u64,
 }
+
+/// A truth value for each lane of a [`Simd128u`].
+pub type Mask128 = LaneMask<1, 16>;
 
 /// Returns the eight bytes from `at` on, as a word.
 #[inline(always)]
@@ -126,9 +128,7 @@ impl Simd for Simd128u {
 
     #[inline(always)]
     fn eq(&self, rhs: &Self) -> Mask128 {
-        Mask128 {
-            bits: lanes::eq(&lanes_of(self), &lanes_of(rhs)) as u16,
-        }
+        LaneMask::new(lanes::eq(&lanes_of(self), &lanes_of(rhs)))
     }
 
     #[inline(always)]
@@ -141,9 +141,7 @@ impl Simd for Simd128u {
 
     #[inline(always)]
     fn le(&self, rhs: &Self) -> Mask128 {
-        Mask128 {
-            bits: lanes::le(&lanes_of(self), &lanes_of(rhs)) as u16,
-        }
+        LaneMask::new(lanes::le(&lanes_of(self), &lanes_of(rhs)))
     }
 }
 

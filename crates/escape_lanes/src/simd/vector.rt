@@ -9,8 +9,8 @@ use crate::simd::lanes;
 use crate::simd::last::LoadLast;
 use crate::simd::traits::Simd;
 
-/// A vector of `N` bytes. Its bit mask has `BITS` bits for each lane: one, or four in
-/// [`NeonBits`](crate::simd::bits::NeonBits).
+/// A vector of `N` bytes. `BITS` picks the bit mask: 1 is a number with one bit for each lane, 4 is
+/// [`NeonBits`](crate::simd::bits::NeonBits), which can be made of four bits for each.
 #[derive(Debug, Clone, Copy)]
 pub struct Vector<const BITS: u8, const N: usize> {
     // An array, since no struct can hold a vector of `std::simd` whose width is a parameter.

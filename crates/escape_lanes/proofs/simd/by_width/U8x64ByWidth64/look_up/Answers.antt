@@ -1,9 +1,9 @@
-use Rattle.std.proofs.Common.{refl}
-use Rattle.escape_lanes.proofs.NibbleLemmas.{places_ok, looked_up}
+use Rattle.std.proofs.Common.{refl, arith}
+use Rattle.escape_lanes.proofs.NibbleLemmas.{places_ok, looked_up, once, twice}
 use Rattle.escape_lanes.proofs.simd.by_width.U8x64ByWidth64.look_up.Goals as goal
 
 pub swizzle : goal.swizzle
 swizzle c = places_ok 64 c.args.places.now c.requires refl
 
 pub returns : goal.returns
-returns c = looked_up 64 c.args.places.now c.requires refl c.repeated.result c.args.table.now c.repeated.ensures.lanes
+returns c = looked_up 64 c.args.places.now c.requires refl _ c.args.table.now (twice 32 refl (twice 16 refl (once c.args.table.now (omega arith)) c.both_16-pair.ensures) c.both_32.ensures)

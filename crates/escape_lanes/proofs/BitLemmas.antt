@@ -1,5 +1,5 @@
 -- The bits of a number, lowest first: more and fewer of them, a shift, the first set one cleared, and how many are set.
-use Rattle.std.proofs.Common.{◌≡◌, ℕ, zero, suc, ◌+◌, ◌-◌, min, ◌*◌, ◌/◌, ◌%◌, ◌^◌, ◌≤◌, ◌<◌, Bool, true, false, not, cond, ◌&&◌, List, [], ◌∷◌, ◌++◌, length, take, drop, replicate, nat_eq, bit_and, refl, sym, ap, ap₂, ◌∙◌, inl, inr, arith, add-one, suc-mul}
+use Rattle.std.proofs.Common.{◌≡◌, ℕ, zero, suc, ◌+◌, ◌-◌, min, ◌*◌, ◌/◌, ◌%◌, ◌^◌, ◌≤◌, ◌<◌, Bool, false, not, cond, ◌&&◌, List, [], ◌∷◌, ◌++◌, length, take, drop, replicate, nat_eq, bit_and, refl, sym, ap, ap₂, ◌∙◌, inl, inr, arith, add-one, suc-mul}
 use Rattle.std.proofs.lemmas.Bool.{cases_eq}
 use Rattle.std.proofs.lemmas.Bool.Decides.{nat_tests}
 use Rattle.std.proofs.lemmas.List.Sums.{sum_by-cons}
@@ -159,19 +159,18 @@ bits_first_cleared (suc k) x some h =
           let low : min (x % 2) ((x - 1) % 2) ≡ 0 = omega arith in
           let z : ℕ = bit_and (x / 2) (x / 2 - 1) in
           let is : y ≡ z * 2 + 0 = and_step x (x - 1) ∙ ap₂ (λ u v. u * 2 + v) (ap (bit_and (x / 2)) half) low in
-          let p : nat_eq (y % 2) 1 ≡ false = grind (arith, nat_tests, is) in
+          let p : y % 2 ≡ 0 = omega (arith, is) in
           let q : y / 2 ≡ z = omega (arith, is) in
-          let r : nat_eq (x % 2) 1 ≡ false = grind (arith, nat_tests, even) in
           let rest = bits_first_cleared k (x / 2) (omega (arith, even, some)) (shr_below x k 1 (rw add-one h)) in
-          rw (bits-suc k y, bits-suc k x, p, q, r) (ap (λ bs. false ∷ bs) rest ∙ cleared-suc (first_set (bits_of k (x / 2))) (bits_of k (x / 2)))
+          rw (bits-suc k y, bits-suc k x, p, q, even) (ap (λ bs. false ∷ bs) rest ∙ cleared-suc (first_set (bits_of k (x / 2))) (bits_of k (x / 2)))
       | inr odd ↦
           let half : (x - 1) / 2 ≡ x / 2 = omega arith in
           let low : min (x % 2) ((x - 1) % 2) ≡ 0 = omega arith in
           let is : y ≡ x / 2 * 2 + 0 = and_step x (x - 1) ∙ ap₂ (λ u v. u * 2 + v) (ap (bit_and (x / 2)) half ∙ and_self (x / 2)) low in
-          let p : nat_eq (y % 2) 1 ≡ false = grind (arith, nat_tests, is) in
+          let p : y % 2 ≡ 0 = omega (arith, is) in
           let q : y / 2 ≡ x / 2 = omega (arith, is) in
-          let r : nat_eq (x % 2) 1 ≡ true = grind (arith, nat_tests, odd) in
-          rw (bits-suc k y, bits-suc k x, p, q, r) refl
+          let one : x % 2 ≡ 1 = omega arith in
+          rw (bits-suc k y, bits-suc k x, p, q, one) refl
     ]
 
 -- where a bit is set, the number isn't 0
@@ -189,7 +188,10 @@ ones-zero = refl
 
 -- a bit as a truth value
 bit-value : (n : ℕ) → cond (nat_eq (n % 2) 1) 1 0 ≡ n % 2
-bit-value n = grind (arith, nat_tests)
+bit-value n = elim (cases_eq (n % 2) 0) [
+  | inl even ↦ rw even refl
+  | inr odd ↦ let one : n % 2 ≡ 1 = omega arith in rw one refl
+]
 
 -- how many bits are set
 pub ones_bits : (k x : ℕ) → x < 2 ^ k → count_ones x ≡ count_by (λ b. b) (bits_of k x)

@@ -64,8 +64,8 @@ shortened-from i (b ∷ v) few bytes =
     let few_left : suc i + length v ≤ 16 = omega (arith, few) in
     let rest = shortened-from (suc i) v few_left bytes.1 in
     let looked = agree_below_at can_look (λ x. true) 256 b all-found.0 bytes.0 in
-    let here = eqb-true _ _ (agree_below_at is_found (λ x. true) 256 b all-found.1 bytes.0) in
     let block : 16 * (i / 16) ≡ 0 = omega arith in
+    let here = eqb-true _ _ (agree_below_at is_found (λ x. true) 256 b all-found.1 bytes.0) in
     rw block ((rw looked tt, rest.0), ap₂ (λ x xs. x ∷ xs) here rest.1)
 
 -- a vector's bytes can be looked up by their places, and the greater of both is the vector shortened

@@ -2,7 +2,7 @@
 ghost use Rattle.std.specs.Prelude.{◌≡◌, ◌+◌, ◌<◌, ◌≤◌, length, max};
 ghost use Rattle.escape_lanes.specs.Written.{bytes_of, stored_of, escaped_of, quotes_of, IsOver, Writes};
 
-use crate::simd::front::copy_front;
+use crate::simd::front::copy_lanes;
 use crate::simd::ticks::Tally;
 pub use crate::simd::ticks::Ticks;
 
@@ -66,12 +66,7 @@ impl<'a, const N: usize> Target<'a, N> {
         requires counted { 0 < vectors + escapes + quotes }
         ensures { Writes vectors escapes quotes self.old self.new at bytes.now }
     {
-        let place = &mut self.slice[at..at + bytes.len()];
-        if N <= 64 {
-            copy_front(place, bytes);
-        } else {
-            place.copy_from_slice(bytes);
-        }
+        copy_lanes::<N>(&mut self.slice[at..at + bytes.len()], bytes);
         self.stored.raise_by(vectors);
         self.escaped.raise_by(escapes);
         self.quotes.raise_by(quotes);

@@ -2,12 +2,6 @@
 use Rattle.escape_simd.proofs.Words.{◌≡◌, ℕ, zero, suc, ◌+◌, ◌<◌, ◌≤◌, Bool, false, List, [], ◌∷◌, length, take, drop, get_or, arith, if◌then◌else◌, nat_tests, gaps, Mode, needs_escape, source_len, run_count_after, run_count}
 use Rattle.escape_simd.proofs.Texts.{runs_after-≤, runs-here}
 
--- no more than there are lanes
-pub gaps-most : (before : Bool) (bits : List Bool) → gaps before bits ≤ length bits
-unfolding gaps
-gaps-most before [] = omega arith
-gaps-most before (b ∷ bits) = grind (arith, nat_tests, gaps-most b bits)
-
 module _ (mode : Mode) (src : List ℕ) where
   -- the gaps of flags that tell which bytes need an escape, where these are passed alone and the byte before them is marked or isn't
   gaps-paid_after : (n at : ℕ) (before : Bool) (bits : List Bool) → at + n ≤ length src → n ≤ length bits → ((k : ℕ) → k < n → get_or bits k false ≡ needs_escape mode (get_or src (at + k) 0))

@@ -52,7 +52,8 @@ pub fn is_flagged(flags: u8) -> bool
 #[inline(always)]
 #[tactic(auto, using(crate::proofs::BitLemmas::ones_bits))]
 pub fn count_flagged(flags: u64) -> usize
-    ensures { result ≡ flag_count (bits_of 64 flags) }
+    ensures count { result ≡ flag_count (bits_of 64 flags) }
+    ensures most { result ≤ 64 }
 {
     flags.count_ones() as usize
 }
@@ -63,7 +64,8 @@ pub fn count_flagged(flags: u64) -> usize
 #[inline(always)]
 pub fn count_gaps(flags: u64, count: usize) -> usize
     requires { count ≤ 64 }
-    ensures { result ≡ gaps false (take count (bits_of 64 flags)) }
+    ensures count { result ≡ gaps false (take count (bits_of 64 flags)) }
+    ensures most { result ≤ 64 }
 {
     (!flags & (flags << 1))
         .clear_high_bits(64 - count)

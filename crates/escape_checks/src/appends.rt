@@ -11,7 +11,7 @@ use escape_text::json::{
     escape_script_array_into, escape_script_compact, escape_script_into_string,
     escape_script_to_writer, escape_to_writer,
 };
-use std::alloc::{AllocError, Global};
+use std::alloc::{AllocError, Allocator, Global};
 use std::fmt::Write;
 
 /// A call that each mode has.
@@ -72,7 +72,7 @@ pub fn differing_call(
 fn writes(alloc: Global, call: Call, mode: Mode, text: &str, output: &[u8], spare: usize) -> bool {
     match call {
         Call::Vector => match vector(alloc, spare) {
-            Ok(mut dst) => append(mode, text, &mut dst) && has(&dst, &[output]),
+            Ok(mut dst) => append(mode, text, &mut dst).is_ok() && has(&dst, &[output]),
             Err(_) => false,
         },
         Call::Writer => match vector(alloc, spare) {
@@ -88,7 +88,8 @@ fn writes(alloc: Global, call: Call, mode: Mode, text: &str, output: &[u8], spar
             Err(_) => false,
         },
         Call::Text => match string(alloc, spare) {
-            Ok(mut dst) => append_text(mode, text, &mut dst) && has(dst.as_bytes(), &[output]),
+            Ok(mut dst) => append_text(mode, text, &mut dst).is_ok()
+                && has(dst.as_bytes(), &[output]),
             Err(_) => false,
         },
         Call::Formatter => match string(alloc, spare) {
@@ -127,12 +128,17 @@ fn has(bytes: &[u8], parts: &[&[u8]]) -> bool {
     rest.is_empty()
 }
 
-fn append(mode: Mode, text: &str, dst: &mut Vec<u8>) -> bool {
+pub(crate) fn append<A: Allocator>(
+    mode: Mode,
+    text: &str,
+    dst: &mut Vec<u8, A>,
+) -> Result<(), Refusal> {
     match mode {
-        Mode::Json => escape_into(text, dst).is_ok(),
-        Mode::Html => escape_html_into(text, dst).is_ok(),
-        Mode::Script => escape_script_into(text, dst).is_ok(),
+        Mode::Json => escape_into(text, dst)?,
+        Mode::Html => escape_html_into(text, dst)?,
+        Mode::Script => escape_script_into(text, dst)?,
     }
+    Ok(())
 }
 
 fn write(mode: Mode, text: &str, dst: &mut Vec<u8>) -> bool {
@@ -173,12 +179,17 @@ fn is_joined(mode: Mode, bytes: &[u8], output: &[u8]) -> bool {
     }
 }
 
-fn append_text(mode: Mode, text: &str, dst: &mut String) -> bool {
+pub(crate) fn append_text<A: Allocator>(
+    mode: Mode,
+    text: &str,
+    dst: &mut String<A>,
+) -> Result<(), Refusal> {
     match mode {
-        Mode::Json => escape_into_string(text, dst).is_ok(),
-        Mode::Html => escape_html_into_string(text, dst).is_ok(),
-        Mode::Script => escape_script_into_string(text, dst).is_ok(),
+        Mode::Json => escape_into_string(text, dst)?,
+        Mode::Html => escape_html_into_string(text, dst)?,
+        Mode::Script => escape_script_into_string(text, dst)?,
     }
+    Ok(())
 }
 
 fn display(mode: Mode, text: &str, dst: &mut String) -> bool {
@@ -204,7 +215,11 @@ fn returned(alloc: Global, mode: Mode, text: &str) -> Result<String, Refusal> {
     })
 }
 
-fn compact(alloc: Global, mode: Mode, text: &str) -> Result<String, Refusal> {
+pub(crate) fn compact<A: Allocator>(
+    alloc: A,
+    mode: Mode,
+    text: &str,
+) -> Result<String<A>, Refusal> {
     Ok(match mode {
         Mode::Json => escape_compact(alloc, text)?,
         Mode::Html => escape_html_compact(alloc, text)?,

@@ -1,20 +1,14 @@
-//! What no clause says, and each generic operation once. `tools/examples` runs the examples of doc comments.
+//! What no clause says, and rows of what the calls write. `tools/examples` runs the examples of doc comments.
 mod arguments;
 mod bit_masks;
 mod borders;
 mod classifiers;
-mod compact;
-mod faults;
 mod memory;
 mod messages;
 mod numbers;
-mod pages;
 mod rationed;
 mod rows;
 mod runs;
 mod tables;
-mod target_calls;
-mod targets;
 mod texts;
-mod vectors;
 mod whole_targets;

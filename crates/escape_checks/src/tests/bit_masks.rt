@@ -1,144 +1,91 @@
-//! Masks and flags as numbers, a bit for each lane.
+//! Masks, a bit for each lane.
 
-ghost use Rattle.std.specs.Prelude.{◌≤◌};
-
-use escape_lanes::simd::BitMask;
 use escape_lanes::simd::bits::NeonBits;
-use escape_lanes::simd::lane_bits::{
-    clear_first_lane, count_flagged, count_gaps, eight_lanes, shift_lanes,
-};
-use std::process::Abort;
+use escape_lanes::simd::{BitMask, Mask, Simd, v128};
 
-/// The first lane that is set of all, and of all but the last `n`, and whether none of these is.
-type Front = (usize, usize, bool);
+/// A mask, how many of its last lanes are cut, what is left, and the first lane of that.
+type Cut<M> = (M, usize, M, usize);
 
-fn front_of<M: BitMask>(mask: &M, n: usize) -> Front {
-    let front = mask.clear_high_bits(n.min(M::LEN));
-    let first = mask.as_little_endian().first_offset();
-    (first, front.first_offset(), front.all_zero())
+static CUTS_OF_16: [Cut<u16>; 5] = [
+    (0, 0, 0, 16),
+    (0x8001, 1, 0x0001, 0),
+    (0x8001, 16, 0, 16),
+    (0x8400, 5, 0x0400, 10),
+    (0x8400, 6, 0, 16),
+];
+
+static CUTS_OF_32: [Cut<u32>; 6] = [
+    (0, 0, 0, 32),
+    (0x8000_0001, 31, 1, 0),
+    (u32::MAX, 0, u32::MAX, 0),
+    (u32::MAX, 32, 0, 32),
+    (0x8040_0000, 9, 0x0040_0000, 22),
+    (0x8040_0000, 10, 0, 32),
+];
+
+static CUTS_OF_64: [Cut<u64>; 5] = [
+    (0, 0, 0, 64),
+    (u64::MAX, 63, 1, 0),
+    (u64::MAX, 64, 0, 64),
+    (0x8000_0000_0000_0400, 53, 0x0400, 10),
+    (0x8000_0000_0000_0400, 54, 0, 64),
+];
+
+/// Whether so many lanes are left, and these questions tell it.
+fn is_cut<M: BitMask + PartialEq>((mask, n, left, first): &Cut<M>) -> bool {
+    let cut = mask.as_little_endian().clear_high_bits((*n).min(M::LEN));
+    cut == *left && cut.first_offset() == *first && cut.all_zero() == (*first == M::LEN)
 }
 
-/// The mask has these fronts, for each `n`.
-fn has_fronts<M: BitMask>(rt: &impl Abort, mask: &M, fronts: &[(usize, Front)]) {
-    for (n, front) in fronts {
-        assert!(rt; front_of(mask, *n) == *front, "{n}");
+fn are_cut<M: BitMask + PartialEq>(cuts: &[Cut<M>]) -> bool {
+    for cut in cuts {
+        if !is_cut(cut) {
+            return false;
+        }
     }
+    true
 }
 
 #[test]
 fn masks_that_are_cut(rt: HostRuntime) {
-    has_fronts(&rt, &0u16, &[(0, (16, 16, true))]);
-    has_fronts(
-        &rt,
-        &0x8400u16,
-        &[(5, (10, 10, false)), (6, (10, 16, true))],
-    );
-    has_fronts(&rt, &0x8001u16, &[(1, (0, 0, false)), (16, (0, 16, true))]);
-    has_fronts(&rt, &0u32, &[(0, (32, 32, true))]);
-    has_fronts(
-        &rt,
-        &0x8040_0000u32,
-        &[(9, (22, 22, false)), (10, (22, 32, true))],
-    );
-    has_fronts(&rt, &0u64, &[(0, (64, 64, true))]);
-    has_fronts(
-        &rt,
-        &(1u64 << 63 | 1 << 10),
-        &[(53, (10, 10, false)), (54, (10, 64, true))],
-    );
+    assert!(rt; are_cut(&CUTS_OF_16));
+    assert!(rt; are_cut(&CUTS_OF_32));
+    assert!(rt; are_cut(&CUTS_OF_64));
 }
 
-/// Of the mask so many lanes are left, without its last `n`.
-fn is_cut<M: BitMask + PartialEq>(rt: &impl Abort, mask: M, n: usize, left: M) {
-    assert!(rt; mask.clear_high_bits(n.min(M::LEN)) == left, "{n}");
+/// A lane of `NeonBits` is four bits. A mask, how many of its last lanes are cut, and the first lane that is left.
+static NEON_CUTS: [(u64, usize, usize); 8] = [
+    (0, 0, 16),
+    (0x200, 13, 2),
+    (0x200, 14, 16),
+    (0xf0000, 4, 4),
+    (0xf0000, 11, 4),
+    (0xf0000, 12, 16),
+    (u64::MAX, 0, 0),
+    (u64::MAX, 16, 16),
+];
+
+fn is_neon_cut(bits: u64, n: usize, first: usize) -> bool {
+    let cut = NeonBits::new(bits).clear_high_bits(n.min(16));
+    cut.first_offset() == first && cut.all_zero() == (first == 16)
 }
 
-#[test]
-fn numbers_that_are_cut(rt: HostRuntime) {
-    is_cut(&rt, 0x8001u16, 1, 0x0001);
-    is_cut(&rt, 0x8001u16, 16, 0);
-    is_cut(&rt, 0x8000_0001u32, 31, 1);
-    is_cut(&rt, u32::MAX, 0, u32::MAX);
-    is_cut(&rt, u32::MAX, 32, 0);
-    is_cut(&rt, u64::MAX, 63, 1);
-    is_cut(&rt, u64::MAX, 64, 0);
-}
-
-// A lane of `NeonBits` is four bits.
 #[test]
 fn neon_bits(rt: HostRuntime) {
-    has_fronts(&rt, &NeonBits::new(0), &[(0, (16, 16, true))]);
-    has_fronts(
-        &rt,
-        &NeonBits::new(0x200),
-        &[(13, (2, 2, false)), (14, (2, 16, true))],
-    );
-    has_fronts(
-        &rt,
-        &NeonBits::new(0xf0000),
-        &[(4, (4, 4, false)), (11, (4, 4, false)), (12, (4, 16, true))],
-    );
-    has_fronts(
-        &rt,
-        &NeonBits::new(u64::MAX),
-        &[(0, (0, 0, false)), (16, (0, 16, true))],
-    );
-}
-
-/// The flags behind the first one, and none where none is flagged.
-fn behind_first(flags: u64) -> u64 {
-    if flags.all_zero() {
-        return 0;
-    }
-    clear_first_lane(flags)
-}
-
-#[test]
-fn flags_behind_the_first(rt: HostRuntime) {
-    assert!(rt; behind_first(0x06) == 0x04);
-    assert!(rt; behind_first(0x8000_0000_0000_0000) == 0);
-    assert!(rt; behind_first(u64::MAX) == 0xffff_ffff_ffff_fffe);
-}
-
-#[test]
-fn flags_that_are_moved(rt: HostRuntime) {
-    for count in 0..64usize {
-        assert!(rt;
-            shift_lanes(u64::MAX, count) == u64::MAX >> count,
-            "{count}"
-        );
+    for (bits, n, first) in &NEON_CUTS {
+        assert!(rt; is_neon_cut(*bits, *n, *first), "{bits} {n}");
     }
 }
 
-/// The eight lanes of each byte.
-static EIGHTS: [u8; 8] = [0x11, 0x22, 0x33, 0x44, 0x55, 0x66, 0x77, 0x88];
-
-#[test]
-fn eight_flags_that_are_moved(rt: HostRuntime) {
-    for at in 0..8usize {
-        assert!(rt;
-            eight_lanes(0x8877_6655_4433_2211, at) == EIGHTS[at],
-            "{at}"
-        );
-    }
-}
-
-/// Whether the first `count` lanes have half as many ends of runs where every second lane is flagged, and none
-/// where all are.
-fn has_ends(count: usize) -> bool
-    requires { count ≤ 64 }
-{
-    count_gaps(0x5555_5555_5555_5555, count) == count / 2 && count_gaps(u64::MAX, count) == 0
+/// The mask of the lanes that are at most the bound, where each lane has the same byte.
+fn at_most(byte: u8, bound: u8) -> u16 {
+    v128::Simd128u::splat(byte)
+        .le(&v128::Simd128u::splat(bound))
+        .bitmask()
 }
 
 #[test]
-fn ends_of_runs(rt: HostRuntime) {
-    // The first and the last lane count too.
-    assert!(rt; count_flagged(0x8000_0000_0000_0003) == 3);
-    // A run of two, whose end is the fourth lane or past the lanes that are asked for.
-    assert!(rt; count_gaps(0x06, 4) == 1);
-    assert!(rt; count_gaps(0x06, 3) == 0);
-    for count in 0..=64usize {
-        assert!(rt; has_ends(count), "{count}");
-    }
+fn lanes_that_are_all_the_same(rt: HostRuntime) {
+    assert!(rt; at_most(0x20, 0x1f) == 0x0000);
+    assert!(rt; at_most(0xff, 0xff) == 0xffff);
 }

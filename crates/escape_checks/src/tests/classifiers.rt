@@ -1,8 +1,8 @@
-//! The classifiers of each kernel.
+//! The classifiers of the kernels with 16 lanes, one of each kind.
 ghost use Rattle.std.specs.Prelude.{◌<◌};
 
 use escape_lanes::simd::target::Ticks;
-use escape_lanes::simd::{BitMask, Mask, Simd, avx2, avx512, neon, sse2, v128};
+use escape_lanes::simd::{BitMask, Mask, Simd, neon, sse2, v128};
 
 /// What a kernel's classifiers return for the first bytes: in HTML, in JSON and in a script literal. Each kernel has
 /// them as functions of its module, and no trait has them.
@@ -26,14 +26,6 @@ fn sse2_masks(src: &[u8; 64]) -> [u16; 3] {
     classified!(sse2, Simd128u, escaped_mask, script_mask, src)
 }
 
-fn avx2_masks(src: &[u8; 64]) -> [u32; 3] {
-    classified!(avx2, Simd256u, escaped_mask, script_mask, src)
-}
-
-fn avx512_masks(src: &[u8; 64]) -> [u64; 3] {
-    classified!(avx512, Simd512u, escaped_mask, script_mask, src)
-}
-
 /// The bytes that HTML escapes, others that have their two halves from two of them, and bytes at the ends of ranges.
 const NEIGHBOURS: &[u8; 64] = b"\"&'/<>,.267?!\0\x80\xff\
     \"&'/<>,.267?!\0\x80\xff\
@@ -44,13 +36,6 @@ const NEIGHBOURS: &[u8; 64] = b"\"&'/<>,.267?!\0\x80\xff\
 fn masks_of_neighbours(rt: HostRuntime) {
     assert!(rt; v128_masks(NEIGHBOURS) == [0x003f, 0x2001, 0x2033]);
     assert!(rt; sse2_masks(NEIGHBOURS) == [0x003f, 0x2001, 0x2033]);
-    assert!(rt; avx2_masks(NEIGHBOURS) == [0x003f_003f, 0x2001_2001, 0x2033_2033]);
-    let in_64 = [
-        0x003f_003f_003f_003f,
-        0x2001_2001_2001_2001,
-        0x2033_2033_2033_2033,
-    ];
-    assert!(rt; avx512_masks(NEIGHBOURS) == in_64);
 }
 
 /// The first lane that is set of the neighbours from this byte on, in HTML and in JSON by the bit mask and by the mask, and

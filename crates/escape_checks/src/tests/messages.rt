@@ -1,9 +1,10 @@
-//! What the faults print, and the errors as an `io::Error`, of which no clause tells the words.
+//! What faults print, and errors as an `io::Error`, of which no clause tells the words; a formatter with a width.
 
 use escape_simd::Refusal;
 use escape_simd::html::EscapeHtmlError;
 use escape_simd::json::EscapeError;
 use escape_stream::ToolFault;
+use escape_text::json::Escaped;
 use std::fmt::Display;
 use std::io;
 use std::process::Abort;
@@ -25,11 +26,23 @@ fn messages_of_refusals_among_errors_of_io(rt: HostRuntime) {
     );
 }
 
+static FAULTS: [(ToolFault, &str); 5] = [
+    (ToolFault::ReadFailed, "reading failed"),
+    (ToolFault::NotUtf8, "input is not UTF-8"),
+    (ToolFault::TooLarge, "input is too large"),
+    (ToolFault::OutOfMemory, "out of memory"),
+    (ToolFault::WriteFailed, "writing failed"),
+];
+
 #[test]
 fn messages_of_faults(rt: HostRuntime) {
-    prints(&rt, &ToolFault::ReadFailed, "reading failed");
-    prints(&rt, &ToolFault::NotUtf8, "input is not UTF-8");
-    prints(&rt, &ToolFault::TooLarge, "input is too large");
-    prints(&rt, &ToolFault::OutOfMemory, "out of memory");
-    prints(&rt, &ToolFault::WriteFailed, "writing failed");
+    for (fault, text) in &FAULTS {
+        prints(&rt, fault, text);
+    }
+}
+
+#[test]
+fn width_and_fill_have_no_effect(rt: HostRuntime) {
+    let padded = format!(in rt.alloc(); "{:*>9}", Escaped("a")).expect(&rt, "no memory");
+    assert!(rt; padded.as_str() == "\"a\"");
 }

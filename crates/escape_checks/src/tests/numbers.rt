@@ -1,5 +1,6 @@
-//! Capacities at the type's end.
+//! Capacities at the type's end, and the size of counts.
 
+use escape_lanes::simd::target::{Target, Ticks};
 use escape_simd::html::{InputTooLarge, html_capacity};
 use escape_simd::json::{EscapeError, json_capacity};
 
@@ -40,4 +41,10 @@ fn capacities(rt: HostRuntime) {
         assert!(rt; json_capacity(*len) == *json, "{len}");
         assert!(rt; html_capacity(*len) == *html, "{len}");
     }
+}
+
+#[test]
+fn counts_take_no_bytes(rt: HostRuntime) {
+    assert!(rt; size_of::<Ticks>() == 0);
+    assert!(rt; size_of::<Target<'_, 16>>() == size_of::<&mut [u8]>());
 }

@@ -1,6 +1,5 @@
-//! Texts of many equal parts, and what stops a test at one.
+//! Texts of many equal parts.
 
-use escape_stream::Mode;
 use std::alloc::{AllocError, Global};
 use std::process::Abort;
 
@@ -30,21 +29,6 @@ fn push_often(text: &mut String, count: usize, part: &str) -> Result<(), AllocEr
         text.push_str(part)?;
     }
     Ok(())
-}
-
-/// The part, with so many letters a before it and after it.
-pub fn in_letters(
-    rt: &(impl Abort + AllocGlobal),
-    before: usize,
-    part: &str,
-    after: usize,
-) -> String {
-    repeated(rt, &[(before, "a"), (1, part), (after, "a")])
-}
-
-/// Stops the test unless it holds, and tells the mode and the text.
-pub fn holds(rt: &impl Abort, is: bool, mode: Mode, text: &str) {
-    assert!(rt; is, "{mode:?} {text}");
 }
 
 /// Whether each of these bytes is this one.

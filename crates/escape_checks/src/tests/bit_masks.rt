@@ -6,8 +6,9 @@ use escape_lanes::simd::{BitMask, Mask, Simd, v128};
 /// A mask, how many of its last lanes are cut, what is left, and the first lane of that.
 type Cut<M> = (M, usize, M, usize);
 
-static CUTS_OF_16: [Cut<u16>; 5] = [
+static CUTS_OF_16: [Cut<u16>; 6] = [
     (0, 0, 0, 16),
+    (0x8001, 0, 0x8001, 0),
     (0x8001, 1, 0x0001, 0),
     (0x8001, 16, 0, 16),
     (0x8400, 5, 0x0400, 10),
@@ -54,8 +55,9 @@ fn masks_that_are_cut(rt: HostRuntime) {
 }
 
 /// A lane of `NeonBits` is four bits. A mask, how many of its last lanes are cut, and the first lane that is left.
-static NEON_CUTS: [(u64, usize, usize); 8] = [
+static NEON_CUTS: [(u64, usize, usize); 9] = [
     (0, 0, 16),
+    (0x200, 0, 2),
     (0x200, 13, 2),
     (0x200, 14, 16),
     (0xf0000, 4, 4),

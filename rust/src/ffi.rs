@@ -3,6 +3,11 @@
 #[cfg(target_arch = "x86_64")]
 use crate::cpu;
 use crate::output::Mode;
+#[cfg(target_arch = "x86_64")]
+use core::{
+    mem::transmute,
+    sync::atomic::{AtomicPtr, Ordering::Relaxed},
+};
 use core::{mem::MaybeUninit, slice, str};
 
 /// Writes the output of the `length` bytes at `text` to the front of the `room` bytes at `buffer`, and returns its
@@ -20,6 +25,11 @@ extern "C" {
     fn write_v3(mode: u32, text: *const u8, length: usize, buffer: *mut u8, room: usize) -> usize;
 }
 
+/// The build for the processor's level; until a call has asked for that, `write_asking`. All threads find the same build,
+/// so it does not matter which of them writes it, or in what order. A call is one jump by it, with no test.
+#[cfg(target_arch = "x86_64")]
+static BUILD: AtomicPtr<()> = AtomicPtr::new(write_asking as *mut ());
+
 /// Writes the output of `text` to the front of `buffer`, and returns it.
 ///
 /// # Panics
@@ -27,17 +37,19 @@ extern "C" {
 /// If the buffer is shorter than the bound.
 #[inline]
 pub(crate) fn write<'b>(mode: Mode, text: &str, buffer: &'b mut [MaybeUninit<u8>]) -> &'b str {
+    // SAFETY: `BUILD` is a function of this type.
     #[cfg(target_arch = "x86_64")]
-    let build = if cpu::is_known_v3() { write_v3 } else { write_asking };
+    let build = unsafe { transmute::<*mut (), Write>(BUILD.load(Relaxed)) };
     #[cfg(not(target_arch = "x86_64"))]
     let build = write_lowest;
     write_by(build, mode, text, buffer)
 }
 
-/// Writes by the build for the processor's level, which is asked for if it is not known yet.
+/// Writes by the build for the processor's level, which it asks for, and sets `BUILD`.
 #[cfg(target_arch = "x86_64")]
 unsafe extern "C" fn write_asking(mode: u32, text: *const u8, length: usize, buffer: *mut u8, room: usize) -> usize {
-    let build = if cpu::has_v3() { write_v3 } else { write_lowest };
+    let build: Write = if cpu::has_v3() { write_v3 } else { write_lowest };
+    BUILD.store(build as *mut (), Relaxed);
     // SAFETY: the caller keeps to the contract of `Write`, and the processor has the level.
     unsafe { build(mode, text, length, buffer, room) }
 }

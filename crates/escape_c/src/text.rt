@@ -201,8 +201,11 @@ pub extern "C" fn escape_write(mode: u32, text: &[u8], buffer: &mut [u8]) -> usi
     ensures { Escapes mode 0 text.now buffer.old buffer.new result }
 {
     let text = unsafe { str::from_utf8_unchecked(text) };
-    let mode = mode_of_number(mode).unwrap_or(Mode::Script);
-    format_text(Kernel::default(), mode, text, buffer)
+    match mode {
+        2 => format_text(Kernel::default(), Mode::Script, text, buffer), // So the compiler tests for 0 first.
+        0 => format_text(Kernel::default(), Mode::Json, text, buffer),
+        _ => format_text(Kernel::default(), Mode::Html, text, buffer),
+    }
 }
 
 /// Does what [`escape_write`] does, without the quotation marks.

@@ -239,14 +239,12 @@ build_anew() {
   say "built in $((SECONDS - started)) seconds. crates/*/out and .build take $(du -ch "$top"/crates/*/out "$top/.build" | sed -n '$s/[[:space:]].*//p')"
 }
 
-# tell_progress STARTED: reads what rt prints, and says on standard error at which crate it is, how many of its functions
-# are proved, and how many seconds passed.
+# tell_progress STARTED: reads what rt prints, and says on standard error how many functions of a crate are proved, which
+# crate was checked, and how many seconds passed.
 tell_progress() {
-  local line number crate= far='so far: ([0-9]+ of [0-9]+ functions)'
+  local line far='so far: ([0-9]+ of [0-9]+ functions)' checked='^crate ([a-z_]+): '
   while IFS= read -r line; do
-    for number in "${!crates[@]}"; do
-      [[ $line != "rt: chose "*" for ${crates[number]}" ]] || crate="crate $((number + 1)) of ${#crates[@]}, ${crates[number]}"
-    done
-    [[ ! $line =~ $far ]] || say "$crate, ${BASH_REMATCH[1]}, $((SECONDS - $1)) seconds"
+    [[ ! $line =~ $far ]] || say "${BASH_REMATCH[1]}, $((SECONDS - $1)) seconds"
+    [[ ! $line =~ $checked ]] || say "${BASH_REMATCH[1]} is checked, $((SECONDS - $1)) seconds"
   done
 }

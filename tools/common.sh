@@ -214,11 +214,10 @@ build() {
   return "$status"
 }
 
-# The build gets the time at which it began, so that a later edit outdates it. Two jobs prove it: each further one proves
-# again what it shares with the others, and saves little time.
+# The build gets the time at which it began, so that a later edit outdates it.
 build_anew() {
-  local log=$top/.build/$1-$2.log began=$top/.build/$1-$2.began made=$top/crates/$1/out started=$SECONDS words=(--cpu "$2" --jobs 2)
-  [ "$2" != aarch64 ] || words=(--target aarch64-unknown-linux-gnu --jobs 2)
+  local log=$top/.build/$1-$2.log began=$top/.build/$1-$2.began made=$top/crates/$1/out started=$SECONDS words=(--cpu "$2")
+  [ "$2" != aarch64 ] || words=(--target aarch64-unknown-linux-gnu)
   if is_program "$1"; then
     words=(run "${words[@]}") made+=/$1
   elif is_library "$1"; then

@@ -11,7 +11,7 @@ use crate::simd::lanes;
 use crate::simd::traits::LoadStore;
 use std::simd::prelude::*;
 
-/// A vector that can be loaded with the last bytes of a text.
+/// A vector of at most 64 lanes that can be loaded with the last bytes of a text.
 pub trait LoadLast: LoadStore {
     /// Returns the last `count` bytes of `src` in the first lanes, and zeros in the others.
     ///
@@ -22,6 +22,9 @@ pub trait LoadLast: LoadStore {
         requires inside { count ≤ length src.now }
         ensures { Self.lanes result
             ≡ drop (length src.now - count) src.now ++ replicate (Self.LANES - count) 0 };
+
+    // So few that an array of them fits in memory.
+    ghost at_most: { Self.LANES ≤ 64 };
 }
 
 /// Returns the last `count` bytes, three at most, as a number.

@@ -93,9 +93,6 @@ pub trait Simd: Sized + Drop {
 
     // A comparison returns a truth value for each lane.
     ghost mask_width: { Self.Mask.BitMask.LEN ≡ LANES };
-
-    // So few that an array of them fits in memory, and that two pieces of 32 copy any front.
-    ghost few: { LANES ≤ 64 };
 }
 
 /// A [`Simd`] as it is loaded and stored. Each of them is one, and nothing else.
@@ -119,8 +116,6 @@ pub trait LoadStore: Sized + Drop {
 
     // There are `LANES` of them.
     ghost width: { (v : Self) → length (lanes v) ≡ LANES };
-
-    ghost few: { LANES ≤ 64 };
 }
 
 impl<T: Simd> LoadStore for T {
@@ -129,8 +124,6 @@ impl<T: Simd> LoadStore for T {
     ghost lanes = { T.lanes };
 
     ghost width = { T.width };
-
-    ghost few = { T.few };
 
     #[inline(always)]
     fn load(src: &[u8]) -> T {

@@ -110,8 +110,6 @@ impl Simd for Simd128u {
 
     ghost mask_width = { refl };
 
-    ghost few = { lit≤ tt };
-
     #[inline(always)]
     fn loadu(src: &[u8]) -> Self {
         Simd128u {
@@ -146,6 +144,8 @@ impl Simd for Simd128u {
 }
 
 impl LoadLast for Simd128u {
+    ghost at_most = { lit≤ tt };
+
     #[inline(always)]
     fn load_last(src: &[u8], count: usize) -> Self {
         Simd128u::loadu(&last::last_16(src, count).to_array())

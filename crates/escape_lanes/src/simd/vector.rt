@@ -62,8 +62,6 @@ where
 
     ghost mask_width = { Prim.search rules };
 
-    ghost few = { Prim.search rules };
-
     #[inline(always)]
     fn loadu(src: &[u8]) -> Self {
         Vector::of(lanes::load(src))
@@ -95,6 +93,8 @@ where
     LaneMask<BITS, N>: HasBits<N>,
     std::simd::Simd<u8, N>: ByWidth<N>,
 {
+    ghost at_most = { Prim.search rules };
+
     #[inline(always)]
     fn load_last(src: &[u8], count: usize) -> Self {
         Vector::of(<std::simd::Simd<u8, N> as ByWidth<N>>::last(src, count))

@@ -1,11 +1,8 @@
 -- A text that is appended: from registers, or part by part in place.
-use Rattle.escape_simd.proofs.Words.{◌≡◌, ℕ, ◌+◌, ◌-◌, ◌<◌, ◌≤◌, Bool, true, false, cond, List, [], ◌++◌, length, length-drop, take, drop, slice_range, replicate, get_or, sym, ap, ◌∙◌, append_assoc, arith, count_by, take-add, take-append-add, take-append_seam, nat_tests, append-nil, take-append-drop, take-take, take_all, get_or-le-sum_by, MaskOf, IsClassified, is_clear, ◌*◌, ◌&&◌, and_parts, Mode, bytes_of, Target, inner, quote_of, IsFront, IsPartAt, AreTailMasks, reach, state}
-use Rattle.escape_simd.proofs.Costs.{BodySoFar}
+use Rattle.escape_simd.proofs.Words.{drop_all, length-append, length-take-le, ◌≡◌, ℕ, ◌+◌, ◌-◌, ◌<◌, ◌≤◌, Bool, true, false, cond, List, [], ◌++◌, length, take, drop, replicate, get_or, sym, ap, ◌∙◌, append_assoc, arith, count_by, take-add, take-append-add, take-append_seam, nat_tests, append-nil, take-append-drop, take-take, get_or-le-sum_by, MaskOf, IsClassified, is_clear, ◌*◌, ◌&&◌, and_parts, Mode, inner, quote_of, IsFront, AreTailMasks}
 use Rattle.escape_simd.proofs.Lanes.{CleanFrom, clean-list, mask-clean}
 use Rattle.escape_simd.proofs.Last.{tail-clean_back, tail-clean_front}
 use Rattle.escape_simd.proofs.ReplacementLemmas.{inner-nil}
-use Rattle.escape_simd.proofs.RestSteps.{rest-is}
-use Rattle.escape_simd.proofs.Stretches.{stretch-on}
 use Rattle.escape_simd.proofs.Texts.{IsClean, inner-clean}
 
 -- bytes that need no escape stand for themselves
@@ -16,12 +13,16 @@ itself mode text clean = let c = inner-clean mode [] text (λ k h. clean k (omeg
 pub vector-over : (old src before : List ℕ) (len at n e : ℕ) → len ≡ length old → at ≤ e → before ≡ old ++ take e src → take (len + at) before ++ take n (drop at src) ≡ old ++ take (at + n) src
 vector-over old src before len at n e is on so_far = grind (arith, take-append-add, take-take, append_assoc, take-add)
 
--- what was escaped of a text to a target, as its bytes have it
-pub part-escaped : {N : ℕ} {mode : Mode} {src bytes : List ℕ} {old new : Target N} {at to end t0 t1 : ℕ} → BodySoFar mode src (state old 0 to t0) (state new at end t1) → bytes_of old ≡ bytes → end ≤ length bytes → 0 < at
-    → IsPartAt mode (reach true N) src bytes (bytes_of new) at to end
-part-escaped {N} {mode} {src} {bytes} {old} {new} {at} {to} {end} so_far is fits on =
-    let s = so_far.stretch in let most = stretch-on s in
-    grind (arith, rest-is, most, s.same_slice.len)
+-- what stands for a piece of a text was written behind what was, and for the rest it is yet to be
+pub piece-on : (items filled new piece behind rest whole : List ℕ) (end count close : ℕ) → end ≤ count → take count filled ≡ items → take close new ≡ take end filled ++ piece → rest ≡ piece ++ behind → take end items ++ rest ≡ whole
+    → take close new ++ behind ≡ whole
+piece-on items filled new piece behind rest whole end count close inside front written joined so_far =
+    let kept : take end filled ≡ take end items = grind (arith, take-take, front, inside) in
+    rw written (append_assoc (take end filled) piece behind ∙ ap (λ xs. xs ++ (piece ++ behind)) kept ∙ ap (λ xs. take end items ++ xs) (sym joined) ∙ so_far)
+
+-- a vector gets back the bytes that it lent, as many as it has
+pub given-back : (new filled : List ℕ) (close count : ℕ) → length new ≡ length filled → count ≡ length filled → close ≤ count → take close (take count (new ++ drop (length new) filled)) ≡ take close new
+given-back new filled close count same all inside = let none : drop (length new) filled ≡ [] = drop_all (length new) filled (omega (arith, same)) in grind (arith, append-nil, take-take, none, inside)
 
 -- a clean front of a text, and a stretch more
 pub front-more : (mode : Mode) (src : List ℕ) (at end n : ℕ) → IsFront mode src at end → end + n ≤ length src → CleanFrom mode src end (end + n) → IsFront mode src at (end + n)
@@ -31,13 +32,20 @@ front-more mode src at end n front inside clean = grind (arith, clean, front.cle
 pub copied-on : (text old items new : List ℕ) (at n m : ℕ) → items ≡ old ++ take at text → m ≡ n → new ≡ items ++ take m (drop at text) → new ≡ old ++ take (at + n) text
 copied-on text old items new at n m so_far is pushed = rw is at pushed ∙ ap (λ xs. xs ++ take n (drop at text)) so_far ∙ append_assoc old (take at text) (take n (drop at text)) ∙ ap (λ xs. old ++ xs) (sym (take-add at n text))
 
+-- and fewer of them
+pub copied-front : (text old items : List ℕ) (at from n : ℕ) → items ≡ old ++ take at text → from ≤ at → n ≡ length old + from → take n items ≡ old ++ take from text
+copied-front text old items at from n copied before is = rw (copied, is) (grind (arith, take-append-add, take-take, before))
+
+-- so many there are then
+pub copied-long : (text old items : List ℕ) (at : ℕ) → items ≡ old ++ take at text → at ≤ length text → length items ≡ length old + at
+copied-long text old items at copied inside = ap length copied ∙ length-append old (take at text) ∙ ap (λ n. length old + n) (length-take-le at text inside)
+
 -- it was appended as it is, and then what stands for the rest
-pub front-rest : (mode : Mode) (src old new more : List ℕ) (at : ℕ) → IsFront mode src 0 at → new ≡ old ++ take at src → more ≡ new ++ (inner mode (slice_range src at (length src)) ++ quote_of mode) → more ≡ old ++ (inner mode src ++ quote_of mode)
-front-rest mode src old new more at front copied appended =
+pub front-rest : (mode : Mode) (src old new more rest : List ℕ) (at : ℕ) → IsFront mode src 0 at → new ≡ old ++ take at src → rest ≡ drop at src → more ≡ new ++ (inner mode rest ++ quote_of mode) → more ≡ old ++ (inner mode src ++ quote_of mode)
+front-rest mode src old new more rest at front copied is appended =
     let clean : IsClean mode (take at src) = clean-list mode src 0 at (λ k after before. front.clean k after (omega (arith, before))) in
     let whole = inner-clean mode (drop at src) (take at src) clean in
-    let rest : slice_range src at (length src) ≡ drop at src = take_all (length src - at) (drop at src) (omega (arith, length-drop at src)) in
-    grind (arith, append_assoc, take-append-drop, whole, rest)
+    grind (arith, append_assoc, take-append-drop, whole, is)
 
 -- what stands for a text, and a quotation mark after it
 pub marked : (mode : Mode) (text old new last : List ℕ) → new ≡ old ++ inner mode text → last ≡ new ++ quote_of mode → last ≡ old ++ (inner mode text ++ quote_of mode)

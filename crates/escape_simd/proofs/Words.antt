@@ -42,7 +42,7 @@ pub use Rattle.escape_simd.specs.Lengths.{IsPartLength}
 pub use Rattle.escape_simd.specs.Modes.{mode_numbered}
 unfoldable pub use Rattle.escape_simd.specs.Output.{begins_separator, script_inner_after}
 pub use Rattle.escape_simd.specs.Output.{bound, first_replacement, inner, source_len, plain, quote_count, quote_of, quoted}
-pub use Rattle.escape_simd.specs.Parts.{IsEscapedAt, IsFront, IsPartAt, quote_if}
+pub use Rattle.escape_simd.specs.Parts.{IsEscapedAt, IsFront, quote_if}
 unfoldable pub use Rattle.escape_simd.specs.Runs.{runs_after, script_escapes_after, script_runs_after}
 pub use Rattle.escape_simd.specs.Runs.{escaped_count, run_count, run_count_after}
 pub use Rattle.escape_simd.specs.Script.{HasNoRawMark, IsOnlyScript, IsSafeInScript, IsScriptFree, IsScriptItem, IsShortestScript, is_script_marked}

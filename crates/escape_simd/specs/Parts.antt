@@ -1,20 +1,9 @@
 -- A text that is escaped part by part, and what is told of it before it is written.
-use Rattle.std.specs.Prelude.{◌≡◌, ℕ, ◌+◌, ◌*◌, ◌<◌, ◌≤◌, Bool, false, List, [], ◌++◌, length, take, drop, slice_index, if◌then◌else◌}
+use Rattle.std.specs.Prelude.{◌≡◌, ℕ, ◌+◌, ◌*◌, ◌<◌, ◌≤◌, Bool, false, List, [], length, slice_index, if◌then◌else◌}
 use Rattle.escape_lanes.specs.Mode.{Mode}
 use Rattle.escape_lanes.specs.Replacement.{needs_escape}
 use Rattle.escape_simd.specs.Formatted.{IsWrittenAt}
 use Rattle.escape_simd.specs.Output.{inner, plain, quote_of}
-
--- The first `next` bytes of a text were escaped to the bytes from `to` up to `end`: what is written and what is yet to be written
--- stay one text. What lies `slack` bytes past all of it is left alone.
-pub record IsPartAt (mode : Mode) (slack : ℕ) (text old new : List ℕ) (next to end : ℕ) : Type 0 where
-  pub forward : 0 < next
-  pub inside : next ≤ length text
-  pub most : end ≤ to + 6 * next
-  pub fits : end ≤ length new
-  pub limit : end + length (inner mode (drop next text)) ≡ to + length (inner mode text)
-  pub bytes : take end new ++ inner mode (drop next text) ≡ take to old ++ inner mode text
-  pub kept : drop (to + length (inner mode text) + slack) new ≡ drop (to + length (inner mode text) + slack) old
 
 -- None of a text's bytes from one place up to another needs an escape.
 pub record IsFront (mode : Mode) (text : List ℕ) (at end : ℕ) : Type 0 where

@@ -80,7 +80,7 @@ fn append_output<const MODE: u8, A: Allocator>(value: &str, dst: &mut Vec<u8, A>
     let text = value.as_bytes();
     // The empty text goes this way too, so the short way needs no test for it.
     if text.is_empty() || 2 * N <= text.len() {
-        return append_long::<MODE, A>(text, dst);
+        return append_long::<MODE, A>(value, dst);
     }
     append_last::<MODE, A>(text, dst);
 }

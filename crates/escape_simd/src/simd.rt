@@ -14,7 +14,6 @@ pub mod util;
 pub mod v128;
 pub(crate) mod whole;
 
-pub(crate) use body::escape_chunks;
 pub use escape_lanes::simd::mode::{HTML_MODE, JSON_MODE, SCRIPT_MODE};
 pub use escape_lanes::simd::{BitMask, Mask, Simd, bits, target};
 pub(crate) use escape_lanes::simd::{Classifier, LoadLast};

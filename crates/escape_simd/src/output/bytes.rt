@@ -50,11 +50,12 @@ pub(super) fn append_last<const MODE: u8, A: Allocator>(text: &[u8], dst: &mut V
 
 /// Appends what stands for a text of two vectors or more: its clean front as it is, and then the rest.
 #[inline(never)]
-pub(super) fn append_long<const MODE: u8, A: Allocator>(text: &[u8], dst: &mut Vec<u8, A>)
-    requires { vec_len dst.old + 6 * length text.now + N ≤ vec_capacity dst.old }
+pub(super) fn append_long<const MODE: u8, A: Allocator>(value: &str, dst: &mut Vec<u8, A>)
+    requires { vec_len dst.old + 6 * length value.now + N ≤ vec_capacity dst.old }
     ensures { dst.new.items ≡ dst.old.items
-        ++ (inner (mode_numbered MODE) text.now ++ quote_of (mode_numbered MODE)) }
+        ++ (inner (mode_numbered MODE) value.now ++ quote_of (mode_numbered MODE)) }
 {
+    let text = value.as_bytes();
     let mut at = 0;
     'chunks: while 5 * N <= text.len() - at {
         let ((v1, _), (v2, _), (v3, _), (v4, _), clear) = classify_four::<V, MODE, N>(
@@ -72,7 +73,10 @@ pub(super) fn append_long<const MODE: u8, A: Allocator>(text: &[u8], dst: &mut V
     'vectors: while 2 * N <= text.len() - at {
         let (v, mask) = classify::<V, MODE, N>(text, at, &mut Ticks::new());
         if !mask.is_clear() {
-            return append_in_place::<MODE, A>(&text[at..], dst);
+            // The rest begins with a whole character.
+            let (front, rest) = value.split_at(value.floor_char_boundary(at));
+            dst.truncate(dst.len() - (at - front.len()));
+            return append_in_place::<MODE, A>(rest, dst);
         }
         push_all(dst, &lanes(&v));
         at += N;

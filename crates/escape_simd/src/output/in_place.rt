@@ -4,18 +4,15 @@ ghost use Rattle.escape_simd.specs.Modes.{mode_numbered};
 ghost use Rattle.escape_simd.specs.Output.{inner, quote_of};
 ghost use Rattle.escape_simd.specs.Stretch.{AreTailMasks};
 
-use crate::output::push::{fill, push_all, push_quote};
+use crate::output::push::{fill, push_quote};
 use crate::output::{N, V};
-use crate::simd::{escape_chunks, escape_flagged, escape_to_slice};
+use crate::simd::{escape_flagged, escape_to_slice};
 use escape_lanes::simd::escape_mask::EscapeMask;
 use escape_lanes::simd::lane_bits::count_flagged;
 use std::alloc::Allocator;
 
-/// How many bytes the output for a chunk of four vectors may have, and a vector more.
-const CHUNK_ROOM: usize = 25 * N;
-
-/// How many zeros are enough for most short texts: a text's own bytes, five more for each escape, and a vector.
-const FEW_ZEROS: usize = 128;
+/// The largest number of bytes of a text that are escaped at a time: so the zeros for them are still in the first cache.
+const PIECE: usize = 2048;
 
 /// Appends what stands for a text shorter than two vectors, and the last quotation mark. Some are flagged.
 #[inline(never)]
@@ -31,34 +28,30 @@ pub(super) fn append_flagged<const MODE: u8, A: Allocator>(
         ++ (inner (mode_numbered MODE) text.now ++ quote_of (mode_numbered MODE)) }
 {
     let old = dst.len();
-    let most = text.len() + 5 * (count_flagged(first.bits()) + count_flagged(last.bits())) + N;
-    if FEW_ZEROS < most || dst.capacity() - old < FEW_ZEROS {
-        return append_in_place::<MODE, A>(text, dst);
-    }
-    push_all(dst, &[0; FEW_ZEROS]);
+    // Bytes that both masks tell of are counted twice.
+    let flagged = count_flagged(first.bits()) + count_flagged(last.bits());
+    let most = (text.len() + 5 * flagged).min(6 * text.len());
+    fill(dst, old + most + N);
     let end = escape_flagged::<V, MODE, false, N>(text, first, last, dst, old);
     dst.truncate(end);
     push_quote::<MODE, A>(dst);
 }
 
-/// Appends what stands for the text's bytes, and the last quotation mark. The vector is filled for a chunk or
-/// more at a time, and then for the rest.
+/// Appends what stands for the text, and the last quotation mark, piece by piece.
 #[inline(never)]
-pub(super) fn append_in_place<const MODE: u8, A: Allocator>(src: &[u8], dst: &mut Vec<u8, A>)
-    requires { vec_len dst.old + 6 * length src.now + N ≤ vec_capacity dst.old }
+pub(super) fn append_in_place<const MODE: u8, A: Allocator>(value: &str, dst: &mut Vec<u8, A>)
+    requires { vec_len dst.old + 6 * length value.now + N ≤ vec_capacity dst.old }
     ensures { dst.new.items ≡ dst.old.items
-        ++ (inner (mode_numbered MODE) src.now ++ quote_of (mode_numbered MODE)) }
+        ++ (inner (mode_numbered MODE) value.now ++ quote_of (mode_numbered MODE)) }
 {
-    let mut left = src;
+    let mut rest = value;
     let mut end = dst.len();
-    'parts: while 5 * N <= left.len() {
-        fill(dst, end + CHUNK_ROOM);
-        let (at, next) = escape_chunks::<V, MODE, N>(left, dst, end);
-        left = &left[at..];
-        end = next;
+    'pieces: while !rest.is_empty() {
+        let (piece, behind) = rest.split_at(rest.floor_char_boundary(PIECE.min(rest.len())));
+        fill(dst, end + 6 * piece.len() + N);
+        end = escape_to_slice::<V, MODE, false, N>(piece.as_bytes(), dst, end);
+        rest = behind;
     }
-    fill(dst, end + 6 * left.len() + N);
-    let close = escape_to_slice::<V, MODE, false, N>(left, dst, end);
-    dst.truncate(close);
+    dst.truncate(end);
     push_quote::<MODE, A>(dst);
 }

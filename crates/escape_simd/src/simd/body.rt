@@ -2,7 +2,6 @@
 ghost use Rattle.std.specs.Prelude.{◌+◌, ◌*◌, ◌/◌, ◌<◌, ◌≤◌, true, length};
 ghost use Rattle.escape_lanes.specs.Written.{bytes_of};
 ghost use Rattle.escape_simd.specs.Modes.{mode_numbered};
-ghost use Rattle.escape_simd.specs.Parts.{IsPartAt};
 ghost use Rattle.escape_simd.specs.Stretch.{Advanced, HasRoom, reach, state};
 
 use crate::simd::Classifier;
@@ -41,30 +40,4 @@ pub(crate) fn escape_bytes<V: Classifier<MODE, N>, const MODE: u8, const N: usiz
             escape_flagged_tail::<V, MODE, N>(last, masks.first, masks.last, target, end, ticks)
         }
     }
-}
-
-/// Escapes chunks of the text to `dst` from `to` on, while five vectors are left and a chunk has room.
-/// Returns the places after them.
-///
-/// The target is made here: so the compiler keeps it in registers.
-#[inline(never)]
-pub(crate) fn escape_chunks<V: Classifier<MODE, N>, const MODE: u8, const N: usize>(
-    src: &[u8],
-    dst: &mut [u8],
-    to: usize,
-) -> (usize, usize)
-    requires inside { 5 * N ≤ length src.now }
-    requires room { to + 25 * N ≤ length dst.old }
-    ensures { IsPartAt (mode_numbered MODE) (reach true N) src.now dst.old dst.new result.0 to result.1 }
-{
-    let last = src.len() - 5 * N;
-    let last_end = dst.len() - 25 * N;
-    let mut target = Target::<N>::new(dst);
-    let mut ticks = Ticks::new();
-    let mut at = 0;
-    let mut end = to;
-    'chunks: while at <= last && end <= last_end {
-        (at, end) = chunk::<V, MODE, N>(src, at, &mut target, end, &mut ticks);
-    }
-    (at, end)
 }

@@ -49,9 +49,6 @@ pub(super) fn push_quote<const MODE: u8, A: Allocator>(dst: &mut Vec<u8, A>)
     }
 }
 
-/// So many zeros are appended at once where fewer are enough, as they are for most short texts.
-const FEW_ZEROS: usize = 128;
-
 /// Appends zeros until the vector has `len` bytes or more. It has room for `len`.
 #[inline(always)]
 pub(super) fn fill<A: Allocator>(dst: &mut Vec<u8, A>, len: usize)
@@ -60,14 +57,9 @@ pub(super) fn fill<A: Allocator>(dst: &mut Vec<u8, A>, len: usize)
     ensures filled { (vec_len dst.old ≤ vec_len dst.new) × (len ≤ vec_len dst.new) }
     ensures capacity { vec_capacity dst.old ≤ vec_capacity dst.new }
 {
-    let old = dst.len();
-    if len <= old {
-        return;
+    if dst.len() < len {
+        let Ok(()) = dst.resize(len, 0) else {
+            unreachable!()
+        };
     }
-    if len - old <= FEW_ZEROS && FEW_ZEROS <= dst.capacity() - old {
-        return push_all(dst, &[0; FEW_ZEROS]);
-    }
-    let Ok(()) = dst.resize(len, 0) else {
-        unreachable!()
-    };
 }

@@ -1,10 +1,8 @@
-use Rattle.escape_simd.proofs.Words.{ℕ, List, ap, append-nil, arith, length, mode_numbered, rules, take, take-append-drop, ◌∙◌, ◌≡◌, ◌++◌, ◌≤◌, inner, vec_len}
+use Rattle.escape_simd.proofs.Words.{ℕ, List, ap, arith, length, mode_numbered, rules, take, take-append-drop, ◌∙◌, ◌≡◌, ◌++◌, ◌≤◌, inner, vec_len}
 use Rattle.std.proofs.lemmas.Str.{IsCharBoundary-start}
-use Rattle.std.proofs.lemmas.List.{nil_from_length}
 use Rattle.escape_simd.proofs.OutputLemmas.{inner-append}
-use Rattle.escape_simd.proofs.Parts.{given-back, marked, piece-on}
+use Rattle.escape_simd.proofs.Parts.{given-back, piece-on}
 use Rattle.escape_simd.proofs.Pieces.{cut-forward, cut-text}
-use Rattle.escape_simd.proofs.ReplacementLemmas.{inner-nil}
 use Rattle.escape_simd.proofs.Texts.{length-inner}
 use Rattle.escape_simd.proofs.output.in_place.append_in_place.Goals as goal
 
@@ -14,7 +12,7 @@ push_quote-requires g c = grind (arith, length-inner (mode_numbered g.row.MODE) 
 pub pieces-smaller : goal.pieces-smaller
 pieces-smaller g c =
     let rest : List ℕ = c.pieces.rest.now in let utf8 = c.pieces.invariant.utf8 in
-    let forward = cut-forward rest 0 c.min.result c.floor_char_boundary.result utf8 (IsCharBoundary-start rest utf8) (search rules) (λ n few within. omega (arith, few, within, c.min.ensures)) c.floor_char_boundary.ensures.nearest in
+    let forward = cut-forward rest 0 2048 c.floor_char_boundary.result utf8 (IsCharBoundary-start rest utf8) (omega (arith, c.pieces-test.true)) (λ n few within. omega (arith, few)) c.floor_char_boundary.ensures.nearest in
     omega (arith, forward, c.split_at.ensures.back_len)
 
 pub pieces-preserved : goal.pieces-preserved
@@ -28,9 +26,3 @@ pieces-preserved g c =
     let fits : c.escape_to_slice-end.result ≤ vec_len c.fill.new.dst = search (rules, l, w, len) in
     record { utf8 = search rules; fits = fits; room = search (rules, l, w, len, s); written = ap (λ xs. xs ++ inner mode behind) (given-back c.escape_to_slice-end.new.dst c.fill.new.dst.items c.escape_to_slice-end.result _ (c.escape_to_slice-end.auto.dst ∙ ap length c.deref_mut.ensures.value) (search rules) fits) ∙ on }
 
-pub returns : goal.returns
-returns g c =
-    let mode = mode_numbered g.row.MODE in let value : List ℕ = c.args.value.now in let old : List ℕ = c.args.dst.now.items in let rest : List ℕ = c.pieces.rest.now in
-    let none : length rest ≡ 0 = search rules in
-    let all : take c.pieces.end c.pieces.dst.items ≡ old ++ inner mode value = grind (arith, nil_from_length rest none, append-nil, inner-nil mode, c.pieces.invariant.written) in
-    marked mode value old c.truncate.new.self.items c.push_quote.new.dst.items (c.truncate.ensures.items ∙ all) c.push_quote.ensures.items

@@ -189,6 +189,9 @@ lock() {
 # Prints how many proofs may run side by side: one for each processor, and for each 3 GB of free memory.
 side_by_side() { awk -v n="$(nproc)" '/^MemAvail/ { n = int($2 / 3e6) < n ? int($2 / 3e6) : n } END { print n < 1 ? 1 : n }' /proc/meminfo; }
 
+# Prints how many jobs a proof gets that runs alone: two, if there is room. More prove more again, and save little time.
+jobs_alone() { local room; room=$(side_by_side) && echo $((room < 2 ? room : 2)); }
+
 # is_fresh BUILD CRATE..: whether the build is there, and no source of the crates is newer. Folders count, for files that
 # were removed. Some crates lack one.
 is_fresh() {
@@ -218,6 +221,7 @@ build() {
 build_anew() {
   local log=$top/.build/$1-$2.log began=$top/.build/$1-$2.began made=$top/crates/$1/out started=$SECONDS words=(--cpu "$2")
   [ "$2" != aarch64 ] || words=(--target aarch64-unknown-linux-gnu)
+  words+=(--jobs "$(jobs_alone)")
   if is_program "$1"; then
     words=(run "${words[@]}") made+=/$1
   elif is_library "$1"; then

@@ -1,5 +1,5 @@
 -- A text that is appended: from registers, or part by part in place.
-use Rattle.escape_simd.proofs.Words.{drop_all, length-append, length-take-le, ◌≡◌, ℕ, ◌+◌, ◌-◌, ◌<◌, ◌≤◌, Bool, true, false, cond, List, [], ◌++◌, length, take, drop, replicate, get_or, sym, ap, ◌∙◌, append_assoc, arith, count_by, take-add, take-append-add, take-append_seam, nat_tests, append-nil, take-append-drop, take-take, get_or-le-sum_by, MaskOf, IsClassified, is_clear, ◌*◌, ◌&&◌, and_parts, Mode, inner, quote_of, IsFront, AreTailMasks}
+use Rattle.escape_simd.proofs.Words.{drop_all, ◌≡◌, ℕ, ◌+◌, ◌-◌, ◌<◌, ◌≤◌, Bool, true, false, cond, List, [], ◌++◌, length, take, drop, replicate, get_or, sym, ap, ◌∙◌, append_assoc, arith, count_by, take-add, take-append-add, take-append_seam, nat_tests, append-nil, take-append-drop, take-take, get_or-le-sum_by, MaskOf, IsClassified, is_clear, ◌*◌, ◌&&◌, and_parts, Mode, inner, quote_of, IsFront, AreTailMasks}
 use Rattle.escape_simd.proofs.Lanes.{CleanFrom, clean-list, mask-clean}
 use Rattle.escape_simd.proofs.Last.{tail-clean_back, tail-clean_front}
 use Rattle.escape_simd.proofs.ReplacementLemmas.{inner-nil}
@@ -35,10 +35,6 @@ copied-on text old items new at n m so_far is pushed = rw is at pushed ∙ ap (�
 -- and fewer of them
 pub copied-front : (text old items : List ℕ) (at from n : ℕ) → items ≡ old ++ take at text → from ≤ at → n ≡ length old + from → take n items ≡ old ++ take from text
 copied-front text old items at from n copied before is = rw (copied, is) (grind (arith, take-append-add, take-take, before))
-
--- so many there are then
-pub copied-long : (text old items : List ℕ) (at : ℕ) → items ≡ old ++ take at text → at ≤ length text → length items ≡ length old + at
-copied-long text old items at copied inside = ap length copied ∙ length-append old (take at text) ∙ ap (λ n. length old + n) (length-take-le at text inside)
 
 -- it was appended as it is, and then what stands for the rest
 pub front-rest : (mode : Mode) (src old new more rest : List ℕ) (at : ℕ) → IsFront mode src 0 at → new ≡ old ++ take at src → rest ≡ drop at src → more ≡ new ++ (inner mode rest ++ quote_of mode) → more ≡ old ++ (inner mode src ++ quote_of mode)

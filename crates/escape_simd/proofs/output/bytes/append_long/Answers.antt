@@ -1,8 +1,8 @@
 use Rattle.std.proofs.Common.{arith}
 use Rattle.std.proofs.lemmas.List.{drop-drop}
-use Rattle.escape_simd.proofs.Words.{◌-◌, rules, vec_len, IsFront, length-drop, slice_range, take_all, ◌≡◌, ℕ, List, [], ◌+◌, ◌*◌, ◌≤◌, ◌++◌, refl, sym, ◌∙◌, ap, append-nil, length, take, take-add, drop, mode_numbered}
+use Rattle.escape_simd.proofs.Words.{◌-◌, rules, length-append, length-take-le, vec_len, IsFront, length-drop, slice_range, take_all, ◌≡◌, ℕ, List, [], ◌+◌, ◌*◌, ◌≤◌, ◌++◌, refl, sym, ◌∙◌, ap, append-nil, length, take, take-add, drop, mode_numbered}
 use Rattle.escape_simd.proofs.Lanes.{mask-clean}
-use Rattle.escape_simd.proofs.Parts.{clean-four, copied-front, copied-long, copied-on, front-more, front-rest}
+use Rattle.escape_simd.proofs.Parts.{clean-four, copied-front, copied-on, front-more, front-rest}
 use Rattle.escape_simd.proofs.output.bytes.append_long.Goals as goal
 
 -- four vectors in turn are the bytes of a chunk
@@ -38,15 +38,15 @@ vectors-preserved g c =
 pub append_in_place-requires : goal.append_in_place-requires
 append_in_place-requires g c =
     let i = c.vectors.invariant in let long : vec_len c.vectors.dst ≡ length c.vectors.dst.items = search rules in let was : vec_len c.args.dst.now ≡ length c.args.dst.now.items = search rules in
-    let more = copied-long c.as_bytes-text.result.now c.args.dst.now.items c.vectors.dst.items c.vectors.at i.copied i.front.inside in
-    omega (arith, c.requires, i.capacity, i.front.inside, long, was, more, c.as_bytes-text.ensures.len, c.split_at.ensures, c.floor_char_boundary.ensures.bound, c.truncate.ensures.len, c.truncate.ensures.capacity, c.len.ensures)
+    let more = ap length i.copied ∙ length-append c.args.dst.now.items (take c.vectors.at c.as_bytes-text.result.now) in
+    omega (arith, c.requires, i.capacity, i.front.inside, long, was, more, length-take-le c.vectors.at c.as_bytes-text.result.now i.front.inside, c.as_bytes-text.ensures.len, c.split_at.ensures, c.floor_char_boundary.ensures.bound, c.truncate.ensures.len, c.truncate.ensures.capacity, c.len.ensures)
 
 pub returns-then-not-is_clear : goal.returns-then-not-is_clear
 returns-then-not-is_clear g c =
     let i = c.vectors.invariant in let text : List ℕ = c.as_bytes-text.result.now in let old : List ℕ = c.args.dst.now.items in let from : ℕ = c.floor_char_boundary.result in let same = c.as_bytes-text.ensures.value in
     let front : IsFront (mode_numbered g.row.MODE) text 0 from = record { forward = omega arith; inside = omega (arith, i.front.inside, c.floor_char_boundary.ensures.bound); clean = λ k after before. i.front.clean k after (omega (arith, before, c.floor_char_boundary.ensures.bound)) } in
-    let long : vec_len c.vectors.dst ≡ length c.vectors.dst.items = search rules in let more = copied-long text old c.vectors.dst.items c.vectors.at i.copied i.front.inside in
-    let copied = copied-front text old c.vectors.dst.items c.vectors.at from _ i.copied c.floor_char_boundary.ensures.bound (omega (arith, c.len.ensures, long, more, c.split_at.ensures.front_len, c.floor_char_boundary.ensures.bound)) in
+    let long : vec_len c.vectors.dst ≡ length c.vectors.dst.items = search rules in let more = ap length i.copied ∙ length-append old (take c.vectors.at text) in
+    let copied = copied-front text old c.vectors.dst.items c.vectors.at from _ i.copied c.floor_char_boundary.ensures.bound (omega (arith, c.len.ensures, long, more, length-take-le c.vectors.at text i.front.inside, c.split_at.ensures.front_len, c.floor_char_boundary.ensures.bound)) in
     rw same at (front-rest (mode_numbered g.row.MODE) text old c.truncate.new.self.items c.append_in_place.new.dst.items c.split_at.result.1.now from front (c.truncate.ensures.items ∙ copied) (c.split_at.ensures.back ∙ ap (drop from) (sym same)) c.append_in_place.ensures)
 
 pub returns : goal.returns

@@ -22,7 +22,6 @@ pieces-preserved g c =
     let all : rest ≡ piece ++ behind = grind (arith, take-append-drop c.floor_char_boundary.result rest, s.front, s.back, c.as_bytes.ensures.value) in
     let joined : inner mode rest ≡ inner mode piece ++ inner mode behind = inner-append mode rest piece behind all (cut-text mode piece c.as_bytes.ensures.utf8) in
     let on = piece-on c.pieces.dst.items c.fill.new.dst.items c.escape_to_slice-end.new.dst (inner mode piece) (inner mode behind) (inner mode rest) _ c.pieces.end _ c.escape_to_slice-end.result c.pieces.invariant.fits c.fill.ensures.front
-        (w.written ∙ ap (λ xs. take c.pieces.end xs ++ inner mode piece) c.deref_mut.ensures.value) joined c.pieces.invariant.written in
+    (w.written ∙ ap (λ xs. take c.pieces.end xs ++ inner mode piece) c.deref_mut.ensures.value) joined c.pieces.invariant.written in
     let fits : c.escape_to_slice-end.result ≤ vec_len c.fill.new.dst = search (rules, l, w, len) in
     record { utf8 = search rules; fits = fits; room = search (rules, l, w, len, s); written = ap (λ xs. xs ++ inner mode behind) (given-back c.escape_to_slice-end.new.dst c.fill.new.dst.items c.escape_to_slice-end.result _ (c.escape_to_slice-end.auto.dst ∙ ap length c.deref_mut.ensures.value) (search rules) fits) ∙ on }
-

@@ -189,7 +189,7 @@ lock() {
 # Prints how many proofs may run side by side: one for each processor, and for each 3 GB of free memory.
 side_by_side() { awk -v n="$(nproc)" '/^MemAvail/ { n = int($2 / 3e6) < n ? int($2 / 3e6) : n } END { print n < 1 ? 1 : n }' /proc/meminfo; }
 
-# Prints how many jobs a proof gets that runs alone: two, if there is room. More prove more again, and save little time.
+# Prints how many jobs a proof gets that runs alone: two, if there is room. Each proves again what it shares with the others.
 jobs_alone() { local room; room=$(side_by_side) && echo $((room < 2 ? room : 2)); }
 
 # is_fresh BUILD CRATE..: whether the build is there, and no source of the crates is newer. Folders count, for files that

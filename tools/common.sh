@@ -189,6 +189,20 @@ lock() {
 # Prints how many proofs may run side by side: one for each processor, and for each 3 GB of free memory.
 side_by_side() { awk -v n="$(nproc)" '/^MemAvail/ { n = int($2 / 3e6) < n ? int($2 / 3e6) : n } END { print n < 1 ? 1 : n }' /proc/meminfo; }
 
+# Prints how many jobs the proof of a crate gets that runs alone: four for more than a hundred functions, if there is room.
+# Each job loads what the crate stands on, so others gain little by a second.
+jobs_for() {
+  local room
+  room=$(side_by_side)
+  case $1 in
+    escape_lanes | escape_simd | escape_checks) echo $((room < 4 ? room : 4)) ;;
+    *) echo 1 ;;
+  esac
+}
+
+# Proves and builds a library for other crates.
+prove_library() { (cd "$top/crates/$1" && rt lib --jobs "$(jobs_for "$1")"); }
+
 # is_fresh BUILD CRATE..: whether the build is there, and no source of the crates is newer. Folders count, for files that
 # were removed. Some crates lack one.
 is_fresh() {
@@ -216,8 +230,9 @@ build() {
 
 # The build gets the time at which it began, so that a later edit outdates it.
 build_anew() {
-  local log=$top/.build/$1-$2.log began=$top/.build/$1-$2.began made=$top/crates/$1/out started=$SECONDS words=(--cpu "$2")
+  local log=$top/.build/$1-$2.log began=$top/.build/$1-$2.began made=$top/crates/$1/out started=$SECONDS words=(--cpu "$2") crate
   [ "$2" != aarch64 ] || words=(--target aarch64-unknown-linux-gnu)
+  words+=(--jobs "$(jobs_for "$1")")
   if is_program "$1"; then
     words=(run "${words[@]}") made+=/$1
   elif is_library "$1"; then
@@ -227,8 +242,11 @@ build_anew() {
   fi
   say "proving and building $1 for $2, once. It writes to crates/*/out and .build, and the log is $log"
   touch "$began" && rm -f "$made" || return
-  # Programs and tests are run when they are built. What they do there is nothing to the build.
-  (cd "$top/crates/$1" && rt "${words[@]}" </dev/null 2>&1) | tee "$log" | tell_progress "$started"
+  {
+    for crate in "${crates[@]}"; do [ "$crate" = "$1" ] || prove_library "$crate" || exit; done
+    # Programs and tests are run when they are built. What they do there is nothing to the build.
+    cd "$top/crates/$1" && rt "${words[@]}"
+  } </dev/null 2>&1 | tee "$log" | tell_progress "$started"
   if [ ! -e "$made" ]; then
     { grep ' error: \|: not proved$' "$log" || tail -n 5 "$log"; } | head -n 5 >&2
     say "$1 was not built: $log says why"

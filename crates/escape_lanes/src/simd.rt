@@ -11,7 +11,7 @@ mod halves;
 pub mod lane_bits;
 pub mod lane_mask;
 mod lanes;
-pub mod last;
+mod last;
 pub mod mask;
 pub mod mode;
 mod needs;
@@ -26,6 +26,5 @@ pub mod vector;
 mod writes;
 
 pub use classifier::Classifier;
-pub use last::LoadLast;
 pub use mask::Mask;
 pub use traits::{BitMask, LoadStore, Simd};

@@ -4,12 +4,12 @@ ghost use Rattle.escape_lanes.specs.Bits.{bits_of};
 ghost use Rattle.escape_lanes.specs.Mode.{mode_numbered};
 ghost use Rattle.escape_lanes.specs.Replacement.{needs_escape};
 
-use crate::simd::last::LoadLast;
 use crate::simd::ticks::Ticks;
+use crate::simd::traits::LoadStore;
 
 /// A vector of `N` bytes, with its classifier in the mode numbered `MODE`: its own `escaped_mask` or
 /// `script_mask`, whose bit mask becomes a number.
-pub trait Classifier<const MODE: u8, const N: usize>: LoadLast {
+pub trait Classifier<const MODE: u8, const N: usize>: LoadStore {
     /// Whether one instruction looks lanes up in a table, so that blocks are faster than single escapes.
     const LOOKS_UP: bool;
 

@@ -8,24 +8,7 @@ ghost use Rattle.escape_lanes.specs.Lanes.{AreBytes};
 
 use crate::simd::halves::{both_4, both_8, both_16, both_32};
 use crate::simd::lanes;
-use crate::simd::traits::LoadStore;
 use std::simd::prelude::*;
-
-/// A vector of at most 64 lanes that can be loaded with the last bytes of a text.
-pub trait LoadLast: LoadStore {
-    /// Returns the last `count` bytes of `src` in the first lanes, and zeros in the others.
-    ///
-    /// `src` has `count` bytes or more, and a vector more than `count` lanes. Of `abcd` and 2 it
-    /// makes `c`, `d` and zeros.
-    fn load_last(src: &[u8], count: usize) -> Self
-        requires few { count < Self.LANES }
-        requires inside { count ≤ length src.now }
-        ensures { Self.lanes result
-            ≡ drop (length src.now - count) src.now ++ replicate (Self.LANES - count) 0 };
-
-    // So few that an array of them fits in memory.
-    ghost at_most: { Self.LANES ≤ 64 };
-}
 
 /// Returns the last `count` bytes, three at most, as a number.
 ///

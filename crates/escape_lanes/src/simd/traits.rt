@@ -95,7 +95,7 @@ pub trait Simd: Sized + Drop {
     ghost mask_width: { Self.Mask.BitMask.LEN ≡ LANES };
 }
 
-/// A [`Simd`] as it is loaded and stored. Each of them is one, and nothing else.
+/// A [`Simd`] as it is loaded and stored.
 ///
 /// What needs no comparison asks for this: then its proof has no masks in it.
 pub trait LoadStore: Sized + Drop {
@@ -109,6 +109,16 @@ pub trait LoadStore: Sized + Drop {
         requires { LANES ≤ length src.now }
         ensures { lanes result ≡ take LANES src.now };
 
+    /// Returns the last `count` bytes of `src` in the first lanes, and zeros in the others.
+    ///
+    /// `src` has `count` bytes or more, and a vector more than `count` lanes. Of `abcd` and 2 it
+    /// makes `c`, `d` and zeros.
+    fn load_last(src: &[u8], count: usize) -> Self
+        requires few { count < LANES }
+        requires inside { count ≤ length src.now }
+        ensures { lanes result
+            ≡ drop (length src.now - count) src.now ++ replicate (LANES - count) 0 };
+
     /// As [`Simd::storeu`].
     fn put(&self, dst: &mut [u8])
         requires { LANES ≤ length dst.old }
@@ -116,22 +126,7 @@ pub trait LoadStore: Sized + Drop {
 
     // There are `LANES` of them.
     ghost width: { (v : Self) → length (lanes v) ≡ LANES };
-}
 
-impl<T: Simd> LoadStore for T {
-    ghost LANES = { T.LANES };
-
-    ghost lanes = { T.lanes };
-
-    ghost width = { T.width };
-
-    #[inline(always)]
-    fn load(src: &[u8]) -> T {
-        T::loadu(src)
-    }
-
-    #[inline(always)]
-    fn put(&self, dst: &mut [u8]) {
-        self.storeu(dst);
-    }
+    // So few that an array of them fits in memory.
+    ghost at_most: { LANES ≤ 64 };
 }

@@ -5,8 +5,8 @@ ghost use Rattle.escape_lanes.specs.Bits.{bits_of};
 ghost use Rattle.escape_lanes.specs.Spread.{IsBlock};
 ghost use Rattle.escape_lanes.specs.Written.{bytes_of, stored_of, escaped_of, quotes_of, IsSameSlice};
 
-use crate::simd::last::LoadLast;
 use crate::simd::target::Target;
+use crate::simd::traits::LoadStore;
 use crate::tables::spread_row;
 use std::simd::prelude::*;
 
@@ -18,7 +18,7 @@ impl<'a, const N: usize> Target<'a, N> {
     ///
     /// The vector has `N` lanes, and the target `N` bytes from `at` on.
     #[inline(always)]
-    pub fn store<S: LoadLast>(&mut self, at: usize, v: &S)
+    pub fn store<S: LoadStore>(&mut self, at: usize, v: &S)
         requires lanes { S.LANES ≡ N }
         requires room { at + N ≤ length (bytes_of self.old) }
         ensures same_slice { IsSameSlice self.old self.new }
@@ -34,7 +34,7 @@ impl<'a, const N: usize> Target<'a, N> {
     ///
     /// The vector has `N` lanes, `k` of which are written, and the target `k` bytes from `at` on.
     #[inline(always)]
-    pub fn store_front<S: LoadLast>(&mut self, at: usize, v: &S, k: usize)
+    pub fn store_front<S: LoadStore>(&mut self, at: usize, v: &S, k: usize)
         requires lanes { S.LANES ≡ N }
         requires count { k ≤ N }
         requires room { at + k ≤ length (bytes_of self.old) }

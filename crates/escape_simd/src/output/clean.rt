@@ -9,7 +9,7 @@ ghost use Rattle.escape_simd.specs.Parts.{IsFront};
 
 use crate::output::length::part_len;
 use crate::output::{N, V};
-use crate::simd::LoadLast;
+use crate::simd::LoadStore;
 use escape_lanes::simd::escape_mask::{EscapeMask, classify, classify_four, classify_front};
 use escape_lanes::simd::target::Ticks;
 

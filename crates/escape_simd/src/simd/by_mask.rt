@@ -9,7 +9,7 @@ ghost use Rattle.escape_simd.specs.Stretch.{Advanced, IsRunEnd, IsVectorAt, Reac
 use crate::simd::Classifier;
 use crate::simd::store::store_lanes;
 use crate::simd::util::{are_paid, are_short, escape_blocks, escape_run};
-use escape_lanes::simd::LoadLast;
+use escape_lanes::simd::LoadStore;
 use escape_lanes::simd::escape_mask::EscapeMask;
 use escape_lanes::simd::mode::is_script;
 use escape_lanes::simd::target::{Target, Ticks};
@@ -17,7 +17,7 @@ use escape_lanes::simd::target::{Target, Ticks};
 /// Passes the clean bytes from `from` on of a vector that ends at `border`, whose last escape was written.
 /// Returns the places after them.
 #[inline]
-fn finish_vector<V: LoadLast, const MODE: u8, const N: usize, const LAST: bool>(
+fn finish_vector<V: LoadStore, const MODE: u8, const N: usize, const LAST: bool>(
     src: &[u8],
     border: usize,
     from: usize,
@@ -53,7 +53,7 @@ fn finish_vector<V: LoadLast, const MODE: u8, const N: usize, const LAST: bool>(
 /// The vector is stored. Then each turn passes the clean bytes before a run, escapes it and stores the vector
 /// after it. The loop ends in mid-turn: so a vector of one run takes no branch of the loop.
 #[inline(always)]
-pub(crate) fn escape_by_turns<V: LoadLast, const MODE: u8, const N: usize, const LAST: bool>(
+pub(crate) fn escape_by_turns<V: LoadStore, const MODE: u8, const N: usize, const LAST: bool>(
     text: &[u8],
     valid: usize,
     mut mask: EscapeMask<MODE>,

@@ -4,7 +4,7 @@ ghost use Rattle.escape_lanes.specs.Masks.{told_by, used_up};
 ghost use Rattle.escape_lanes.specs.Written.{bytes_of};
 ghost use Rattle.escape_simd.specs.Stretch.{IsStored, reach};
 
-use escape_lanes::simd::LoadLast;
+use escape_lanes::simd::LoadStore;
 use escape_lanes::simd::escape_mask::EscapeMask;
 use escape_lanes::simd::target::Target;
 
@@ -16,7 +16,7 @@ const WIDEST_REACH: usize = 32;
 ///
 /// Where `LAST`, these may be the text's last bytes, and the store reaches at most 32 bytes past them.
 #[inline]
-pub(crate) fn store_lanes<V: LoadLast, const MODE: u8, const N: usize, const LAST: bool>(
+pub(crate) fn store_lanes<V: LoadStore, const MODE: u8, const N: usize, const LAST: bool>(
     v: V,
     _src: &[u8],
     from: usize,

@@ -1,5 +1,5 @@
 -- What a mask tells of bytes.
-use Rattle.std.specs.Prelude.{◌≡◌, ℕ, ◌-◌, Bool, false, List, ◌++◌, length, map, take, drop, replicate}
+use Rattle.std.specs.Prelude.{◌≡◌, ℕ, ◌-◌, Bool, false, List, ◌++◌, length, map, drop, replicate}
 use Rattle.escape_lanes.specs.Bits.{none_set, clear_first}
 use Rattle.escape_lanes.specs.Mode.{Mode}
 use Rattle.escape_lanes.specs.Replacement.{needs_escape}
@@ -38,8 +38,3 @@ is_clear mode mask = none_set (lanes_of_mask mode mask)
 pub record IsMaskOf (mask : MaskOf) (told : List ℕ) : Type 0 where
   pub bytes : mask.bytes ≡ told
   pub from : mask.from ≡ 0
-
--- A text's vector at `at` was loaded and classified.
-pub record IsClassified (n : ℕ) (text : List ℕ) (at : ℕ) (lanes : List ℕ) (mask : MaskOf) : Type 0 where
-  pub loaded : lanes ≡ take n (drop at text)
-  pub told : mask ≡ whole_mask (take n (drop at text))

@@ -1,5 +1,5 @@
 -- A text that is appended: from registers, or part by part in place.
-use Rattle.escape_simd.proofs.Words.{drop_all, ◌≡◌, ℕ, ◌+◌, ◌-◌, ◌<◌, ◌≤◌, Bool, true, false, cond, List, [], ◌++◌, length, take, drop, replicate, get_or, sym, ap, ◌∙◌, append_assoc, arith, count_by, take-add, take-append-add, take-append_seam, nat_tests, append-nil, take-append-drop, take-take, get_or-le-sum_by, MaskOf, IsClassified, is_clear, ◌*◌, ◌&&◌, and_parts, Mode, inner, quote_of, IsFront, AreTailMasks}
+use Rattle.escape_simd.proofs.Words.{drop_all, ◌≡◌, ℕ, ◌+◌, ◌-◌, ◌<◌, ◌≤◌, Bool, true, false, cond, List, [], ◌++◌, length, take, drop, replicate, get_or, sym, ap, ◌∙◌, append_assoc, arith, count_by, take-add, take-append-add, take-append_seam, nat_tests, append-nil, take-append-drop, take-take, get_or-le-sum_by, MaskOf, is_clear, ◌*◌, ◌&&◌, and_parts, Mode, inner, quote_of, IsFront, AreTailMasks, whole_mask}
 use Rattle.escape_simd.proofs.Lanes.{CleanFrom, clean-list, mask-clean}
 use Rattle.escape_simd.proofs.Last.{tail-clean_back, tail-clean_front}
 use Rattle.escape_simd.proofs.ReplacementLemmas.{inner-nil}
@@ -57,16 +57,16 @@ tail-itself mode n text t none1 none2 =
     let front = λ (some : n ≤ length text). tail-clean_front mode t some none1 p in grind (arith, few, back, front))
 
 -- four clean vectors are clean
-pub clean-four : (mode : Mode) (n : ℕ) (src : List ℕ) (at : ℕ) {mask1 mask2 mask3 mask4 : MaskOf} {lanes1 lanes2 lanes3 lanes4 : List ℕ} {clear : Bool} → at + 4 * n ≤ length src
-    → IsClassified n src at lanes1 mask1 → IsClassified n src (at + n) lanes2 mask2 → IsClassified n src (at + 2 * n) lanes3 mask3 → IsClassified n src (at + 3 * n) lanes4 mask4
+pub clean-four : (mode : Mode) (n : ℕ) (src : List ℕ) (at : ℕ) {mask1 mask2 mask3 mask4 : MaskOf} {clear : Bool} → at + 4 * n ≤ length src
+    → mask1 ≡ whole_mask (take n (drop at src)) → mask2 ≡ whole_mask (take n (drop (at + n) src)) → mask3 ≡ whole_mask (take n (drop (at + 2 * n) src)) → mask4 ≡ whole_mask (take n (drop (at + 3 * n) src))
     → clear ≡ ((is_clear mode mask1 && is_clear mode mask2) && (is_clear mode mask3 && is_clear mode mask4)) → clear ≡ true → CleanFrom mode src at (at + 4 * n)
 clean-four mode n src at {mask1} {mask2} {mask3} {mask4} inside a b c d is clear p late early =
     let all = and_parts (is_clear mode mask1 && is_clear mode mask2) (is_clear mode mask3 && is_clear mode mask4) (sym is ∙ clear) in
     let front = and_parts (is_clear mode mask1) (is_clear mode mask2) all.0 in let back = and_parts (is_clear mode mask3) (is_clear mode mask4) all.1 in
-    let c1 = mask-clean mode src at n mask1 a.told (omega (arith, inside)) front.0 p in
-    let c2 = mask-clean mode src (at + n) n mask2 b.told (omega (arith, inside)) front.1 p in
-    let c3 = mask-clean mode src (at + 2 * n) n mask3 c.told (omega (arith, inside)) back.0 p in
-    let c4 = mask-clean mode src (at + 3 * n) n mask4 d.told (omega (arith, inside)) back.1 p in
+    let c1 = mask-clean mode src at n mask1 a (omega (arith, inside)) front.0 p in
+    let c2 = mask-clean mode src (at + n) n mask2 b (omega (arith, inside)) front.1 p in
+    let c3 = mask-clean mode src (at + 2 * n) n mask3 c (omega (arith, inside)) back.0 p in
+    let c4 = mask-clean mode src (at + 3 * n) n mask4 d (omega (arith, inside)) back.1 p in
     grind (arith, c1, c2, c3, c4, late, early)
 
 -- the first lanes of a vector that was loaded with a text are the text

@@ -1,5 +1,5 @@
 -- Stretches of a text: one after another, of clean bytes, and of what one escape stands for.
-use Rattle.escape_simd.proofs.Words.{◌≡◌, ℕ, ◌+◌, ◌-◌, ◌*◌, ◌<◌, ◌≤◌, Bool, true, false, List, ◌++◌, length, take, drop, get_or, sym, ap, ◌∙◌, arith, append_assoc, length-append, length-take-le, length-drop, slice_range, paste, take-append-add, drop-drop, take-append-le, take-take, take_all, take_at, drop_at, append_cancel_right, flat_map-append, Mode, json, html, script, mode_of, needs_escape, replacement, bytes_of, stored_of, escaped_of, quotes_of, IsSameSlice, Target, inner, source_len, first_replacement, escaped_count, HasRoom, Stretch, IsStored, reach, run_reach}
+use Rattle.escape_simd.proofs.Words.{◌≡◌, ℕ, ◌+◌, ◌-◌, ◌*◌, ◌<◌, ◌≤◌, Bool, true, false, List, ◌++◌, length, take, drop, get_or, sym, ap, ◌∙◌, arith, append_assoc, length-append, length-take-le, length-drop, slice_range, paste, take-append-add, drop-drop, take-append-le, take-take, take_at, drop_at, append_cancel_right, flat_map-append, Mode, json, html, script, mode_of, needs_escape, replacement, bytes_of, stored_of, escaped_of, quotes_of, IsSameSlice, Target, inner, source_len, first_replacement, escaped_count, HasRoom, Stretch, IsStored, reach, run_reach}
 use Rattle.std.proofs.lemmas.List.Folds.{drop_split}
 use Rattle.std.proofs.lemmas.List.Edits.{take-paste, drop-paste}
 use Rattle.escape_simd.proofs.RestSteps.{rest-is, rest-between}
@@ -26,12 +26,6 @@ standing mode slack src t at to inside = grind arith
 -- it ends no earlier than it began
 pub stretch-on : {N : ℕ} {mode : Mode} {slack : ℕ} {src : List ℕ} {old new : Target N} {at next to end : ℕ} → Stretch mode slack src old new (at, to) (next, end) → (to + (next - at) ≤ end) × (end ≤ to + 6 * (next - at))
 stretch-on {mode = mode} {src = src} {at = at} {next = next} s = grind (arith, rest-between mode src at next s.forward s.inside)
-
--- the first lanes of a vector that was loaded from a text
-pub loaded-front : {n left : ℕ} {lanes : List ℕ} (src : List ℕ) (from : ℕ) → lanes ≡ take n (slice_range src from (length src)) → left ≤ n → take left lanes ≡ take left (drop from src)
-loaded-front {n} {left} src from is few =
-    let all : slice_range src from (length src) ≡ drop from src = take_all (length src - from) (drop from src) (omega (arith, length-drop from src)) in
-    ap (take left) (is ∙ ap (take n) all) ∙ take-take left n (drop from src) few
 
 -- Room
 

@@ -19,7 +19,7 @@ pub use Rattle.std.specs.Str.{IsCharBoundary, all_scalars}
 unfoldable pub use Rattle.escape_lanes.specs.Bits.{bits_of, first_set, gaps, none_set}
 pub use Rattle.escape_lanes.specs.Bits.{clear_first, clear_last, length-bits_of}
 pub use Rattle.escape_lanes.specs.Entry.{entry_bytes, entry_count, padded}
-pub use Rattle.escape_lanes.specs.Masks.{IsClassified, IsMaskOf, MaskOf, is_clear, lanes_of_mask, mask_from, told_by, used_up, whole_mask}
+pub use Rattle.escape_lanes.specs.Masks.{IsMaskOf, MaskOf, is_clear, lanes_of_mask, mask_from, told_by, used_up, whole_mask}
 pub use Rattle.escape_lanes.specs.Mode.{Mode, html, json, mode_of, script}
 unfoldable pub use Rattle.escape_lanes.specs.Replacement.{replacement}
 pub use Rattle.escape_lanes.specs.Replacement.{control_escape, needs_escape}

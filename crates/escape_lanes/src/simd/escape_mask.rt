@@ -2,7 +2,7 @@
 ghost use Rattle.std.specs.Prelude.{◌≡◌, ℕ, ◌+◌, ◌*◌, ◌<◌, ◌≤◌, ◌&&◌, List, [], false, length, take, drop};
 ghost use Rattle.std.specs.Borrow.{ftrue};
 ghost use Rattle.escape_lanes.specs.Bits.{bits_of, first_set};
-ghost use Rattle.escape_lanes.specs.Masks.{IsClassified, is_clear, lanes_of_mask, mask_from, used_up, whole_mask};
+ghost use Rattle.escape_lanes.specs.Masks.{is_clear, lanes_of_mask, mask_from, used_up, whole_mask};
 ghost use Rattle.escape_lanes.specs.Mode.{mode_numbered};
 
 use crate::simd::classifier::Classifier;
@@ -174,25 +174,23 @@ impl<const MODE: u8> EscapeMask<MODE> {
     }
 }
 
-/// Loads the text's vector at `at` and classifies it. Ticks once.
+/// Classifies the text's vector at `at`. Ticks once.
 #[inline(always)]
 pub fn classify<V: Classifier<MODE, N>, const MODE: u8, const N: usize>(
     text: &[u8],
     at: usize,
     ticks: &mut Ticks,
-) -> (V, EscapeMask<MODE>)
+) -> EscapeMask<MODE>
     requires { at + N ≤ length text.now }
-    ensures classified { IsClassified N text.now at (V.lanes result.0) result.1 }
+    ensures told { result ≡ whole_mask (take N (drop at text.now)) }
     ensures tick { ticks.new ≡ ticks.old + 1 }
 {
     let bytes = &text[at..at + N];
-    let v = V::load(bytes);
-    let mask = EscapeMask {
-        bits: v.escape_bits(ticks),
+    EscapeMask {
+        bits: V::load(bytes).escape_bits(ticks),
         of: Known::of(bytes),
         stored: Tally::new(),
-    };
-    (v, mask)
+    }
 }
 
 /// Classifies the first lanes of a loaded vector that begins with these bytes, of which there are some. Ticks
@@ -216,35 +214,35 @@ pub fn classify_front<V: Classifier<MODE, N>, const MODE: u8, const N: usize>(
     }
 }
 
-/// Loads and classifies four vectors of the text from `at` on. Returns them with their masks, and whether no
-/// byte of them is flagged. Ticks four times.
+/// Classifies four vectors of the text from `at` on. Returns their masks, and whether no byte of them is flagged.
+/// Ticks four times.
 #[inline(always)]
 pub fn classify_four<V: Classifier<MODE, N>, const MODE: u8, const N: usize>(
     text: &[u8],
     at: usize,
     ticks: &mut Ticks,
 ) -> (
-    (V, EscapeMask<MODE>),
-    (V, EscapeMask<MODE>),
-    (V, EscapeMask<MODE>),
-    (V, EscapeMask<MODE>),
+    EscapeMask<MODE>,
+    EscapeMask<MODE>,
+    EscapeMask<MODE>,
+    EscapeMask<MODE>,
     bool,
 )
     requires { at + 4 * N ≤ length text.now }
-    ensures first { IsClassified N text.now at (V.lanes result.0.0) result.0.1 }
-    ensures second { IsClassified N text.now (at + N) (V.lanes result.1.0) result.1.1 }
-    ensures third { IsClassified N text.now (at + 2 * N) (V.lanes result.2.0) result.2.1 }
-    ensures fourth { IsClassified N text.now (at + 3 * N) (V.lanes result.3.0) result.3.1 }
+    ensures first { result.0 ≡ whole_mask (take N (drop at text.now)) }
+    ensures second { result.1 ≡ whole_mask (take N (drop (at + N) text.now)) }
+    ensures third { result.2 ≡ whole_mask (take N (drop (at + 2 * N) text.now)) }
+    ensures fourth { result.3 ≡ whole_mask (take N (drop (at + 3 * N) text.now)) }
     ensures clear { result.4
-        ≡ (is_clear (mode_numbered MODE) result.0.1 && is_clear (mode_numbered MODE) result.1.1)
-        && (is_clear (mode_numbered MODE) result.2.1 && is_clear (mode_numbered MODE) result.3.1) }
+        ≡ (is_clear (mode_numbered MODE) result.0 && is_clear (mode_numbered MODE) result.1)
+        && (is_clear (mode_numbered MODE) result.2 && is_clear (mode_numbered MODE) result.3) }
     ensures ticks { ticks.new ≡ ticks.old + 4 }
 {
     let first = classify::<V, MODE, N>(text, at, ticks);
     let second = classify::<V, MODE, N>(text, at + N, ticks);
     let third = classify::<V, MODE, N>(text, at + 2 * N, ticks);
     let fourth = classify::<V, MODE, N>(text, at + 3 * N, ticks);
-    let front = first.1.is_clear() & second.1.is_clear();
-    let last = third.1.is_clear() & fourth.1.is_clear();
+    let front = first.is_clear() & second.is_clear();
+    let last = third.is_clear() & fourth.is_clear();
     (first, second, third, fourth, front & last)
 }

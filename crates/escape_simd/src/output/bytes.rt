@@ -6,7 +6,7 @@ ghost use Rattle.escape_simd.specs.Modes.{mode_numbered};
 ghost use Rattle.escape_simd.specs.Output.{inner, quote_of};
 
 use crate::output::in_place::{append_flagged, append_in_place};
-use crate::output::push::{lanes, push_all, push_quote};
+use crate::output::push::{lanes, lanes_at, push_all, push_quote};
 use crate::output::{N, V};
 use crate::simd::{classify_pair, classify_short};
 use escape_lanes::simd::escape_mask::{classify, classify_four};
@@ -34,13 +34,13 @@ pub(super) fn append_last<const MODE: u8, A: Allocator>(text: &[u8], dst: &mut V
         }
         masks
     } else {
-        let (v1, v2, masks) = classify_pair::<V, MODE, N>(text, &mut Ticks::new());
+        let masks = classify_pair::<V, MODE, N>(text, &mut Ticks::new());
         if masks.are_clear() {
             let last = count - N;
-            push_all(dst, &lanes(&v1));
+            push_all(dst, &lanes_at(text, 0));
             // The last vector overlaps the first one.
             dst.truncate(len + last);
-            push_all(dst, &lanes(&v2));
+            push_all(dst, &lanes_at(text, last));
             return push_quote::<MODE, A>(dst);
         }
         masks
@@ -58,27 +58,27 @@ pub(super) fn append_long<const MODE: u8, A: Allocator>(value: &str, dst: &mut V
     let text = value.as_bytes();
     let mut at = 0;
     'chunks: while 5 * N <= text.len() - at {
-        let ((v1, _), (v2, _), (v3, _), (v4, _), clear) = classify_four::<V, MODE, N>(
-            text,
-            at,
-            &mut Ticks::new(),
-        );
+        let clear = classify_four::<V, MODE, N>(text, at, &mut Ticks::new()).4;
         if !clear {
             break;
         }
-        let rows = [lanes(&v1), lanes(&v2), lanes(&v3), lanes(&v4)];
+        let rows = [
+            lanes_at(text, at),
+            lanes_at(text, at + N),
+            lanes_at(text, at + 2 * N),
+            lanes_at(text, at + 3 * N),
+        ];
         push_all(dst, rows.as_flattened());
         at += 4 * N;
     }
     'vectors: while 2 * N <= text.len() - at {
-        let (v, mask) = classify::<V, MODE, N>(text, at, &mut Ticks::new());
-        if !mask.is_clear() {
+        if !classify::<V, MODE, N>(text, at, &mut Ticks::new()).is_clear() {
             // The rest begins with a whole character.
             let (front, rest) = value.split_at(value.floor_char_boundary(at));
             dst.truncate(dst.len() - (at - front.len()));
             return append_in_place::<MODE, A>(rest, dst);
         }
-        push_all(dst, &lanes(&v));
+        push_all(dst, &lanes_at(text, at));
         at += N;
     }
     append_last::<MODE, A>(&text[at..], dst);

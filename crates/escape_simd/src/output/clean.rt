@@ -23,7 +23,7 @@ pub(super) fn mask_at<const MODE: u8>(src: &[u8], at: usize, count: usize) -> Es
 {
     let mut ticks = Ticks::new();
     if count == N {
-        return classify::<V, MODE, N>(src, at, &mut ticks).1;
+        return classify::<V, MODE, N>(src, at, &mut ticks);
     }
     if count == 0 {
         return EscapeMask::empty();

@@ -1,5 +1,5 @@
 //! Bytes at the end of a vector that has room for them.
-ghost use Rattle.std.specs.Prelude.{◌≡◌, ◌+◌, ◌<◌, ◌≤◌, ◌++◌, length, take, vec_len, vec_capacity};
+ghost use Rattle.std.specs.Prelude.{◌≡◌, ◌+◌, ◌<◌, ◌≤◌, ◌++◌, length, take, drop, vec_len, vec_capacity};
 ghost use Rattle.escape_simd.specs.Modes.{mode_numbered};
 ghost use Rattle.escape_simd.specs.Output.{quote_of};
 
@@ -26,14 +26,25 @@ pub(super) fn push_all<A: Allocator>(dst: &mut Vec<u8, A>, bytes: &[u8])
     };
 }
 
-/// Returns a vector's lanes as an array, to be appended. For a slice of the text, which might overlap the target, the compiler
-/// would add a copy byte by byte.
+/// Returns a vector's lanes as an array, to be appended.
 #[inline(always)]
 pub(super) fn lanes(v: &V) -> [u8; N]
     ensures { result ≡ ⟦<V as Simd>⟧.lanes v.now }
 {
     let mut lanes = [0u8; N];
     v.storeu(&mut lanes);
+    lanes
+}
+
+/// Returns the text's vector at `at` as an array, to be appended. For a slice of the text, which might overlap the target, the
+/// compiler would add a copy byte by byte.
+#[inline(always)]
+pub(super) fn lanes_at(text: &[u8], at: usize) -> [u8; N]
+    requires { at + N ≤ length text.now }
+    ensures { result ≡ take N (drop at text.now) }
+{
+    let mut lanes = [0u8; N];
+    lanes.copy_from_slice(&text[at..at + N]);
     lanes
 }
 

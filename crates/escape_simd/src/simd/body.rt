@@ -30,7 +30,7 @@ pub(crate) fn escape_bytes<V: Classifier<MODE, N>, const MODE: u8, const N: usiz
         (at, end) = chunk::<V, MODE, N>(src, at, target, end, ticks);
     }
     'vectors: while 2 * N <= src.len() - at {
-        let (_, mask) = classify::<V, MODE, N>(src, at, ticks);
+        let mask = classify::<V, MODE, N>(src, at, ticks);
         (at, end) = vector_from::<V, MODE, N>(src, at, at, mask, target, end, ticks);
     }
     let last = &src[at..];

@@ -7,7 +7,7 @@ ghost use Rattle.escape_simd.specs.Runs.{run_count, run_count_after};
 ghost use Rattle.escape_simd.specs.Stretch.{Advanced, IsRunEnd, IsVectorAt, Reached, Stretch, reach, state};
 
 use crate::simd::Classifier;
-use crate::simd::store::store_lanes;
+use crate::simd::store::store_vector;
 use crate::simd::util::{are_paid, are_short, escape_blocks, escape_run};
 use escape_lanes::simd::LoadStore;
 use escape_lanes::simd::escape_mask::EscapeMask;
@@ -43,8 +43,7 @@ fn finish_vector<V: LoadStore, const MODE: u8, const N: usize, const LAST: bool>
         return (from, to);
     }
     let mut rest = mask.rest(from, ticks);
-    let v = V::load(&src[from..]);
-    store_lanes::<V, MODE, N, LAST>(v, src, from, border - from, &mut rest, target, to)
+    store_vector::<V, MODE, N, LAST>(src, from, border - from, &mut rest, target, to)
 }
 
 /// Escapes the first `valid` bytes of the text's first vector, some of which are flagged. Returns the places
@@ -71,7 +70,7 @@ pub(crate) fn escape_by_turns<V: LoadStore, const MODE: u8, const N: usize, cons
     ensures { Advanced (mode_numbered MODE) (reach LAST N) valid 1 1
         text.now (state target.old 0 to ticks.old) (state target.new result.0 result.1 ticks.new) }
 {
-    store_lanes::<V, MODE, N, LAST>(V::load(text), text, 0, valid, &mut mask, target, to);
+    store_vector::<V, MODE, N, LAST>(text, 0, valid, &mut mask, target, to);
     let mut next = 0;
     let mut end = to;
     'turns: loop {
@@ -92,8 +91,7 @@ pub(crate) fn escape_by_turns<V: LoadStore, const MODE: u8, const N: usize, cons
         next = after;
         end = after_end;
         mask = mask.rest(next, ticks);
-        let v = V::load(&text[next..]);
-        store_lanes::<V, MODE, N, LAST>(v, text, next, valid - next, &mut mask, target, end);
+        store_vector::<V, MODE, N, LAST>(text, next, valid - next, &mut mask, target, end);
     }
 }
 
@@ -121,8 +119,7 @@ pub(crate) fn escape_by_mask<
         src.now (state target.old at to ticks.old) (state target.new result.0 result.1 ticks.new) }
 {
     if mask.is_clear() {
-        let v = V::load(&src[at..]);
-        return store_lanes::<V, MODE, N, LAST>(v, src, at, valid, &mut mask, target, to);
+        return store_vector::<V, MODE, N, LAST>(src, at, valid, &mut mask, target, to);
     }
     let bits = mask.bits();
     if V::LOOKS_UP && are_paid(bits, valid) && are_short::<MODE, N>(src, at, bits) {

@@ -7,7 +7,7 @@ ghost use Rattle.escape_simd.specs.Stretch.{Advanced, HasRoom, Reached, state};
 
 use crate::simd::Classifier;
 use crate::simd::by_mask::escape_by_mask;
-use crate::simd::store::store_lanes;
+use crate::simd::store::store_vector;
 use escape_lanes::simd::escape_mask::{EscapeMask, classify_four};
 use escape_lanes::simd::target::{Target, Ticks};
 
@@ -49,17 +49,14 @@ pub(crate) fn chunk<V: Classifier<MODE, N>, const MODE: u8, const N: usize>(
     ensures { Advanced (mode_numbered MODE) N (at + 4 * N) 4 0
         src.now (state target.old at to ticks.old) (state target.new result.0 result.1 ticks.new) }
 {
-    let ((v1, mut mask1), (v2, mut mask2), (v3, mut mask3), (v4, mut mask4), clear) =
-        classify_four::<V, MODE, N>(src, at, ticks);
+    let (mut mask1, mut mask2, mut mask3, mut mask4, clear) = classify_four::<V, MODE, N>(
+        src, at, ticks,
+    );
     if clear {
-        let (next, end) = store_lanes::<V, MODE, N, false>(v1, src, at, N, &mut mask1, target, to);
-        let (next, end) = store_lanes::<V, MODE, N, false>(
-            v2, src, next, N, &mut mask2, target, end,
-        );
-        let (next, end) = store_lanes::<V, MODE, N, false>(
-            v3, src, next, N, &mut mask3, target, end,
-        );
-        return store_lanes::<V, MODE, N, false>(v4, src, next, N, &mut mask4, target, end);
+        let (next, end) = store_vector::<V, MODE, N, false>(src, at, N, &mut mask1, target, to);
+        let (next, end) = store_vector::<V, MODE, N, false>(src, next, N, &mut mask2, target, end);
+        let (next, end) = store_vector::<V, MODE, N, false>(src, next, N, &mut mask3, target, end);
+        return store_vector::<V, MODE, N, false>(src, next, N, &mut mask4, target, end);
     }
     let (next, end) = vector_from::<V, MODE, N>(src, at, at, mask1, target, to, ticks);
     let (next, end) = vector_from::<V, MODE, N>(src, at + N, next, mask2, target, end, ticks);

@@ -44,3 +44,27 @@ pub(crate) fn store_lanes<V: LoadStore, const MODE: u8, const N: usize, const LA
     }
     (from + left, to + left)
 }
+
+/// Stores the text's vector at `from`, as [`store_lanes`] does.
+#[inline(always)]
+pub(crate) fn store_vector<V: LoadStore, const MODE: u8, const N: usize, const LAST: bool>(
+    src: &[u8],
+    from: usize,
+    left: usize,
+    mask: &mut EscapeMask<MODE>,
+    target: &mut Target<'_, N>,
+    to: usize,
+) -> (usize, usize)
+    requires { (V.LANES ≡ N)
+        × (left ≤ N)
+        × (from + N ≤ length src.now)
+        × (told_by mask.old ≡ take left (drop from src.now))
+        × (to + left + reach LAST N ≤ length (bytes_of target.old))
+        × (mask.old.stored ≡ 0) }
+    ensures stored { IsStored (reach LAST N) src.now target.old target.new from left to }
+    ensures places { (result.0 ≡ from + left) × (result.1 ≡ to + left) }
+    ensures used { mask.new ≡ used_up mask.old }
+{
+    let v = V::load(&src[from..]);
+    store_lanes::<V, MODE, N, LAST>(v, src, from, left, mask, target, to)
+}

@@ -8,7 +8,7 @@ ghost use Rattle.escape_simd.specs.Stretch.{AreTailMasks, Advanced, HasRoom, rea
 
 use crate::simd::Classifier;
 use crate::simd::by_mask::escape_by_mask;
-use crate::simd::store::store_lanes;
+use crate::simd::store::{store_lanes, store_vector};
 use escape_lanes::simd::escape_mask::{EscapeMask, classify, classify_front};
 use escape_lanes::simd::target::{Target, Ticks};
 
@@ -48,22 +48,20 @@ pub(crate) fn classify_short<V: Classifier<MODE, N>, const MODE: u8, const N: us
     (v, TailMasks { first, last })
 }
 
-/// Loads and classifies the first and the last vector of a text of one vector or more, and fewer than two.
+/// Classifies the first and the last vector of a text of one vector or more, and fewer than two.
 #[inline(always)]
 pub(crate) fn classify_pair<V: Classifier<MODE, N>, const MODE: u8, const N: usize>(
     text: &[u8],
     ticks: &mut Ticks,
-) -> (V, V, TailMasks<MODE>)
+) -> TailMasks<MODE>
     requires several { N ≤ length text.now }
     requires few { length text.now < 2 * N }
-    ensures first { V.lanes result.0 ≡ take N text.now }
-    ensures last { V.lanes result.1 ≡ drop (length text.now - N) text.now }
-    ensures masks { AreTailMasks N text.now result.2.first result.2.last }
+    ensures masks { AreTailMasks N text.now result.first result.last }
     ensures ticks { ticks.new ≡ ticks.old + 2 }
 {
-    let (v1, first) = classify::<V, MODE, N>(text, 0, ticks);
-    let (v2, last) = classify::<V, MODE, N>(text, text.len() - N, ticks);
-    (v1, v2, TailMasks { first, last })
+    let first = classify::<V, MODE, N>(text, 0, ticks);
+    let last = classify::<V, MODE, N>(text, text.len() - N, ticks);
+    TailMasks { first, last }
 }
 
 /// Returns a text's last vector, with zeros after it: so a vector can be loaded from each of its bytes on.
@@ -165,13 +163,13 @@ pub(crate) fn store_clean_tail<V: Classifier<MODE, N>, const MODE: u8, const N: 
         store_lanes::<V, MODE, N, true>(v, text, 0, count, &mut masks.last, target, to);
         return Ok(to + count);
     }
-    let (v1, v2, mut masks) = classify_pair::<V, MODE, N>(text, ticks);
+    let mut masks = classify_pair::<V, MODE, N>(text, ticks);
     if !masks.are_clear() {
         return Err(masks);
     }
     let last = count - N;
-    store_lanes::<V, MODE, N, true>(v1, text, 0, N, &mut masks.first, target, to);
+    store_vector::<V, MODE, N, true>(text, 0, N, &mut masks.first, target, to);
     // The last vector overlaps the first one.
-    store_lanes::<V, MODE, N, true>(v2, text, last, N, &mut masks.last, target, to + last);
+    store_vector::<V, MODE, N, true>(text, last, N, &mut masks.last, target, to + last);
     Ok(to + count)
 }

@@ -1,4 +1,4 @@
-use Rattle.escape_simd.proofs.Words.{◌≡◌, ℕ, ◌+◌, ◌-◌, List, ◌++◌, and_parts, length, length-drop, take, drop, sym, ap, ◌∙◌, arith, take_all, mode_numbered, append-nil, inner}
+use Rattle.escape_simd.proofs.Words.{◌≡◌, ℕ, ◌+◌, ◌-◌, List, ◌++◌, and_parts, length, take, drop, sym, ap, ◌∙◌, arith, take_all, mode_numbered, append-nil, inner}
 use Rattle.std.proofs.lemmas.List.{nil_from_length}
 use Rattle.escape_simd.proofs.ReplacementLemmas.{inner-nil}
 use Rattle.escape_simd.proofs.Parts.{marked, tail-itself, vector-front, vector-over}
@@ -26,8 +26,8 @@ returns-then-are_clear-2 g c =
     let none = and_parts _ _ (sym c.are_clear-else-count-lt-N.ensures ∙ c.if-are_clear-2.true) in let itself = tail-itself mode 32 text c.classify_pair-masks.ensures.masks none.0 none.1 in
     marked mode text old c.push_all-then-are_clear-2-2.new.dst.items c.push_quote-then-are_clear-2.new.dst.items
     (c.push_all-then-are_clear-2-2.ensures.items
-    ∙ ap (λ xs. c.truncate-then-are_clear-2.new.self.items ++ xs) (c.lanes-then-are_clear-2-2.ensures ∙ c.classify_pair-masks.ensures.last ∙ sym (take_all 32 (drop last text) (omega (arith, length-drop last text))))
+    ∙ ap (λ xs. c.truncate-then-are_clear-2.new.self.items ++ xs) c.lanes_at-then-are_clear-2.ensures
     ∙ ap (λ xs. xs ++ take 32 (drop last text)) c.truncate-then-are_clear-2.ensures.items
-    ∙ vector-over old text c.push_all-then-are_clear-2.new.dst.items len last 32 32 (omega (arith, c.len-len.ensures)) (omega (arith, c.requires.few)) (c.push_all-then-are_clear-2.ensures.items ∙ ap (λ xs. old ++ xs) (c.lanes-then-are_clear-2.ensures ∙ c.classify_pair-masks.ensures.first))
+    ∙ vector-over old text c.push_all-then-are_clear-2.new.dst.items len last 32 32 (omega (arith, c.len-len.ensures)) (omega (arith, c.requires.few)) (c.push_all-then-are_clear-2.ensures.items ∙ ap (λ xs. old ++ xs) c.lanes_at.ensures)
     ∙ ap (λ xs. old ++ xs) (take_all (last + 32) text (omega (arith, all)) ∙ sym itself))
     c.push_quote-then-are_clear-2.ensures.items

@@ -17,7 +17,7 @@ chunks-preserved g c =
     let mode = mode_numbered g.row.MODE in let src : List ℕ = c.as_bytes-text.result.now in let at : ℕ = c.chunks.at in let i = c.chunks.invariant in let four = c.classify_four-clear.ensures in
     let inside : at + 128 ≤ length src = omega (arith, i.front.inside, c.chunks-test.true) in
     let clean = clean-four mode 32 src at inside four.first four.second four.third four.fourth four.clear c.if-not-clear.false in
-    let rows : c.as_flattened.result.now ≡ take 128 (drop at src) = four-taken 32 at src _ _ _ _ _ c.as_flattened.ensures.value (c.lanes.ensures ∙ four.first.loaded) (c.lanes-in-chunks.ensures ∙ four.second.loaded) (c.lanes-in-chunks-2.ensures ∙ four.third.loaded) (c.lanes-in-chunks-3.ensures ∙ four.fourth.loaded) in
+    let rows : c.as_flattened.result.now ≡ take 128 (drop at src) = four-taken 32 at src _ _ _ _ _ c.as_flattened.ensures.value c.lanes_at.ensures c.lanes_at-in-chunks.ensures c.lanes_at-in-chunks-2.ensures c.lanes_at-in-chunks-3.ensures in
     record {
       front = front-more mode src 0 at 128 i.front inside clean;
       copied = copied-on src c.args.dst.now.items c.chunks.dst.items c.push_all.new.dst.items at 128 128 i.copied refl (c.push_all.ensures.items ∙ ap (λ xs. c.chunks.dst.items ++ xs) rows);
@@ -28,10 +28,10 @@ pub vectors-preserved : goal.vectors-preserved
 vectors-preserved g c =
     let mode = mode_numbered g.row.MODE in let src : List ℕ = c.as_bytes-text.result.now in let at : ℕ = c.vectors.at in let i = c.vectors.invariant in
     let inside : at + 32 ≤ length src = omega (arith, i.front.inside, c.vectors-test.true) in
-    let clean = mask-clean mode src at 32 _ c.classify-mask.ensures.classified.told inside (sym c.is_clear.ensures ∙ c.if-not-is_clear.false) in
+    let clean = mask-clean mode src at 32 _ c.classify.ensures.told inside (sym c.is_clear.ensures ∙ c.if-not-is_clear.false) in
     record {
       front = front-more mode src 0 at 32 i.front (omega (arith, inside)) clean;
-      copied = copied-on src c.args.dst.now.items c.vectors.dst.items c.push_all-in-vectors.new.dst.items at 32 32 i.copied refl (c.push_all-in-vectors.ensures.items ∙ ap (λ xs. c.vectors.dst.items ++ xs) (c.lanes-in-vectors.ensures ∙ c.classify-mask.ensures.classified.loaded));
+      copied = copied-on src c.args.dst.now.items c.vectors.dst.items c.push_all-in-vectors.new.dst.items at 32 32 i.copied refl (c.push_all-in-vectors.ensures.items ∙ ap (λ xs. c.vectors.dst.items ++ xs) c.lanes_at-in-vectors.ensures);
       capacity = omega (arith, i.capacity, c.push_all-in-vectors.ensures.capacity);
     }
 

@@ -4,7 +4,7 @@ use Rattle.escape_simd.proofs.output.clean.mask_at.Goals as goal
 pub returns-then-count-eq-N : goal.returns-then-count-eq-N
 returns-then-count-eq-N g c =
     let whole : 32 ≡ c.args.count = omega (arith, c.if-count-eq-N.true) in
-    let told = c.classify.ensures.classified.told in record { bytes = ap (λ m. m.bytes) told ∙ ap (λ n. take n (drop c.args.at c.args.src.now)) whole; from = ap (λ m. m.from) told }
+    let told = c.classify.ensures.told in record { bytes = ap (λ m. m.bytes) told ∙ ap (λ n. take n (drop c.args.at c.args.src.now)) whole; from = ap (λ m. m.from) told }
 
 pub classify_front-requires : goal.classify_front-requires
 classify_front-requires g c =

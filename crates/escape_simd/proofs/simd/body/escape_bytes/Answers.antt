@@ -19,7 +19,7 @@ vector_from-requires g c =
     let i = c.vectors.invariant.stretch.inside in let a = c.classify-mask.ensures in
     let inside : c.vectors.at + 2 * g.row.N ≤ length c.args.src.now = omega (arith, c.vectors-test.true, i) in
     let room = body-room c.vectors.invariant (c.vectors.at + g.row.N) c.requires (omega (arith, inside)) in
-    (omega arith, (omega arith, (a.classified.told, reached-to (mode_numbered g.row.MODE) c.args.src.now c.vectors.at, inside, room)))
+    (omega arith, (omega arith, (a.told, reached-to (mode_numbered g.row.MODE) c.args.src.now c.vectors.at, inside, room)))
 
 pub vectors-preserved : goal.vectors-preserved
 vectors-preserved g c =

@@ -2,19 +2,19 @@ use Rattle.escape_simd.proofs.Words.{true≢false, ◌+◌, ◌-◌, ◌∙◌, 
 use denote.Param.{number, value_of}
 use Rattle.escape_simd.proofs.Escapes.{bytewise-but-script}
 use Rattle.escape_simd.proofs.Lanes.{mask-clean}
-use Rattle.escape_simd.proofs.Stretches.{loaded-front, reach-bounds}
+use Rattle.escape_simd.proofs.Stretches.{reach-bounds}
 use Rattle.escape_simd.proofs.Vectors.{advanced-ended, advanced-later, vector-blocks, vector-clean, vector-has_blocks, vector-later, vector-stores}
 use Rattle.escape_simd.proofs.simd.by_mask.escape_by_mask.Goals as goal
 
-pub store_lanes-requires : goal.store_lanes-requires
-store_lanes-requires g c =
+pub store_vector-requires : goal.store_vector-requires
+store_vector-requires g c =
     let s = vector-stores c.args.valid refl c.requires.1 in let lanes = g.met.V.Classifier.lane_count in
-    (omega arith, (omega arith, (lanes, s.0, omega (arith, s), loaded-front c.args.src.now c.args.at c.load-v.ensures (omega (arith, s.0, lanes)), ap told_by c.requires.0, s.2, ap (λ m. m.stored) c.requires.0)))
+    (omega arith, (omega arith, (lanes, s.0, s.1, ap told_by c.requires.0, s.2, ap (λ m. m.stored) c.requires.0)))
 
 pub returns-then-is_clear : goal.returns-then-is_clear
 returns-then-is_clear g c =
-    let mode = mode_numbered g.row.MODE in let v = c.requires.1 in let e = c.store_lanes.ensures in
-    rw (e.places.0, e.places.1) (vector-clean mode (reach (not (nat_eq (value_of (number g.row.LAST)) 0)) g.row.N) c.args.src.now c.args.target.now c.store_lanes.new.target c.args.at c.args.valid c.args.to c.args.ticks.now
+    let mode = mode_numbered g.row.MODE in let v = c.requires.1 in let e = c.store_vector.ensures in
+    rw (e.places.0, e.places.1) (vector-clean mode (reach (not (nat_eq (value_of (number g.row.LAST)) 0)) g.row.N) c.args.src.now c.args.target.now c.store_vector.new.target c.args.at c.args.valid c.args.to c.args.ticks.now
     (omega (arith, v.inside)) (mask-clean mode c.args.src.now c.args.at c.args.valid c.args.mask c.requires.0 (omega (arith, v.inside)) (sym c.is_clear.ensures ∙ c.if-is_clear.true)) e.stored)
 
 pub are_paid-requires-clause-some : goal.are_paid-requires-clause-some

@@ -1,4 +1,4 @@
-use Rattle.escape_simd.proofs.Words.{◌≡◌, ◌≤◌, ℕ, take-take, ◌+◌, ◌*◌, ◌∙◌, List, length, take, drop, ap, refl, subst, sym, arith, bytes_of, mode_numbered, told_by, Advanced, HasRoom, IsClassified, IsStored, MaskOf, Mode, Reached, Target, state}
+use Rattle.escape_simd.proofs.Words.{◌≡◌, ◌≤◌, ℕ, ◌+◌, ◌*◌, ◌∙◌, List, length, take, drop, ap, refl, subst, sym, arith, bytes_of, mode_numbered, told_by, Advanced, HasRoom, IsStored, MaskOf, Mode, Reached, Target, state, whole_mask}
 use Rattle.escape_simd.proofs.Lanes.{CleanFrom}
 use Rattle.escape_simd.proofs.Parts.{clean-four}
 use Rattle.escape_simd.proofs.Stretches.{room-least, room-near, room-on}
@@ -7,31 +7,30 @@ use Rattle.escape_simd.proofs.simd.chunk.chunk.Goals as goal
 
 -- each of the vectors can be stored
 module _ {N : ℕ} (vectors : ℕ) {mode : Mode} {src : List ℕ} {at to size : ℕ} (inside : at + (vectors + 1) * N ≤ length src) (room : HasRoom mode N src at (at + vectors * N) to size) where
-  store-at : (k j i p : ℕ) (target : Target N) {width : ℕ} {lanes : List ℕ} {mask : MaskOf} → width ≡ N → IsClassified N src j lanes mask → j ≡ at + k → i ≡ j → p ≡ to + k → k + N ≤ vectors * N → (vectors + 1) * N ≡ vectors * N + N
-      → length (bytes_of target) ≡ size → (width ≡ N) × (N ≤ N) × (i + N ≤ length src) × (take N lanes ≡ take N (drop i src)) × (told_by mask ≡ take N (drop i src)) × (p + N + N ≤ length (bytes_of target)) × (mask.stored ≡ 0)
-  store-at k j i p target {width} {lanes} {mask} wide answer starts is ends few more same =
+  store-at : (k j i p : ℕ) (target : Target N) {width : ℕ} {mask : MaskOf} → width ≡ N → mask ≡ whole_mask (take N (drop j src)) → j ≡ at + k → i ≡ j → p ≡ to + k → k + N ≤ vectors * N → (vectors + 1) * N ≡ vectors * N + N
+      → length (bytes_of target) ≡ size → (width ≡ N) × (N ≤ N) × (i + N ≤ length src) × (told_by mask ≡ take N (drop i src)) × (p + N + N ≤ length (bytes_of target)) × (mask.stored ≡ 0)
+  store-at k j i p target {width} {mask} wide told starts is ends few more same =
       let least = room-least (omega arith) (omega (arith, inside, more)) room in
-      let a = subst (λ j. IsClassified N src j lanes mask) (sym is) answer in
-      (wide, omega arith, omega (arith, inside, starts, is, few, more), ap (take N) a.loaded ∙ take-take N N (drop i src) (omega arith), ap told_by a.told, omega (arith, ends, few, least, same), ap (λ m. m.stored) a.told)
+      (wide, omega arith, omega (arith, inside, starts, is, few, more), ap told_by told ∙ ap (λ k. take N (drop k src)) (sym is), omega (arith, ends, few, least, same), ap (λ m. m.stored) told)
 
-pub store_lanes-next-requires : goal.store_lanes-next-requires
-store_lanes-next-requires g c =
-    (omega arith, (omega arith, store-at 4 c.requires.0 c.requires.1 0 c.args.at c.args.at c.args.to c.args.target.now g.met.V.Classifier.lane_count c.classify_four-v1.ensures.first (omega arith) refl (omega arith) (omega arith) (omega arith) refl))
+pub store_vector-next-requires : goal.store_vector-next-requires
+store_vector-next-requires g c =
+    (omega arith, (omega arith, store-at 4 c.requires.0 c.requires.1 0 c.args.at c.args.at c.args.to c.args.target.now g.met.V.Classifier.lane_count c.classify_four-mask1.ensures.first (omega arith) refl (omega arith) (omega arith) (omega arith) refl))
 
-pub store_lanes-next-requires-then-clear : goal.store_lanes-next-requires-then-clear
-store_lanes-next-requires-then-clear g c =
-    let n : ℕ = g.row.N in let s = c.store_lanes-next in let e = s.ensures in
-    (omega arith, (omega arith, store-at 4 c.requires.0 c.requires.1 n (c.args.at + n) s.result.0 s.result.1 s.new.target g.met.V.Classifier.lane_count c.classify_four-v1.ensures.second refl e.places.0 e.places.1 (omega arith) (omega arith) e.stored.same_slice.len))
+pub store_vector-next-requires-then-clear : goal.store_vector-next-requires-then-clear
+store_vector-next-requires-then-clear g c =
+    let n : ℕ = g.row.N in let s = c.store_vector-next in let e = s.ensures in
+    (omega arith, (omega arith, store-at 4 c.requires.0 c.requires.1 n (c.args.at + n) s.result.0 s.result.1 s.new.target g.met.V.Classifier.lane_count c.classify_four-mask1.ensures.second refl e.places.0 e.places.1 (omega arith) (omega arith) e.stored.same_slice.len))
 
-pub store_lanes-next-requires-then-clear-2 : goal.store_lanes-next-requires-then-clear-2
-store_lanes-next-requires-then-clear-2 g c =
-    let n : ℕ = g.row.N in let e = c.store_lanes-next.ensures in let s = c.store_lanes-next-then-clear in let e2 = s.ensures in
-    (omega arith, (omega arith, store-at 4 c.requires.0 c.requires.1 (2 * n) (c.args.at + 2 * n) s.result.0 s.result.1 s.new.target g.met.V.Classifier.lane_count c.classify_four-v1.ensures.third refl (omega (arith, e.places.0, e2.places.0)) (omega (arith, e.places.1, e2.places.1)) (omega arith) (omega arith) (e2.stored.same_slice.len ∙ e.stored.same_slice.len)))
+pub store_vector-next-requires-then-clear-2 : goal.store_vector-next-requires-then-clear-2
+store_vector-next-requires-then-clear-2 g c =
+    let n : ℕ = g.row.N in let e = c.store_vector-next.ensures in let s = c.store_vector-next-then-clear in let e2 = s.ensures in
+    (omega arith, (omega arith, store-at 4 c.requires.0 c.requires.1 (2 * n) (c.args.at + 2 * n) s.result.0 s.result.1 s.new.target g.met.V.Classifier.lane_count c.classify_four-mask1.ensures.third refl (omega (arith, e.places.0, e2.places.0)) (omega (arith, e.places.1, e2.places.1)) (omega arith) (omega arith) (e2.stored.same_slice.len ∙ e.stored.same_slice.len)))
 
-pub store_lanes-requires : goal.store_lanes-requires
-store_lanes-requires g c =
-    let n : ℕ = g.row.N in let e = c.store_lanes-next.ensures in let e2 = c.store_lanes-next-then-clear.ensures in let s = c.store_lanes-next-then-clear-2 in let e3 = s.ensures in
-    (omega arith, (omega arith, store-at 4 c.requires.0 c.requires.1 (3 * n) (c.args.at + 3 * n) s.result.0 s.result.1 s.new.target g.met.V.Classifier.lane_count c.classify_four-v1.ensures.fourth refl (omega (arith, e.places.0, e2.places.0, e3.places.0)) (omega (arith, e.places.1, e2.places.1, e3.places.1)) (omega arith) (omega arith) (e3.stored.same_slice.len ∙ e2.stored.same_slice.len ∙ e.stored.same_slice.len)))
+pub store_vector-requires : goal.store_vector-requires
+store_vector-requires g c =
+    let n : ℕ = g.row.N in let e = c.store_vector-next.ensures in let e2 = c.store_vector-next-then-clear.ensures in let s = c.store_vector-next-then-clear-2 in let e3 = s.ensures in
+    (omega arith, (omega arith, store-at 4 c.requires.0 c.requires.1 (3 * n) (c.args.at + 3 * n) s.result.0 s.result.1 s.new.target g.met.V.Classifier.lane_count c.classify_four-mask1.ensures.fourth refl (omega (arith, e.places.0, e2.places.0, e3.places.0)) (omega (arith, e.places.1, e2.places.1, e3.places.1)) (omega arith) (omega arith) (e3.stored.same_slice.len ∙ e2.stored.same_slice.len ∙ e.stored.same_slice.len)))
 
 -- a vector of a clean chunk was stored
 module _ {N : ℕ} {mode : Mode} {src : List ℕ} {at : ℕ} (inside : at + 4 * N ≤ length src) (clean : CleanFrom mode src at (at + 4 * N)) where
@@ -41,10 +40,10 @@ module _ {N : ℕ} {mode : Mode} {src : List ℕ} {at : ℕ} (inside : at + 4 * 
 
 pub returns-then-clear : goal.returns-then-clear
 returns-then-clear g c =
-    let mode = mode_numbered g.row.MODE in let n : ℕ = g.row.N in let src : List ℕ = c.args.src.now in let at : ℕ = c.args.at in let four = c.classify_four-v1.ensures in
+    let mode = mode_numbered g.row.MODE in let n : ℕ = g.row.N in let src : List ℕ = c.args.src.now in let at : ℕ = c.args.at in let four = c.classify_four-mask1.ensures in
     let inside : at + 4 * n ≤ length src = omega (arith, c.requires.0) in
     let clean = clean-four mode n src at inside four.first four.second four.third four.fourth four.clear c.if-clear.true in
-    let e1 = c.store_lanes-next.ensures in let e2 = c.store_lanes-next-then-clear.ensures in let e3 = c.store_lanes-next-then-clear-2.ensures in let e4 = c.store_lanes.ensures in
+    let e1 = c.store_vector-next.ensures in let e2 = c.store_vector-next-then-clear.ensures in let e3 = c.store_vector-next-then-clear-2.ensures in let e4 = c.store_vector.ensures in
     let p1 = e1.places.0 in let p2 = e2.places.0 in let p3 = e3.places.0 in let p4 = e4.places.0 in
     let s1 = stored-on inside clean e1.stored p1 e1.places.1 (omega arith) (omega (arith, p1)) in
     let s2 = stored-on inside clean e2.stored p2 e2.places.1 (omega (arith, p1)) (omega (arith, p1, p2)) in
@@ -60,24 +59,24 @@ module _ {N : ℕ} (vectors : ℕ) {mode : Mode} {src : List ℕ} {at to : ℕ} 
 pub vector_from-next-requires : goal.vector_from-next-requires
 vector_from-next-requires g c =
     let n : ℕ = g.row.N in let i = c.requires.0 in
-    (omega arith, (omega arith, (c.classify_four-v1.ensures.first.told, reached-to (mode_numbered g.row.MODE) c.args.src.now c.args.at, omega (arith, i), room-near (c.args.at + n) n (omega arith) (omega (arith, i)) (omega arith) c.requires.1)))
+    (omega arith, (omega arith, (c.classify_four-mask1.ensures.first, reached-to (mode_numbered g.row.MODE) c.args.src.now c.args.at, omega (arith, i), room-near (c.args.at + n) n (omega arith) (omega (arith, i)) (omega arith) c.requires.1)))
 
 pub vector_from-next-requires-2 : goal.vector_from-next-requires-2
 vector_from-next-requires-2 g c =
     let n : ℕ = g.row.N in let e = c.vector_from-next.ensures in
-    (omega arith, (omega arith, (c.classify_four-v1.ensures.second.told, e.reached, omega (arith, c.requires.0), next-vector 4 c.requires.0 c.requires.1 (c.args.at + n) (omega arith) e)))
+    (omega arith, (omega arith, (c.classify_four-mask1.ensures.second, e.reached, omega (arith, c.requires.0), next-vector 4 c.requires.0 c.requires.1 (c.args.at + n) (omega arith) e)))
 
 pub vector_from-next-requires-3 : goal.vector_from-next-requires-3
 vector_from-next-requires-3 g c =
     let n : ℕ = g.row.N in let e = c.vector_from-next-2.ensures in
-    (omega arith, (omega arith, (c.classify_four-v1.ensures.third.told, subst (λ border. Reached (mode_numbered g.row.MODE) c.args.src.now border c.vector_from-next-2.result.0) (omega arith) e.reached, omega (arith, c.requires.0), next-vector 4 c.requires.0 c.requires.1 (c.args.at + 2 * n) (omega arith) (advanced-onward c.vector_from-next.ensures e))))
+    (omega arith, (omega arith, (c.classify_four-mask1.ensures.third, subst (λ border. Reached (mode_numbered g.row.MODE) c.args.src.now border c.vector_from-next-2.result.0) (omega arith) e.reached, omega (arith, c.requires.0), next-vector 4 c.requires.0 c.requires.1 (c.args.at + 2 * n) (omega arith) (advanced-onward c.vector_from-next.ensures e))))
 
 pub vector_from-requires : goal.vector_from-requires
 vector_from-requires g c =
     let n : ℕ = g.row.N in let e = c.vector_from-next-3.ensures in
-    (omega arith, (omega arith, (c.classify_four-v1.ensures.fourth.told, subst (λ border. Reached (mode_numbered g.row.MODE) c.args.src.now border c.vector_from-next-3.result.0) (omega arith) e.reached, omega (arith, c.requires.0), next-vector 4 c.requires.0 c.requires.1 (c.args.at + 3 * n) (omega arith) (advanced-onward (advanced-onward c.vector_from-next.ensures c.vector_from-next-2.ensures) e))))
+    (omega arith, (omega arith, (c.classify_four-mask1.ensures.fourth, subst (λ border. Reached (mode_numbered g.row.MODE) c.args.src.now border c.vector_from-next-3.result.0) (omega arith) e.reached, omega (arith, c.requires.0), next-vector 4 c.requires.0 c.requires.1 (c.args.at + 3 * n) (omega arith) (advanced-onward (advanced-onward c.vector_from-next.ensures c.vector_from-next-2.ensures) e))))
 
 pub returns : goal.returns
 returns g c =
     let all = advanced-onward (advanced-onward (advanced-onward c.vector_from-next.ensures c.vector_from-next-2.ensures) c.vector_from-next-3.ensures) c.vector_from.ensures in
-    advanced-asked c.args.ticks.now 4 (omega (arith, c.classify_four-v1.ensures.ticks)) (advanced-bordered (omega arith) all)
+    advanced-asked c.args.ticks.now 4 (omega (arith, c.classify_four-mask1.ensures.ticks)) (advanced-bordered (omega arith) all)

@@ -1,4 +1,4 @@
-use Rattle.escape_simd.proofs.Words.{◌≡◌, ℕ, List, true, ◌+◌, ◌-◌, ◌∙◌, and_parts, length, take, length-drop, drop, replicate, ap, sym, subst, arith, is_clear, mode_numbered, take-append_seam, take_all, take-take, told_by, Advanced, reach, state}
+use Rattle.escape_simd.proofs.Words.{◌≡◌, ℕ, List, true, ◌+◌, ◌-◌, ◌∙◌, and_parts, length, take, length-drop, drop, replicate, ap, sym, subst, arith, is_clear, mode_numbered, take-append_seam, take_all, told_by, Advanced, reach, state}
 use Rattle.escape_simd.proofs.Last.{one-begun, tail-clean_back, tail-clean_front, two-begun, two-clean}
 use Rattle.escape_simd.proofs.Stretches.{room-least}
 use Rattle.escape_simd.proofs.Vectors.{advanced-asked, advanced-ended, vector-clean}
@@ -11,16 +11,16 @@ store_lanes-requires g c =
     let loaded = ap (take count) v.loaded ∙ take-append_seam text (replicate (g.row.N - count) 0) ∙ sym all in
     (omega arith, (omega arith, (g.met.V.Classifier.lane_count, omega (arith, c.if-count.true), omega arith, loaded, ap told_by v.masks.back ∙ ap (λ k. drop k text) start ∙ sym all, omega (arith, least), ap (λ m. m.stored) v.masks.back)))
 
-pub store_lanes-requires-2 : goal.store_lanes-requires-2
-store_lanes-requires-2 g c =
-    let n : ℕ = g.row.N in let p = c.classify_pair-v1.ensures in let some = c.if-count.false in let least = room-least (omega arith) (omega arith) c.requires.1 in
-    (omega arith, (omega arith, (g.met.V.Classifier.lane_count, omega arith, omega (arith, some), ap (take n) p.first ∙ take-take n n c.args.text.now (omega arith), ap told_by (p.masks.front some), omega (arith, least, some), ap (λ m. m.stored) (p.masks.front some))))
+pub store_vector-requires : goal.store_vector-requires
+store_vector-requires g c =
+    let n : ℕ = g.row.N in let p = c.classify_pair-masks.ensures in let some = c.if-count.false in let least = room-least (omega arith) (omega arith) c.requires.1 in
+    (omega arith, (omega arith, (g.met.V.Classifier.lane_count, omega arith, omega (arith, some), ap told_by (p.masks.front some), omega (arith, least, some), ap (λ m. m.stored) (p.masks.front some))))
 
-pub store_lanes-requires-3 : goal.store_lanes-requires-3
-store_lanes-requires-3 g c =
-    let n : ℕ = g.row.N in let text : List ℕ = c.args.text.now in let p = c.classify_pair-v1.ensures in let some = c.if-count.false in let least = room-least (omega arith) (omega arith) c.requires.1 in
+pub store_vector-requires-2 : goal.store_vector-requires-2
+store_vector-requires-2 g c =
+    let n : ℕ = g.row.N in let text : List ℕ = c.args.text.now in let p = c.classify_pair-masks.ensures in let some = c.if-count.false in let least = room-least (omega arith) (omega arith) c.requires.1 in
     let all = take_all n (drop (length text - n) text) (omega (arith, length-drop (length text - n) text)) in
-    (omega arith, (omega arith, (g.met.V.Classifier.lane_count, omega arith, omega (arith, some), ap (take n) p.last, ap told_by p.masks.back ∙ sym all, omega (arith, least, some, c.store_lanes-2.ensures.stored.same_slice.len), ap (λ m. m.stored) p.masks.back)))
+    (omega arith, (omega arith, (g.met.V.Classifier.lane_count, omega arith, omega (arith, some), ap told_by p.masks.back ∙ sym all, omega (arith, least, some, c.store_vector.ensures.stored.same_slice.len), ap (λ m. m.stored) p.masks.back)))
 
 pub returns-then-count-clause-clean : goal.returns-then-count-clause-clean
 returns-then-count-clause-clean g c =
@@ -33,9 +33,9 @@ returns-then-count-clause-clean g c =
 
 pub returns-clause-clean : goal.returns-clause-clean
 returns-clause-clean g c =
-    let mode = mode_numbered g.row.MODE in let n : ℕ = g.row.N in let text : List ℕ = c.args.text.now in let t = c.classify_pair-v1.new.ticks in
-    let some = c.if-count.false in let masks = c.classify_pair-v1.ensures.masks in
-    let clear = and_parts (is_clear mode c.classify_pair-v1.result.2.first) (is_clear mode c.classify_pair-v1.result.2.last) (sym c.are_clear-2.ensures ∙ c.if-not-are_clear-2.false) in
-    let e = two-clean some c.requires.0 (tail-clean_front mode masks some clear.0) (tail-clean_back mode masks clear.1) c.store_lanes-2.ensures.stored c.store_lanes-3.ensures.stored in
-    subst (λ v. Advanced mode (reach true n) (length text) v 0 text (state c.args.target.now 0 c.args.to c.args.ticks.now) (state c.store_lanes-3.new.target (length text) (c.args.to + length text) t)) (two-begun n (length text) some c.requires.0)
-    (advanced-asked c.args.ticks.now 2 c.classify_pair-v1.ensures.ticks e)
+    let mode = mode_numbered g.row.MODE in let n : ℕ = g.row.N in let text : List ℕ = c.args.text.now in let t = c.classify_pair-masks.new.ticks in
+    let some = c.if-count.false in let masks = c.classify_pair-masks.ensures.masks in
+    let clear = and_parts (is_clear mode c.classify_pair-masks.result.first) (is_clear mode c.classify_pair-masks.result.last) (sym c.are_clear-2.ensures ∙ c.if-not-are_clear-2.false) in
+    let e = two-clean some c.requires.0 (tail-clean_front mode masks some clear.0) (tail-clean_back mode masks clear.1) c.store_vector.ensures.stored c.store_vector-2.ensures.stored in
+    subst (λ v. Advanced mode (reach true n) (length text) v 0 text (state c.args.target.now 0 c.args.to c.args.ticks.now) (state c.store_vector-2.new.target (length text) (c.args.to + length text) t)) (two-begun n (length text) some c.requires.0)
+    (advanced-asked c.args.ticks.now 2 c.classify_pair-masks.ensures.ticks e)

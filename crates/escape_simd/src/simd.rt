@@ -17,5 +17,6 @@ pub(crate) mod whole;
 pub use escape_lanes::simd::mode::{HTML_MODE, JSON_MODE, SCRIPT_MODE};
 pub use escape_lanes::simd::{BitMask, Mask, Simd, bits, target};
 pub(crate) use escape_lanes::simd::{Classifier, LoadStore};
+pub(crate) use store::load_vector;
 pub(crate) use tail::{classify_pair, classify_short};
 pub(crate) use whole::{escape_flagged, escape_to_slice};

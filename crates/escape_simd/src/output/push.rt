@@ -4,7 +4,7 @@ ghost use Rattle.escape_simd.specs.Modes.{mode_numbered};
 ghost use Rattle.escape_simd.specs.Output.{quote_of};
 
 use crate::output::{N, V};
-use crate::simd::Simd;
+use crate::simd::{Simd, load_vector};
 use escape_lanes::simd::mode::is_quoted;
 use std::alloc::Allocator;
 
@@ -43,9 +43,7 @@ pub(super) fn lanes_at(text: &[u8], at: usize) -> [u8; N]
     requires { at + N ≤ length text.now }
     ensures { result ≡ take N (drop at text.now) }
 {
-    let mut lanes = [0u8; N];
-    lanes.copy_from_slice(&text[at..at + N]);
-    lanes
+    lanes(&load_vector(text, at))
 }
 
 /// Appends the quotation mark, if the mode has one.

@@ -7,7 +7,7 @@ ghost use Rattle.escape_simd.specs.Stretch.{Advanced, HasRoom, Reached, state};
 
 use crate::simd::Classifier;
 use crate::simd::by_mask::escape_by_mask;
-use crate::simd::store::store_vector;
+use crate::simd::store::{load_vector, store_lanes};
 use escape_lanes::simd::escape_mask::{EscapeMask, classify_four};
 use escape_lanes::simd::target::{Target, Ticks};
 
@@ -53,10 +53,19 @@ pub(crate) fn chunk<V: Classifier<MODE, N>, const MODE: u8, const N: usize>(
         src, at, ticks,
     );
     if clear {
-        let (next, end) = store_vector::<V, MODE, N, false>(src, at, N, &mut mask1, target, to);
-        let (next, end) = store_vector::<V, MODE, N, false>(src, next, N, &mut mask2, target, end);
-        let (next, end) = store_vector::<V, MODE, N, false>(src, next, N, &mut mask3, target, end);
-        return store_vector::<V, MODE, N, false>(src, next, N, &mut mask4, target, end);
+        // All loads come before the first store: after it the compiler would load the text again.
+        let v1: V = load_vector(src, at);
+        let v2: V = load_vector(src, at + N);
+        let v3: V = load_vector(src, at + 2 * N);
+        let v4: V = load_vector(src, at + 3 * N);
+        let (next, end) = store_lanes::<V, MODE, N, false>(v1, src, at, N, &mut mask1, target, to);
+        let (next, end) = store_lanes::<V, MODE, N, false>(
+            v2, src, next, N, &mut mask2, target, end,
+        );
+        let (next, end) = store_lanes::<V, MODE, N, false>(
+            v3, src, next, N, &mut mask3, target, end,
+        );
+        return store_lanes::<V, MODE, N, false>(v4, src, next, N, &mut mask4, target, end);
     }
     let (next, end) = vector_from::<V, MODE, N>(src, at, at, mask1, target, to, ticks);
     let (next, end) = vector_from::<V, MODE, N>(src, at + N, next, mask2, target, end, ticks);

@@ -45,6 +45,15 @@ pub(crate) fn store_lanes<V: LoadStore, const MODE: u8, const N: usize, const LA
     (from + left, to + left)
 }
 
+/// Loads the text's vector at `at`.
+#[inline(always)]
+pub(crate) fn load_vector<V: LoadStore>(src: &[u8], at: usize) -> V
+    requires { at + V.LANES ≤ length src.now }
+    ensures { V.lanes result ≡ take V.LANES (drop at src.now) }
+{
+    V::load(&src[at..])
+}
+
 /// Stores the text's vector at `from`, as [`store_lanes`] does.
 #[inline(always)]
 pub(crate) fn store_vector<V: LoadStore, const MODE: u8, const N: usize, const LAST: bool>(
@@ -65,6 +74,5 @@ pub(crate) fn store_vector<V: LoadStore, const MODE: u8, const N: usize, const L
     ensures places { (result.0 ≡ from + left) × (result.1 ≡ to + left) }
     ensures used { mask.new ≡ used_up mask.old }
 {
-    let v = V::load(&src[from..]);
-    store_lanes::<V, MODE, N, LAST>(v, src, from, left, mask, target, to)
+    store_lanes::<V, MODE, N, LAST>(load_vector(src, from), src, from, left, mask, target, to)
 }

@@ -15,7 +15,7 @@ use std::rt::Env;
 const USAGE_STATUS: u8 = 2;
 
 fn main(rt: HostRuntime) -> ExitCode {
-    let Some((mode, kernel)) = words(&rt).and_then(|words| chosen(words.as_slice())) else {
+    let Some((mode, kernel)) = chosen(&rt) else {
         let _ = rt.eprintln(USAGE);
         return ExitCode::from(USAGE_STATUS);
     };
@@ -34,9 +34,10 @@ fn words<R: Env + AllocGlobal>(rt: &R) -> Option<Vec<String>> {
     Some(words)
 }
 
-/// Returns what one or two words choose.
-fn chosen(words: &[String]) -> Option<(Mode, Kernel)> {
-    match words {
+/// Returns what the one or two words choose.
+fn chosen<R: Env + AllocGlobal>(rt: &R) -> Option<(Mode, Kernel)> {
+    let words = words(rt)?;
+    match words.as_slice() {
         [mode] => choose(mode.as_str(), None),
         [mode, kernel] => choose(mode.as_str(), Some(kernel.as_str())),
         _ => None,

@@ -20,8 +20,6 @@ pub type Simd256u = Vector<1, 32>;
 pub type Mask256 = LaneMask<1, 32>;
 
 impl<const MODE: u8> Classifier<MODE, 32> for Simd256u {
-    const LOOKS_UP: bool = true;
-
     ghost lane_count = { refl };
 
     ghost sixteens = { refl };

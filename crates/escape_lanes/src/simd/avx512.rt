@@ -20,8 +20,6 @@ pub type Simd512u = Vector<1, 64>;
 pub type Mask512 = LaneMask<1, 64>;
 
 impl<const MODE: u8> Classifier<MODE, 64> for Simd512u {
-    const LOOKS_UP: bool = true;
-
     ghost lane_count = { refl };
 
     ghost sixteens = { refl };

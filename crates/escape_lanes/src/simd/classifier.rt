@@ -10,9 +10,6 @@ use crate::simd::traits::LoadStore;
 /// A vector of `N` bytes, with its classifier in the mode numbered `MODE`: its own `escaped_mask` or
 /// `script_mask`, whose bit mask becomes a number.
 pub trait Classifier<const MODE: u8, const N: usize>: LoadStore {
-    /// Whether one instruction looks lanes up in a table, so that blocks are faster than single escapes.
-    const LOOKS_UP: bool;
-
     /// Returns which lanes have bytes that need an escape (script: also e2): bit `i` is set where lane `i`
     /// does. Ticks once.
     fn escape_bits(&self, ticks: &mut Ticks) -> u64

@@ -22,8 +22,6 @@ pub type Simd128u = Vector<4, 16>;
 pub type Mask128 = LaneMask<4, 16>;
 
 impl<const MODE: u8> Classifier<MODE, 16> for Simd128u {
-    const LOOKS_UP: bool = true;
-
     ghost lane_count = { refl };
 
     ghost sixteens = { refl };

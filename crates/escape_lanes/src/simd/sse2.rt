@@ -21,8 +21,6 @@ pub type Simd128u = Vector<1, 16>;
 pub type Mask128 = LaneMask<1, 16>;
 
 impl<const MODE: u8> Classifier<MODE, 16> for Simd128u {
-    const LOOKS_UP: bool = false;
-
     ghost lane_count = { refl };
 
     ghost sixteens = { refl };

@@ -169,8 +169,6 @@ impl LoadStore for Simd128u {
 }
 
 impl<const MODE: u8> Classifier<MODE, 16> for Simd128u {
-    const LOOKS_UP: bool = false;
-
     ghost lane_count = { refl };
 
     ghost sixteens = { refl };

@@ -122,7 +122,7 @@ pub(crate) fn escape_by_mask<
         return store_vector::<V, MODE, N, LAST>(src, at, valid, &mut mask, target, to);
     }
     let bits = mask.bits();
-    if V::LOOKS_UP && are_paid(bits, valid) && are_short::<MODE, N>(src, at, bits) {
+    if are_paid(bits, valid) && are_short::<MODE, N>(src, at, bits) {
         let end = escape_blocks::<MODE, N>(src, at, valid, mask, target, to, ticks);
         return (at + valid, end);
     }

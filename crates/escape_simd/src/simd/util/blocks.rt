@@ -27,9 +27,9 @@ pub(crate) fn are_paid(bits: u64, valid: usize) -> bool
 {
     let blocks = (valid + 7) / 8;
     let escapes = count_flagged(bits);
-    // Of two blocks one has an escape. More are faster than turns if there are as many escapes. A block has at
+    // Blocks are faster than turns if there are as many escapes. Of two blocks one has an escape. A block has at
     // most eight: so an eighth of the escapes is at most the count of blocks that have one.
-    blocks <= 2 || (blocks <= escapes && 8 * blocks < escapes + 8 * count_gaps(bits, valid) + 16)
+    blocks <= escapes && (blocks <= 2 || 8 * blocks < escapes + 8 * count_gaps(bits, valid) + 16)
 }
 
 /// Returns whether what stands for each flagged byte of the text's vector at `at` is two bytes.

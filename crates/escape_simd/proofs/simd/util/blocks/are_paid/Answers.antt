@@ -13,7 +13,7 @@ returns-then-blocks-le2 c =
     let some = blocks-some 8 (first_set bits) bits (first-lt c.args.bits c.requires.some) (first_set-here bits c.requires.some) in
     λ paid. omega (arith, c.if-blocks-le2.true, some)
 
-pub returns-then-blocks-escapes : goal.returns-then-blocks-escapes
-returns-then-blocks-escapes c =
+pub returns-else-blocks-le2 : goal.returns-else-blocks-le2
+returns-else-blocks-le2 c =
     let most = flags-most 8 (bits_of 64 c.args.bits) (omega (arith, length-bits_of 64 c.args.bits)) in
     λ paid. let ends = c.count_gaps.ensures.count in let escapes = c.count_flagged-escapes.ensures.count in grind (arith, nat_tests, paid, most, ends, escapes)

@@ -189,13 +189,13 @@ lock() {
 # Prints how many proofs may run side by side: one for each processor, and for each 3 GB of free memory.
 side_by_side() { awk -v n="$(nproc)" '/^MemAvail/ { n = int($2 / 3e6) < n ? int($2 / 3e6) : n } END { print n < 1 ? 1 : n }' /proc/meminfo; }
 
-# Prints how many jobs the proof of a crate gets that runs alone: four for more than a hundred functions, if there is room.
-# Each job loads what the crate stands on, so others gain little by a second.
+# Prints how many jobs the proof of a crate gets that runs alone: two for the longest, if there is room. Each job proves
+# again what they share, so others gain little by a second.
 jobs_for() {
   local room
   room=$(side_by_side)
   case $1 in
-    escape_lanes | escape_simd | escape_checks) echo $((room < 4 ? room : 4)) ;;
+    escape_simd | escape_checks) echo $((room < 2 ? room : 2)) ;;
     *) echo 1 ;;
   esac
 }

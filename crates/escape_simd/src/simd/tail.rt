@@ -8,7 +8,7 @@ ghost use Rattle.escape_simd.specs.Stretch.{AreTailMasks, Advanced, HasRoom, rea
 
 use crate::simd::Classifier;
 use crate::simd::by_mask::escape_by_mask;
-use crate::simd::store::{store_lanes, store_vector};
+use crate::simd::store::{load_vector, store_lanes, store_vector};
 use escape_lanes::simd::escape_mask::{EscapeMask, classify, classify_front};
 use escape_lanes::simd::target::{Target, Ticks};
 
@@ -31,7 +31,7 @@ impl<const MODE: u8> TailMasks<MODE> {
     }
 }
 
-/// Loads a text of fewer bytes than a vector has, and some, and classifies it.
+/// Loads and classifies a text of at least one byte and fewer than a vector has.
 #[inline(always)]
 pub(crate) fn classify_short<V: Classifier<MODE, N>, const MODE: u8, const N: usize>(
     text: &[u8],
@@ -74,7 +74,7 @@ fn spill_last<V: Classifier<MODE, N>, const MODE: u8, const N: usize>(text: &[u8
     if text.len() < N {
         V::load_last(text, text.len()).put(&mut rows[0]);
     } else {
-        V::load(&text[text.len() - N..]).put(&mut rows[0]);
+        load_vector::<V>(text, text.len() - N).put(&mut rows[0]);
     }
     rows
 }

@@ -192,12 +192,7 @@ side_by_side() { awk -v n="$(nproc)" '/^MemAvail/ { n = int($2 / 3e6) < n ? int(
 # Prints how many jobs the proof of a crate gets that runs alone: two for the longest, if there is room. Each job proves
 # again what they share, so others gain little by a second.
 jobs_for() {
-  local room
-  room=$(side_by_side)
-  case $1 in
-    escape_simd | escape_checks) echo $((room < 2 ? room : 2)) ;;
-    *) echo 1 ;;
-  esac
+  if [ "$1" = escape_simd ] && [ "$(side_by_side)" -gt 1 ]; then echo 2; else echo 1; fi
 }
 
 # Proves and builds a library for other crates.

@@ -1,5 +1,5 @@
 -- The bits of a number, lowest first: more and fewer of them, a shift, the first set one cleared, and how many are set.
-use Rattle.std.proofs.Common.{◌≡◌, ℕ, zero, suc, ◌+◌, ◌-◌, min, ◌*◌, ◌/◌, ◌%◌, ◌^◌, ◌≤◌, ◌<◌, Bool, false, not, cond, ◌&&◌, List, [], ◌∷◌, ◌++◌, length, take, drop, replicate, nat_eq, bit_and, refl, sym, ap, ap₂, ◌∙◌, inl, inr, arith, add-one, suc-mul}
+use Rattle.std.proofs.Common.{◌≡◌, ℕ, zero, suc, ◌+◌, ◌-◌, min, ◌*◌, ◌/◌, ◌%◌, ◌^◌, ◌≤◌, ◌<◌, Bool, false, not, cond, ◌&&◌, List, [], ◌∷◌, ◌++◌, length, take, drop, replicate, get_or, nat_eq, bit_and, refl, sym, ap, ap₂, ◌∙◌, inl, inr, arith, add-one, suc-mul}
 use Rattle.std.proofs.lemmas.Bool.{cases_eq}
 use Rattle.std.proofs.lemmas.Bool.Decides.{nat_tests}
 use Rattle.std.proofs.lemmas.List.Sums.{sum_by-cons}
@@ -26,6 +26,10 @@ pub bits-zero : (k : ℕ) → bits_of k 0 ≡ replicate k false
 unfolding bits_of
 bits-zero zero = refl
 bits-zero (suc k) = ap (λ bs. false ∷ bs) (bits-zero k)
+
+-- the lowest bit
+pub bits-lowest : (k x : ℕ) → get_or (bits_of (suc k) x) 0 false ≡ nat_eq (x % 2) 1
+bits-lowest k x = rw (bits-suc k x) refl
 
 -- a number of n bits has no more of them
 pub bits-wide : (n j x : ℕ) → x < 2 ^ n → bits_of (n + j) x ≡ bits_of n x ++ replicate j false

@@ -27,4 +27,4 @@ mod writes;
 
 pub use classifier::Classifier;
 pub use mask::Mask;
-pub use traits::{BitMask, LoadStore, Simd};
+pub use traits::{BitMask, LoadLast, LoadStore, Simd};

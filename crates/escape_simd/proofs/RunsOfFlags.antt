@@ -1,5 +1,5 @@
 -- How a run of escapes goes on, and how far a mask tells of one.
-use Rattle.escape_simd.proofs.Words.{◌≡◌, ℕ, ◌+◌, ◌<◌, ◌≤◌, inl, inr, Bool, true, false, List, length, drop, get_or, refl, ap, sym, ◌∙◌, arith, bytes_of, first_set, none_set, MaskOf, lanes_of_mask, mask_from, Mode, needs_escape, entry_count, escaped_count, Target, source_len, run_count_after, run_end, run_reach, EscapedRun, HasRunRoom, IsFlaggedAt, IsRunAt, IsRunEnd, Stretch, stored_of}
+use Rattle.escape_simd.proofs.Words.{◌≡◌, ℕ, ◌+◌, ◌<◌, ◌≤◌, inl, inr, Bool, true, false, List, length, drop, get_or, refl, ap, sym, length-take-le, ◌∙◌, arith, bytes_of, first_set, none_set, MaskOf, lanes_of_mask, mask_from, Mode, needs_escape, entry_count, escaped_count, Target, source_len, run_count_after, run_end, run_reach, EscapedRun, HasRunRoom, IsFlaggedAt, IsRunAt, IsRunEnd, Stretch, stored_of}
 use Rattle.escape_simd.proofs.Escapes.{entry-counts, passed-after}
 use Rattle.escape_simd.proofs.ReplacementLemmas.{length-replacement}
 use Rattle.escape_simd.proofs.Texts.{escaped-here, first-here, next-here, one≤source_len, run_end-here}
@@ -98,21 +98,26 @@ module _ {mode : Mode} {src : List ℕ} {valid at next : ℕ} {mask rest : MaskO
   mask-left : none_set bits ≡ false → next < valid
   mask-left some = omega (arith, (first-set mode src 0 valid next bits mask-flags some).0, mask-cleared (first_set bits) (first_set-here bits some))
 
-  -- where the next lane is the first that is set, the run goes on
-  pub mask-goes : none_set bits ≡ false → first_set bits ≡ next → IsRunAt mode src valid next rest
-  mask-goes some first =
-      let t = first-set mode src 0 valid next bits mask-flags some in let there : 0 + first_set bits ≡ next = omega (arith, first) in
+  -- the next lane is one of them
+  pub mask-told : none_set bits ≡ false → next < length rest.bytes
+  mask-told some = omega (arith, mask-left some, ap length (ap (λ m. m.bytes) cut ∙ r.bytes), length-take-le valid src r.inside)
+
+  -- where it is set, the run goes on
+  pub mask-goes : none_set bits ≡ false → get_or bits next false ≡ true → IsRunAt mode src valid next rest
+  mask-goes some here =
+      let t = mask-flags.set next here in let there : 0 + next ≡ next = omega arith in
+      let later = mask-cleared (first_set bits) (first_set-here bits some) in let before = first_set-before bits next in
       record {
         bytes = ap (λ m. m.bytes) cut ∙ r.bytes;
         some = some;
-        first = sym first;
-        flagged = (omega (arith, t, first, r.inside), rw there at t.1);
-        before = omega (arith, t, first);
+        first = grind (arith, later, before, here);
+        flagged = (omega (arith, t.0, r.inside), rw there at t.1);
+        before = t.0;
         inside = r.inside;
       }
 
   -- else it has ended
-  pub mask-ends : next ≤ length src → (none_set bits ≡ false → first_set bits ≡ next → ⊥) → IsRunEnd mode src valid next rest
+  pub mask-ends : next ≤ length src → (none_set bits ≡ false → get_or bits next false ≡ false) → IsRunEnd mode src valid next rest
   mask-ends inside other =
       let u = place-after in let there : 0 + next ≡ next = omega arith in
       record {
@@ -126,7 +131,5 @@ module _ {mode : Mode} {src : List ℕ} {valid at next : ℕ} {mask rest : MaskO
           exact = λ one. omega (arith, past, u, r.before, place, one (drop at src));
           clean = λ p late early. mask-between p (omega (arith, late, r.before)) early;
         };
-        stops = λ some.
-            let later = mask-cleared (first_set bits) (first_set-here bits some) in let not_here = other some in let before : next < first_set bits = grind (arith, later, not_here) in
-            (mask-left some, rw there at (mask-flags.unset next (first_set-before bits next before) (omega arith) (mask-left some)));
+        stops = λ some. (mask-left some, rw there at (mask-flags.unset next (other some) (omega arith) (mask-left some)));
       }

@@ -1,5 +1,5 @@
 //! The mask that knows its bytes, and the classifiers, which alone make one.
-ghost use Rattle.std.specs.Prelude.{◌≡◌, ℕ, ◌+◌, ◌*◌, ◌<◌, ◌≤◌, ◌&&◌, List, [], false, length, take, drop};
+ghost use Rattle.std.specs.Prelude.{◌≡◌, ℕ, ◌+◌, ◌*◌, ◌<◌, ◌≤◌, ◌&&◌, List, [], false, length, take, drop, slice_index_or};
 ghost use Rattle.std.specs.Borrow.{ftrue};
 ghost use Rattle.escape_lanes.specs.Bits.{bits_of, first_set};
 ghost use Rattle.escape_lanes.specs.Masks.{is_clear, lanes_of_mask, mask_from, used_up, whole_mask};
@@ -113,6 +113,15 @@ impl<const MODE: u8> EscapeMask<MODE> {
         ensures { result ≡ first_set (lanes_of_mask (mode_numbered MODE) self.now) }
     {
         self.bits.first_offset()
+    }
+
+    /// Returns whether the byte at `at`, which is one of the mask's, is flagged.
+    #[inline(always)]
+    pub fn is_flagged(&self, at: usize) -> bool
+        requires { at < length self.now.bytes }
+        ensures { result ≡ slice_index_or (lanes_of_mask (mode_numbered MODE) self.now) at false }
+    {
+        shift_lanes(self.bits, at) % 2 == 1
     }
 
     /// Takes the first flagged byte off the mask. Some byte is flagged.

@@ -1,5 +1,5 @@
 //! The flags of a vector as a number, a bit for each lane: how a body goes through them.
-ghost use Rattle.std.specs.Prelude.{◌≡◌, ◌+◌, ◌*◌, ◌<◌, ◌≤◌, ◌++◌, false, not, nat_eq, take, drop, replicate};
+ghost use Rattle.std.specs.Prelude.{◌≡◌, ◌+◌, ◌*◌, ◌<◌, ◌≤◌, ◌++◌, false, nat_eq, take, drop, replicate};
 ghost use Rattle.escape_lanes.specs.Bits.{bits_of, first_set, none_set, clear_first, gaps};
 ghost use Rattle.escape_lanes.specs.Spread.{flag_count};
 
@@ -29,21 +29,14 @@ pub fn shift_lanes(flags: u64, count: usize) -> u64
     flags >> count
 }
 
-/// Returns the eight flags from lane `8 * at` on. `at` is below 8.
+/// Returns the eight flags from lane `8 * at` on, 0 where none is set. `at` is below 8.
 #[inline(always)]
 pub fn eight_lanes(flags: u64, at: usize) -> u8
     requires { at < 8 }
-    ensures { bits_of 8 result ≡ take 8 (drop (8 * at) (bits_of 64 flags)) }
+    ensures lanes { bits_of 8 result ≡ take 8 (drop (8 * at) (bits_of 64 flags)) }
+    ensures none { nat_eq result 0 ≡ nat_eq (flag_count (bits_of 8 result)) 0 }
 {
     ((flags >> (8 * at)) & 0xff) as u8
-}
-
-/// Returns whether one of eight lanes is flagged.
-#[inline(always)]
-pub fn is_flagged(flags: u8) -> bool
-    ensures { result ≡ not (nat_eq (flag_count (bits_of 8 flags)) 0) }
-{
-    flags != 0
 }
 
 /// Returns how many lanes are flagged.

@@ -95,6 +95,22 @@ pub trait Simd: Sized + Drop {
     ghost mask_width: { Self.Mask.BitMask.LEN ≡ LANES };
 }
 
+/// What short texts need of a vector beside: a text's last bytes.
+pub trait LoadLast: Simd {
+    /// Returns the last `count` bytes of `src` in the first lanes, and zeros in the others.
+    ///
+    /// `src` has `count` bytes or more, and a vector more than `count` lanes. Of `abcd` and 2 it
+    /// makes `c`, `d` and zeros.
+    fn loadu_last(src: &[u8], count: usize) -> Self
+        requires few { count < Self.LANES }
+        requires inside { count ≤ length src.now }
+        ensures { Self.lanes result
+            ≡ drop (length src.now - count) src.now ++ replicate (Self.LANES - count) 0 };
+
+    // There are so few lanes that an array of them fits in memory.
+    ghost at_most: { Self.LANES ≤ 64 };
+}
+
 /// A [`Simd`] as it is loaded and stored.
 ///
 /// What needs no comparison asks for this: then its proof has no masks in it.
@@ -109,10 +125,7 @@ pub trait LoadStore: Sized + Drop {
         requires { LANES ≤ length src.now }
         ensures { lanes result ≡ take LANES src.now };
 
-    /// Returns the last `count` bytes of `src` in the first lanes, and zeros in the others.
-    ///
-    /// `src` has `count` bytes or more, and a vector more than `count` lanes. Of `abcd` and 2 it
-    /// makes `c`, `d` and zeros.
+    /// As [`LoadLast::loadu_last`].
     fn load_last(src: &[u8], count: usize) -> Self
         requires few { count < LANES }
         requires inside { count ≤ length src.now }
@@ -129,4 +142,29 @@ pub trait LoadStore: Sized + Drop {
 
     // So few that an array of them fits in memory.
     ghost at_most: { LANES ≤ 64 };
+}
+
+impl<S: LoadLast> LoadStore for S {
+    ghost LANES = { S.LANES };
+
+    ghost lanes = { S.lanes };
+
+    ghost width = { S.width };
+
+    ghost at_most = { S.at_most };
+
+    #[inline(always)]
+    fn load(src: &[u8]) -> S {
+        S::loadu(src)
+    }
+
+    #[inline(always)]
+    fn load_last(src: &[u8], count: usize) -> S {
+        S::loadu_last(src, count)
+    }
+
+    #[inline(always)]
+    fn put(&self, dst: &mut [u8]) {
+        self.storeu(dst);
+    }
 }

@@ -16,7 +16,7 @@ use crate::simd::lanes;
 use crate::simd::last::last_16;
 use crate::simd::mode::{is_quoted, is_script};
 use crate::simd::target::Ticks;
-use crate::simd::traits::{BitMask, LoadStore, Simd};
+use crate::simd::traits::{BitMask, LoadLast, Simd};
 pub use script::script_mask;
 use std::simd::prelude::{u8x16, u64x1};
 
@@ -143,28 +143,12 @@ impl Simd for Simd128u {
     }
 }
 
-impl LoadStore for Simd128u {
-    ghost LANES = { 16 };
-
-    ghost lanes = { λ v. lanes_of_words v.low v.high };
-
-    ghost width = { λ v. (words-bytes v.low v.high).full };
-
+impl LoadLast for Simd128u {
     ghost at_most = { lit≤ tt };
 
     #[inline(always)]
-    fn load(src: &[u8]) -> Self {
-        Simd128u::loadu(src)
-    }
-
-    #[inline(always)]
-    fn load_last(src: &[u8], count: usize) -> Self {
+    fn loadu_last(src: &[u8], count: usize) -> Self {
         Simd128u::loadu(&last_16(src, count).to_array())
-    }
-
-    #[inline(always)]
-    fn put(&self, dst: &mut [u8]) {
-        self.storeu(dst);
     }
 }
 

@@ -6,7 +6,7 @@ ghost use Rattle.escape_lanes.specs.Lanes.{AreBytes};
 use crate::simd::by_width::ByWidth;
 use crate::simd::lane_mask::{HasBits, LaneMask};
 use crate::simd::lanes;
-use crate::simd::traits::{LoadStore, Simd};
+use crate::simd::traits::{LoadLast, Simd};
 
 /// A vector of `N` bytes. `BITS` picks the bit mask: 1 is a number with one bit for each lane, 4 is
 /// [`NeonBits`](crate::simd::bits::NeonBits), which can be made of four bits for each.
@@ -87,31 +87,15 @@ where
     }
 }
 
-impl<const BITS: u8, const N: usize> LoadStore for Vector<BITS, N>
+impl<const BITS: u8, const N: usize> LoadLast for Vector<BITS, N>
 where
     LaneMask<BITS, N>: HasBits<N>,
     std::simd::Simd<u8, N>: ByWidth<N>,
 {
-    ghost LANES = { N };
-
-    ghost lanes = { λ v. v.lanes };
-
-    ghost width = { λ v. v.are_bytes.full };
-
     ghost at_most = { Prim.search rules };
 
     #[inline(always)]
-    fn load(src: &[u8]) -> Self {
-        Self::loadu(src)
-    }
-
-    #[inline(always)]
-    fn put(&self, dst: &mut [u8]) {
-        self.storeu(dst);
-    }
-
-    #[inline(always)]
-    fn load_last(src: &[u8], count: usize) -> Self {
+    fn loadu_last(src: &[u8], count: usize) -> Self {
         Vector::of(<std::simd::Simd<u8, N> as ByWidth<N>>::last(src, count))
     }
 }

@@ -38,7 +38,7 @@ impl<const MODE: u8> RunEnd<MODE> for EscapeMask<MODE> {
     #[inline(always)]
     fn goes_on(&mut self, _: &[u8], _: usize, _: usize, next: usize) -> bool {
         self.clear_first();
-        !self.is_clear() && self.first_offset() == next
+        !self.is_clear() && self.is_flagged(next)
     }
 
     ghost flagged = { λ _ src stop at goes. (goes.flagged, goes.before, goes.inside) };

@@ -1,5 +1,6 @@
 /* What fuzz.c and appends.c share: a model of the outputs, which says what docs/FORMATS.md says, character by character,
- * with tables of its own; texts that are made up; and the parts, which are kinds of texts. NAME is the file's. */
+ * with tables of its own; texts that are made up, and a list of another implementation's outputs; and the parts, which
+ * are kinds of texts. NAME is the file's. */
 #ifndef FUZZ_H
 #define FUZZ_H
 
@@ -321,6 +322,45 @@ static void random_texts(void) {
     }
 }
 
+/* --- another implementation's outputs ------------------------------------------------------------- */
+
+static byte digit(char digit) { return (byte)(digit <= '9' ? digit - '0' : digit - 'a' + 10); }
+
+/* Reads bytes from pairs of hexadecimal digits, up to what is none, and returns how many. */
+static size_t from_digits(const char *digits, byte *bytes) {
+    size_t at;
+    for (at = 0; digits[2 * at] >= '0'; at++) bytes[at] = (byte)(digit(digits[2 * at]) << 4 | digit(digits[2 * at + 1]));
+    return at;
+}
+
+/* A line has a mode, a text and what the crate escape-simd 0.1.1 made of it. The model has to make the same. */
+static void answer(const char *line) {
+    static struct output output;
+    static byte wanted[MOST_OUTPUT];
+    const char *digits = strchr(line, '\t') + 1;
+    size_t size = from_digits(strchr(digits, '\t') + 1, wanted);
+    text_length = from_digits(digits, text);
+    model(&MODES[line[0] == 'h'], text, text_length, &output);
+    if (output.size != size || memcmp(output.bytes, wanted, size)) {
+        printf("  the model writes another output than %s", line);
+        count_fault();
+    }
+    each_call(text, text_length);
+}
+
+/* The list is the file that ANSWERS names. */
+static void answers(void) {
+    static char line[8192];
+    FILE *list = fopen(getenv("ANSWERS"), "r");
+    int lines;
+    for (lines = 0; list && fgets(line, sizeof line, list); lines++) answer(line);
+    if (lines == 0) {
+        puts("  the list of answers is empty");
+        count_fault();
+    }
+    if (list) fclose(list);
+}
+
 /* --- the parts ------------------------------------------------------------------------------------ */
 
 /* Calls of one kind, for at most so long: whether they were right. */
@@ -339,7 +379,8 @@ static int passes(const char *name, void (*body)(void), double seconds) {
 static int all_pass(double seconds) {
     return passes("random texts", random_texts, seconds / 2) && passes("each length", each_length, seconds / 10)
         && passes("a character at each place", each_place, seconds / 10) && passes("runs beside gaps", runs_and_gaps, seconds / 10)
-        && passes("separators at borders", separators_at_borders, seconds / 10) && passes("long texts", long_texts, seconds / 10);
+        && passes("separators at borders", separators_at_borders, seconds / 10) && (!getenv("ANSWERS") || passes("answers", answers, seconds / 10))
+        && passes("long texts", long_texts, seconds / 10);
 }
 
 /* By the program's words, SEED and SECONDS, or so many seconds; then there have to be so many calls. Returns the

@@ -5,7 +5,7 @@ mod model;
 use model::*;
 use std::fs;
 
-const ANSWERS: &str = concat!(env!("CARGO_MANIFEST_DIR"), "/../crates/escape_vectors/data/answers.tsv");
+const ANSWERS: &str = concat!(env!("CARGO_MANIFEST_DIR"), "/../c/tests/answers.tsv");
 
 fn text_of(digits: &str) -> String {
     let bytes = (0..digits.len()).step_by(2).map(|at| u8::from_str_radix(&digits[at..at + 2], 16).unwrap());

@@ -1,27 +1,26 @@
 //! A JSON document in a script element.
-ghost use Rattle.std.specs.Prelude.{◌≡◌, ◌++◌, OnOk, chars, take, vec_len};
+ghost use Rattle.std.specs.Prelude.{◌≡◌, ◌++◌, OnOk, OnErr, chars};
 ghost use Rattle.escape_lanes.specs.Mode.{script};
 ghost use Rattle.escape_simd.specs.Output.{plain};
 ghost use Rattle.escape_simd.specs.Script.{IsOnlyScript, IsSafeInScript};
 
-use escape_simd::json::{EscapeError, escape_script_into};
+use escape_simd::Refusal;
+use escape_text::page::Part::{Markup, Script};
+use escape_text::page::page_into;
 use std::alloc::Allocator;
 
-const BEFORE: &[u8] = b"<script>const data = JSON.parse(";
+const BEFORE: &str = "<script>const data = JSON.parse(";
 
-const AFTER: &[u8] = b");</script>";
+const AFTER: &str = ");</script>";
 
 /// Appends a script element in which `data` is the value of the JSON document.
 ///
 /// The script literal of the document is a string of JavaScript too, so the document may hold any text. After
-/// an error the page holds its old bytes, and a part of the new ones.
-pub fn append_document<A: Allocator>(
-    document: &str,
-    page: &mut Vec<u8, A>,
-) -> Result<(), EscapeError>
+/// an error the page holds its old bytes.
+pub fn append_document<A: Allocator>(document: &str, page: &mut Vec<u8, A>) -> Result<(), Refusal>
     ensures exact { OnOk result (page.new.items ≡ page.old.items
         ++ BEFORE.now ++ plain script document.now ++ AFTER.now) }
-    ensures front { take (vec_len page.old) page.new.items ≡ page.old.items }
+    ensures unchanged { OnErr result (page.new.items ≡ page.old.items) }
 
     // What `JSON.parse` is given is the document, character for character.
     ensures denotes { OnOk result (IsOnlyScript (plain script document.now) (chars document.now)) }
@@ -29,8 +28,6 @@ pub fn append_document<A: Allocator>(
     // Nothing that stands in the script element ends it.
     ensures nothing_ends_script { OnOk result (IsSafeInScript (plain script document.now)) }
 {
-    page.extend_from_slice(BEFORE)?;
-    escape_script_into(document, page)?;
-    page.extend_from_slice(AFTER)?;
+    page_into(&[Markup(BEFORE), Script(document), Markup(AFTER)], page)?;
     Ok(())
 }

@@ -4,6 +4,7 @@
 mod document;
 mod entries;
 mod filter;
+mod greeting;
 mod numbers;
 mod page;
 mod report;
@@ -13,6 +14,7 @@ use document::append_document;
 use entries::{Entry, append_entries};
 use escape_simd::Refusal;
 use filter::filter;
+use greeting::greet;
 use numbers::append_count;
 use page::append_page;
 use report::write_report;
@@ -30,6 +32,7 @@ const ENTRIES: [Entry; 1] = [Entry {
 const DOCUMENT: &str = r#"{"name":"</script>","note":"a\nb"}"#;
 
 fn main(rt: HostRuntime) -> io::Result<()> {
+    greet(&rt, NAME)?;
     let mut output = BufWriter::new(rt.alloc(), io::writer(&rt))?;
     write_each(rt.alloc(), &mut output)?;
     let mut input = BufReader::new(rt.alloc(), rt.reader())?;

@@ -25,6 +25,5 @@ pub mod v128;
 pub mod vector;
 mod writes;
 
-pub use classifier::Classifier;
 pub use mask::Mask;
-pub use traits::{BitMask, LoadLast, LoadStore, Simd};
+pub use traits::{BitMask, Simd};

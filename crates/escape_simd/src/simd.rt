@@ -14,9 +14,10 @@ pub mod util;
 pub mod v128;
 pub(crate) mod whole;
 
+pub(crate) use escape_lanes::simd::classifier::Classifier;
 pub use escape_lanes::simd::mode::{HTML_MODE, JSON_MODE, SCRIPT_MODE};
+pub(crate) use escape_lanes::simd::traits::LoadStore;
 pub use escape_lanes::simd::{BitMask, Mask, Simd, bits, target};
-pub(crate) use escape_lanes::simd::{Classifier, LoadStore};
 pub(crate) use store::load_vector;
 pub(crate) use tail::{classify_pair, classify_short};
 pub(crate) use whole::{escape_flagged, escape_to_slice};

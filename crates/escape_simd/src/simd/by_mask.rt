@@ -9,10 +9,10 @@ ghost use Rattle.escape_simd.specs.Stretch.{Advanced, IsRunEnd, IsVectorAt, Reac
 use crate::simd::Classifier;
 use crate::simd::store::store_vector;
 use crate::simd::util::{are_paid, are_short, escape_blocks, escape_run};
-use escape_lanes::simd::LoadStore;
 use escape_lanes::simd::escape_mask::EscapeMask;
 use escape_lanes::simd::mode::is_script;
 use escape_lanes::simd::target::{Target, Ticks};
+use escape_lanes::simd::traits::LoadStore;
 
 /// Passes the clean bytes from `from` on of a vector that ends at `border`, whose last escape was written.
 /// Returns the places after them.

@@ -4,9 +4,9 @@ ghost use Rattle.escape_lanes.specs.Masks.{told_by, used_up};
 ghost use Rattle.escape_lanes.specs.Written.{bytes_of};
 ghost use Rattle.escape_simd.specs.Stretch.{IsStored, reach};
 
-use escape_lanes::simd::LoadStore;
 use escape_lanes::simd::escape_mask::EscapeMask;
 use escape_lanes::simd::target::Target;
+use escape_lanes::simd::traits::LoadStore;
 
 /// How far a vector's store may reach past a text: kernels of more lanes store a text's last bytes exactly.
 const WIDEST_REACH: usize = 32;

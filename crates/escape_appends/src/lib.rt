@@ -1,9 +1,7 @@
 //! The calls that C can't make, those that take memory, a writer or a reader, for `c/tests/appends.c`. It is for tests alone.
 #![tactic(auto)]
 
-use escape_checks::appends::differing_call;
-use escape_checks::routes::{KERNELS, MODES};
-use escape_checks::writers::runs_write;
+use escape_checks::appends::{KERNELS, MODES, differing_call, runs_write};
 use std::alloc::Global;
 
 /// Returns 0 if each call of the mode numbered writes `output` for the text, where vectors and strings have this spare

@@ -34,7 +34,7 @@ const WAYS: [Way; 9] = [
 /// The names of the ways, in their order.
 pub const COLUMNS: &str = "loop    copy    v128    sse2    neon    avx2  avx512    into  string";
 
-/// The bytes of all texts of a range together, and so of the longest text at most.
+/// The bytes of the longest line that is measured.
 pub const LONGEST: usize = 1 << 16;
 
 /// What the longest text becomes at most, and what a kernel needs past it.

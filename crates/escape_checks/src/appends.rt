@@ -1,7 +1,8 @@
-//! The calls that append, to vectors, strings, writers and formatters, and those that return a string.
+//! The calls that append, to vectors, strings, writers and formatters, those that return a string, and runs.
 use escape_simd::html::{escape_html, escape_html_each, escape_html_into};
 use escape_simd::json::{escape, escape_into, escape_script, escape_script_into};
-use escape_simd::{Mode, Refusal};
+use escape_simd::{Kernel, Mode, Refusal};
+use escape_stream::run;
 use escape_text::html::{
     self, escape_html_compact, escape_html_cow, escape_html_into_string, escape_html_joined_into,
     escape_html_to_writer,
@@ -13,6 +14,18 @@ use escape_text::json::{
 };
 use std::alloc::{AllocError, Allocator, Global};
 use std::fmt::Write;
+
+/// Each mode.
+pub const MODES: [Mode; 3] = [Mode::Json, Mode::Html, Mode::Script];
+
+/// Each kernel.
+pub const KERNELS: [Kernel; 5] = [
+    Kernel::V128,
+    Kernel::Sse2,
+    Kernel::Neon,
+    Kernel::Avx2,
+    Kernel::Avx512,
+];
 
 /// A call that each mode has.
 #[derive(Debug, Clone, Copy)]
@@ -234,5 +247,24 @@ fn is_borrowed(alloc: Global, mode: Mode, text: &str, output: &[u8]) -> bool {
     match escape_html_cow(alloc, text) {
         Ok(string) => string.as_bytes() == output,
         Err(_) => false,
+    }
+}
+
+/// What the vector holds before a run appends to it. It is no text.
+const BEFORE_RUN: [u8; 2] = [0xff, b'"'];
+
+/// Whether a run by this kernel writes the output.
+pub fn runs_write(alloc: Global, kernel: Kernel, mode: Mode, text: &str, output: &[u8]) -> bool {
+    let mut input = text.as_bytes();
+    let mut target = Vec::new(alloc);
+    target.extend_from_slice(&BEFORE_RUN).is_ok()
+        && run(alloc, mode, kernel, &mut input, &mut target).is_ok()
+        && is_before_and(&target, output)
+}
+
+fn is_before_and(appended: &[u8], output: &[u8]) -> bool {
+    match appended.strip_prefix(&BEFORE_RUN) {
+        Some(after) => after == output,
+        None => false,
     }
 }

@@ -5,7 +5,9 @@
 pub mod appends;
 #[cfg(test)]
 mod plain;
-pub mod routes;
+#[cfg(test)]
+mod routes;
 #[cfg(test)]
 mod tests;
-pub mod writers;
+#[cfg(test)]
+mod writers;

@@ -1,9 +1,8 @@
 //! All that writes what stands for a text: the kernels in each way, the calls that append, and `run`.
-use crate::appends::{Call, differing_call};
-use crate::routes::{KERNELS, WAYS, Way, format};
+use crate::appends::{Call, KERNELS, differing_call, runs_write};
+use crate::routes::{WAYS, Way, format};
 use escape_simd::html::EscapeHtmlError;
 use escape_simd::{Kernel, Mode, format_inner};
-use escape_stream::run;
 use std::alloc::Global;
 
 /// What failed, or wrote something else than it was to write.
@@ -18,9 +17,6 @@ pub enum Writer {
     /// The run of the program, by this kernel.
     Run(Kernel),
 }
-
-/// What the vector holds before a run appends to it. It is no text.
-const BEFORE: [u8; 2] = [0xff, b'"'];
 
 /// The first writer in this mode that writes something else than `output` for the text, if there is one.
 pub fn differing(
@@ -68,20 +64,4 @@ fn differing_kernel(
 pub(crate) fn between_quotes(mode: Mode, output: &[u8]) -> Option<&[u8]> {
     let quote = mode.quote().len();
     output.get(quote..output.len().saturating_sub(quote))
-}
-
-/// Whether a run by this kernel writes the output.
-pub fn runs_write(alloc: Global, kernel: Kernel, mode: Mode, text: &str, output: &[u8]) -> bool {
-    let mut input = text.as_bytes();
-    let mut target = Vec::new(alloc);
-    target.extend_from_slice(&BEFORE).is_ok()
-        && run(alloc, mode, kernel, &mut input, &mut target).is_ok()
-        && is_before_and(&target, output)
-}
-
-fn is_before_and(appended: &[u8], output: &[u8]) -> bool {
-    match appended.strip_prefix(&BEFORE) {
-        Some(after) => after == output,
-        None => false,
-    }
 }

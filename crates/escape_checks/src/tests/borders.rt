@@ -1,7 +1,8 @@
 //! Every border: of a vector, a chunk, the rest and the target.
 
+use crate::appends::{KERNELS, MODES};
 use crate::plain::plain;
-use crate::routes::{KERNELS, MODES, WAYS, Way, format, lanes};
+use crate::routes::{WAYS, Way, format, lanes};
 use crate::tests::texts::{LENGTHS, WIDTHS, repeated};
 use crate::tests::whole_targets::{UNTOUCHED, is_right_by};
 use escape_simd::{

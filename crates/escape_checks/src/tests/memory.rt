@@ -1,7 +1,6 @@
 //! Memory that is refused, request by request, and what was asked for.
 
-use crate::appends::{append, append_text, compact};
-use crate::routes::MODES;
+use crate::appends::{MODES, append, append_text, compact};
 use crate::tests::rationed::Rationed;
 use crate::tests::texts::repeated;
 use escape_simd::html::{escape_html_each, escape_html_in};

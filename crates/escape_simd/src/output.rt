@@ -71,9 +71,16 @@ pub fn write_inner<const MODE: u8>(value: &str, dst: &mut [u8], at: usize) -> us
     escape_to_slice::<V, MODE, false, N>(value.as_bytes(), dst, at)
 }
 
-/// Appends the output of a text to a vector that has room for it.
-fn append_output<const MODE: u8, A: Allocator>(value: &str, dst: &mut Vec<u8, A>)
-    requires { vec_len dst.old + bound (mode_numbered MODE) (length value.now) ≤ vec_capacity dst.old }
+/// Appends the output of a text in the mode `MODE` to a vector that has room for the bound ([`scratch_bound`]) past the
+/// bytes that it has. The call allocates nothing and does not fail.
+///
+/// ```rust
+/// append_reserved::<{ HTML_MODE }, _>("<", &mut page); // &lt;
+/// ```
+pub fn append_reserved<const MODE: u8, A: Allocator>(value: &str, dst: &mut Vec<u8, A>)
+    requires mode { MODE ≤ 2 }
+    requires room { vec_len dst.old + bound (mode_numbered MODE) (length value.now)
+        ≤ vec_capacity dst.old }
     ensures { dst.new.items ≡ dst.old.items ++ plain (mode_numbered MODE) value.now }
 {
     push_quote::<MODE, A>(dst);
@@ -118,7 +125,7 @@ pub fn append<const MODE: u8, A: Allocator>(
         return Err(Refusal::TooLarge);
     };
     dst.reserve(scratch)?;
-    append_output::<MODE, A>(value, dst);
+    append_reserved::<MODE, A>(value, dst);
     Ok(())
 }
 
@@ -146,7 +153,7 @@ pub(crate) fn text<const MODE: u8, A: Allocator>(
         return Err(Refusal::TooLarge);
     };
     let mut bytes = Vec::with_capacity(alloc, capacity)?;
-    append_output::<MODE, A>(value, &mut bytes);
+    append_reserved::<MODE, A>(value, &mut bytes);
     // The output for a text is a text.
     Ok(unsafe { String::from_utf8_unchecked(bytes) })
 }

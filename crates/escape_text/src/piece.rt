@@ -3,7 +3,7 @@ ghost use Rattle.std.specs.Prelude.{◌≡◌, ◌≤◌, ◌↔◌, ◌++◌, �
 ghost use Rattle.escape_simd.specs.Modes.{mode_numbered};
 ghost use Rattle.escape_simd.specs.Output.{plain, bound};
 
-use escape_simd::output::{Refusal, append, scratch_bound};
+use escape_simd::output::{Refusal, append_reserved, scratch_bound};
 use std::alloc::Allocator;
 
 /// A value of a list, whose texts are written in the mode `MODE`.
@@ -39,6 +39,11 @@ impl<const MODE: u8> Piece<MODE> for &str {
     }
 
     fn append_to<A: Allocator>(&self, dst: &mut Vec<u8, A>) -> Result<(), Refusal> {
-        append::<MODE, A>(self, dst)
+        let Some(scratch) = scratch_bound::<MODE>(self.len()) else {
+            unreachable!()
+        };
+        dst.reserve(scratch)?;
+        append_reserved::<MODE, A>(self, dst);
+        Ok(())
     }
 }

@@ -1,5 +1,5 @@
 -- The bits of a number, lowest first: more and fewer of them, a shift, the first set one cleared, and how many are set.
-use Rattle.std.proofs.Common.{◌≡◌, ℕ, zero, suc, ◌+◌, ◌-◌, min, ◌*◌, ◌/◌, ◌%◌, ◌^◌, ◌≤◌, ◌<◌, Bool, false, not, cond, ◌&&◌, List, [], ◌∷◌, ◌++◌, length, take, drop, replicate, get_or, nat_eq, bit_and, refl, sym, ap, ap₂, ◌∙◌, inl, inr, arith, add-one, suc-mul}
+use Rattle.std.proofs.Common.{◌≡◌, ℕ, zero, suc, ◌+◌, ◌-◌, min, ◌*◌, ◌/◌, ◌%◌, ◌^◌, ◌≤◌, ◌<◌, Bool, false, not, cond, ◌&&◌, List, [], ◌∷◌, ◌++◌, length, take, drop, replicate, nat_eq, bit_and, refl, sym, ap, ap₂, ◌∙◌, inl, inr, arith, add-one, suc-mul}
 use Rattle.std.proofs.lemmas.Bool.{cases_eq}
 use Rattle.std.proofs.lemmas.Bool.Decides.{nat_tests}
 use Rattle.std.proofs.lemmas.List.Sums.{sum_by-cons}
@@ -12,7 +12,7 @@ use lib.Count.{ones, ones_in, ones_step, under}
 use Rattle.escape_lanes.specs.Bits.{bits_of, first_set, none_set, clear_first, clear_last, gaps, length-bits_of}
 
 -- one bit more
-bits-suc : (k x : ℕ) → bits_of (suc k) x ≡ nat_eq (x % 2) 1 ∷ bits_of k (x / 2)
+pub bits-suc : (k x : ℕ) → bits_of (suc k) x ≡ nat_eq (x % 2) 1 ∷ bits_of k (x / 2)
 unfolding bits_of
 bits-suc k x = refl
 
@@ -26,10 +26,6 @@ pub bits-zero : (k : ℕ) → bits_of k 0 ≡ replicate k false
 unfolding bits_of
 bits-zero zero = refl
 bits-zero (suc k) = ap (λ bs. false ∷ bs) (bits-zero k)
-
--- the lowest bit
-pub bits-lowest : (k x : ℕ) → get_or (bits_of (suc k) x) 0 false ≡ nat_eq (x % 2) 1
-bits-lowest k x = rw (bits-suc k x) refl
 
 -- a number of n bits has no more of them
 pub bits-wide : (n j x : ℕ) → x < 2 ^ n → bits_of (n + j) x ≡ bits_of n x ++ replicate j false
@@ -83,14 +79,6 @@ bits-rest : (k m x : ℕ) → m ≤ k → bits_of k (x % 2 ^ m) ≡ take m (bits
 bits-rest k m x le =
     let more : m + (k - m) ≡ k = omega arith in
     rw more at (bits-wide m (k - m) (x % 2 ^ m) (mod_below x (2 ^ m) (pow_pos m))) ∙ ap (λ bs. bs ++ replicate (k - m) false) (bits-low m x ∙ rw more at (sym (bits-take m (k - m) x)))
-
--- w bits from the m-th on, by a row of ones
-pub bits_part : (k m w x : ℕ) → m + w ≤ k → bits_of w (bit_and (x / 2 ^ m) (2 ^ w - 1)) ≡ take w (drop m (bits_of k x))
-bits_part k m w x le =
-    let more : m + (k - m) ≡ k = omega arith in
-    let rest : w + (k - m - w) ≡ k - m = omega arith in
-    let past : bits_of (k - m) (x / 2 ^ m) ≡ drop m (bits_of k x) = rw more at (sym (bits-drop m (k - m) x)) in
-    ap (bits_of w) (and_mask (x / 2 ^ m) w) ∙ bits-low w (x / 2 ^ m) ∙ sym (rw rest at (bits-take w (k - m - w) (x / 2 ^ m))) ∙ ap (take w) past
 
 -- a row of ones, shifted down
 ones_shr : (d n : ℕ) → (2 ^ (d + n) - 1) / 2 ^ n ≡ 2 ^ d - 1

@@ -1,12 +1,13 @@
 -- The lanes of a mask that knows its bytes: of fewer of them, and with some taken off.
-use Rattle.std.proofs.Common.{◌≡◌, ℕ, zero, suc, ◌+◌, ◌-◌, ◌<◌, ◌^◌, ◌≤◌, Bool, true, false, true≢false, List, [], ◌∷◌, ◌++◌, length, map, take, drop, replicate, refl, sym, ap, ◌∙◌, arith, append_assoc, length-append}
+use Rattle.std.proofs.Common.{◌≡◌, ℕ, zero, suc, ◌+◌, ◌-◌, ◌%◌, ◌<◌, ◌^◌, ◌≤◌, nat_eq, get_or, Bool, true, false, true≢false, List, [], ◌∷◌, ◌++◌, length, map, take, drop, replicate, refl, sym, ap, ◌∙◌, arith, append_assoc, length-append}
 use Rattle.std.proofs.Math.Seq.{drop-append-add}
-use Rattle.std.proofs.lemmas.List.{drop-append-le, drop-drop, drop-map, length-drop, length-map, length-replicate, length-take-le, replicate-append-replicate, take-append-le, take-map, take_all}
+use Rattle.std.proofs.Math.ListN.{get_or-append}
+use Rattle.std.proofs.lemmas.List.{get_or-drop, drop-append-le, drop-drop, drop-map, length-drop, length-map, length-replicate, length-take-le, replicate-append-replicate, take-append-le, take-map, take_all}
 use Rattle.escape_lanes.specs.Bits.{bits_of, first_set, clear_first, clear_last, length-bits_of}
 use Rattle.escape_lanes.specs.Masks.{lanes_of_mask, mask_from, whole_mask}
 use Rattle.escape_lanes.specs.Mode.{Mode, json, html, script}
 use Rattle.escape_lanes.specs.Replacement.{needs_escape}
-use Rattle.escape_lanes.proofs.BitLemmas.{bits-wide}
+use Rattle.escape_lanes.proofs.BitLemmas.{bits-suc, bits-wide}
 
 -- Lanes that are cleared
 
@@ -51,9 +52,18 @@ module _ (mode : Mode) (bytes : List ℕ) (from n : ℕ) (is : bits_of 64 n ≡ 
       let long = ap length (sym is) ∙ length-bits_of 64 n in let whole = length-append (map (needs_escape mode) bytes) (replicate (64 - length bytes) false) in
       omega (arith, long, whole, length-append (replicate from false) (drop from all), length-replicate {A = Bool} from false, length-drop from all, length-map bytes (needs_escape mode))
 
+  pub mask-all : take 64 bytes ≡ bytes
+  mask-all = take_all 64 bytes mask-few
+
   -- the first lane that is set is one of 64
   pub mask-first : first_set (lanes_of_mask mode (mask_from bytes from 0)) ≤ 64
   mask-first = omega (arith, first-within (lanes_of_mask mode (mask_from bytes from 0)), ap length (sym is), length-bits_of 64 n)
+
+  -- one of them, moved down to the first place
+  pub mask-lane : (at m : ℕ) → at < length bytes → bits_of 64 m ≡ drop at (bits_of 64 n) ++ replicate at false → nat_eq (m % 2) 1 ≡ get_or (lanes_of_mask mode (mask_from bytes from 0)) at false
+  mask-lane at m inside moved =
+      let there : at + 0 ≡ at = omega arith in let some : 0 < length (drop at (bits_of 64 n)) = omega (arith, inside, mask-few, length-drop at (bits_of 64 n), length-bits_of 64 n) in
+      sym (ap (λ bs. get_or bs 0 false) (bits-suc 63 m)) ∙ ap (λ bs. get_or bs 0 false) moved ∙ get_or-append (drop at (bits_of 64 n)) (replicate at false) false 0 some ∙ get_or-drop at (bits_of 64 n) 0 false ∙ rw there (ap (λ bs. get_or bs at false) is)
 
   -- without the first one
   pub mask-cleared : (m : ℕ) → bits_of 64 m ≡ clear_first (first_set (bits_of 64 n) + 1) (bits_of 64 n) → bits_of 64 m ≡ lanes_of_mask mode (mask_from bytes (first_set (bits_of 64 n) + 1) 0)

@@ -1,5 +1,5 @@
 //! The flags of a vector as a number, a bit for each lane: how a body goes through them.
-ghost use Rattle.std.specs.Prelude.{◌≡◌, ◌+◌, ◌*◌, ◌<◌, ◌≤◌, ◌++◌, false, nat_eq, take, drop, replicate};
+ghost use Rattle.std.specs.Prelude.{◌≡◌, ◌+◌, ◌<◌, ◌≤◌, ◌++◌, false, nat_eq, take, drop, replicate};
 ghost use Rattle.escape_lanes.specs.Bits.{bits_of, first_set, none_set, clear_first, gaps};
 ghost use Rattle.escape_lanes.specs.Spread.{flag_count};
 
@@ -29,14 +29,13 @@ pub fn shift_lanes(flags: u64, count: usize) -> u64
     flags >> count
 }
 
-/// Returns the eight flags from lane `8 * at` on, 0 where none is set. `at` is below 8.
+/// Returns the flags of the first eight lanes, 0 where none is set.
 #[inline(always)]
-pub fn eight_lanes(flags: u64, at: usize) -> u8
-    requires { at < 8 }
-    ensures lanes { bits_of 8 result ≡ take 8 (drop (8 * at) (bits_of 64 flags)) }
+pub fn first_eight(flags: u64) -> u8
+    ensures lanes { bits_of 8 result ≡ take 8 (bits_of 64 flags) }
     ensures none { nat_eq result 0 ≡ nat_eq (flag_count (bits_of 8 result)) 0 }
 {
-    ((flags >> (8 * at)) & 0xff) as u8
+    (flags % 256) as u8
 }
 
 /// Returns how many lanes are flagged.

@@ -10,7 +10,7 @@ ghost use Rattle.escape_simd.specs.Blocks.{AreShort, HasBlocks, IsBlockAt};
 ghost use Rattle.escape_simd.specs.Stretch.{Stretch};
 
 use escape_lanes::simd::escape_mask::EscapeMask;
-use escape_lanes::simd::lane_bits::{count_flagged, count_gaps, eight_lanes};
+use escape_lanes::simd::lane_bits::{count_flagged, count_gaps, first_eight};
 use escape_lanes::simd::mode::has_short_escapes;
 use escape_lanes::simd::short::{half, has_long, shorten_vector};
 use escape_lanes::simd::target::{Target, Ticks};
@@ -63,7 +63,7 @@ fn pay_block<const MODE: u8>(
         + (if not unused && nat_eq (flag_count (take 8 (lanes_of_mask (mode_numbered MODE) mask.entry))) 0
         then 1 else 0) }
 {
-    if eight_lanes(mask.bits(), 0) != 0 {
+    if first_eight(mask.bits()) != 0 {
         return (mask, unused);
     }
     if unused {
@@ -95,7 +95,7 @@ fn put_block<const MODE: u8, const N: usize>(
         ≡ (if nat_eq (flag_count (take 8 (lanes_of_mask (mode_numbered MODE) mask.old))) 0
         then 1 else mask.old.stored) }
 {
-    let eight = eight_lanes(mask.bits(), 0);
+    let eight = first_eight(mask.bits());
     if eight == 0 {
         mask.count_store();
     }

@@ -11,4 +11,4 @@ escape_block-requires g c =
 
 pub returns-clause-block : goal.returns-clause-block
 returns-clause-block g c =
-    block-escaped c.requires.2 c.requires.4 c.bits.result c.bits.ensures c.args.block (λ (i : ℕ). (c.type_inv._src i).fits) refl (c.eight_lanes-eight.ensures.lanes ∙ ap (λ xs. take 8 (drop 0 xs)) c.bits.ensures) c.requires.1 c.escape_block.ensures
+    block-escaped c.requires.2 c.requires.4 c.bits.result c.bits.ensures c.args.block (λ (i : ℕ). (c.type_inv._src i).fits) refl (c.first_eight-eight.ensures.lanes ∙ ap (take 8) c.bits.ensures) c.requires.1 c.escape_block.ensures

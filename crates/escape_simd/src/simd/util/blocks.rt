@@ -44,6 +44,14 @@ pub(crate) fn are_short<const MODE: u8, const N: usize>(src: &[u8], at: usize, b
     has_short_escapes::<MODE>() && !has_long::<MODE>(&src[at..at + N], bits)
 }
 
+/// Returns whether one of eight lanes is flagged.
+#[inline(always)]
+fn is_flagged(eight: u8) -> bool
+    ensures { result ≡ not (nat_eq eight 0) }
+{
+    eight != 0
+}
+
 /// Pays for the mask's first block of eight, if no byte of it is flagged: by the vector's own mask, unless
 /// that was used, else by one of what is left. Returns the mask, and whether the vector's own is unused.
 #[inline(always)]
@@ -63,7 +71,7 @@ fn pay_block<const MODE: u8>(
         + (if not unused && nat_eq (flag_count (take 8 (lanes_of_mask (mode_numbered MODE) mask.entry))) 0
         then 1 else 0) }
 {
-    if first_eight(mask.bits()) != 0 {
+    if is_flagged(first_eight(mask.bits())) {
         return (mask, unused);
     }
     if unused {
@@ -96,7 +104,7 @@ fn put_block<const MODE: u8, const N: usize>(
         then 1 else mask.old.stored) }
 {
     let eight = first_eight(mask.bits());
-    if eight == 0 {
+    if !is_flagged(eight) {
         mask.count_store();
     }
     target.escape_block(to, block, eight)

@@ -89,9 +89,7 @@ pub(crate) fn escape_to_slice<
     }
 }
 
-/// As [`escape_to_slice`], of any text.
-///
-/// The target is made here: so the compiler keeps it in registers.
+/// As [`escape_to_slice`], of any text. The target is made here: so the compiler keeps it in registers.
 #[inline(never)]
 fn escape_long<V: Classifier<MODE, N>, const MODE: u8, const QUOTED: bool, const N: usize>(
     text: &[u8],

@@ -32,8 +32,8 @@
 #include <stddef.h>
 #include <stdint.h>
 
-/* The version of this header: 10000 * major + 100 * minor + patch. Calls of one major version mean the
- * same, 0 apart. */
+/* The version of this header: 10000 * major + 100 * minor + patch. From version 1 on, calls keep their
+ * meaning within a major version; before that they may change. */
 #define ESCAPE_VERSION_MAJOR 0
 #define ESCAPE_VERSION_MINOR 1
 #define ESCAPE_VERSION_PATCH 0
@@ -115,7 +115,7 @@ escape_status escape_text(escape_mode mode, escape_kernel kernel, const char *te
 
 /* As escape_text, for a text that the caller knows to be UTF-8: ESCAPE_NOT_UTF8 is never returned. With other
  * bytes nothing is promised, not even that all reads and writes stay inside the buffers. The check is about
- * a third of a call on 1 KiB of ASCII, and nearly all of one on other text. */
+ * a third of a call on 1 KiB of ASCII, and nearly all of one on 1 KiB of Cyrillic. */
 escape_status escape_text_unchecked(escape_mode mode, escape_kernel kernel, const char *text, size_t length,
                                     char *buffer, size_t room, size_t *count);
 

@@ -1,6 +1,7 @@
 // Escapes its arguments by escape.hpp.
 //
 //     c++ -std=c++17 -O2 -I.. escape.cpp ../libescape.a -o escape
+//     c++ -std=c++17 -O2 -I../include escape.cpp ../lib/libescape.a -o escape     in a release
 //     ./escape "<a href='/x'>"
 #include "escape.hpp"
 

@@ -1,6 +1,7 @@
 /* Escapes standard input to standard output.
  *
  *     cc -std=c99 -O2 -I.. filter.c ../libescape.a -o filter
+ *     cc -std=c99 -O2 -I../include filter.c ../lib/libescape.a -o filter     in a release
  *     ./filter json|html|script <page.html
  */
 #include "escape.h"

@@ -36,7 +36,7 @@ impl std::error::Error for InputTooLarge {}
 ///
 /// # Panics
 ///
-/// If that exceeds `isize::MAX` only.
+/// If it exceeds `isize::MAX`, but not `usize::MAX`.
 ///
 /// # Examples
 ///
@@ -59,7 +59,7 @@ pub fn escape_html(value: &str) -> Result<String, InputTooLarge> {
 ///
 /// # Panics
 ///
-/// If `dst.len() + 6 * n + 32` exceeds `isize::MAX` only. `dst` is unchanged.
+/// If `dst.len() + 6 * n + 32` exceeds `isize::MAX`, but `6 * n + 32` does not exceed `usize::MAX`. `dst` is unchanged.
 ///
 /// # Examples
 ///

@@ -61,7 +61,7 @@ typedef uint32_t escape_mode;
 #define ESCAPE_SCRIPT UINT32_C(2)
 
 /* What a call returns. If several apply, it is the first that the call asks for: whether there is the mode
- * and the kernel, whether the bound passes SIZE_MAX, whether the buffer has it, and whether the text is
+ * and the kernel, whether the bound exceeds SIZE_MAX, whether the buffer has it, and whether the text is
  * UTF-8. escape_length and escape_exact ask for the mode, for a length that exceeds PTRDIFF_MAX, for UTF-8,
  * for the output's size, and last for the buffer. */
 typedef uint32_t escape_status;
@@ -70,7 +70,7 @@ typedef uint32_t escape_status;
 #define ESCAPE_NOT_UTF8 UINT32_C(1)  /* the text is not valid UTF-8, so there is no output for it */
 #define ESCAPE_TOO_SHORT UINT32_C(2) /* the buffer is shorter than the bound; of escape_exact, than the output */
 #define ESCAPE_TOO_LARGE UINT32_C(3) /* the length exceeds PTRDIFF_MAX, and no byte was read; or the bound
-                                        passes SIZE_MAX, of escape_length and escape_exact the output */
+                                        exceeds SIZE_MAX, of escape_length and escape_exact the output */
 #define ESCAPE_NO_KERNEL UINT32_C(4) /* the number names no kernel */
 #define ESCAPE_NO_MODE UINT32_C(5)   /* the number names no mode */
 
@@ -104,7 +104,7 @@ typedef uint32_t escape_kernel;
 uint32_t escape_version(void);
 
 /* Returns the bound, how many bytes the buffer must have for a text of `length` bytes: 6 * length + 35, in
- * HTML 6 * length + 32. Returns 0 where that passes SIZE_MAX, and for a number of no mode. The output itself
+ * HTML 6 * length + 32. Returns 0 where that exceeds SIZE_MAX, and for a number of no mode. The output itself
  * has from length to 6 * length bytes, and in JSON and script two more. */
 size_t escape_bound(escape_mode mode, size_t length);
 

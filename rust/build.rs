@@ -26,9 +26,12 @@ fn main() {
         }
         println!("cargo:rustc-link-lib=static=escape_{level}");
     }
-    if minor_version().map_or(false, |minor| minor >= 81) {
-        println!("cargo:rustc-cfg=has_core_error");
+    let minor = minor_version().unwrap_or(0);
+    if minor >= 80 {
         println!("cargo:rustc-check-cfg=cfg(has_core_error)");
+    }
+    if minor >= 81 {
+        println!("cargo:rustc-cfg=has_core_error");
     }
 }
 

@@ -435,7 +435,7 @@ def test_references():
 
 def test_threads():
     """four threads at once"""
-    wrong = []
+    wrong, ended = [], []
 
     def run(seed):
         for text in each_text(seed, 300):
@@ -443,6 +443,7 @@ def test_threads():
             for ours, theirs in PAIRS:
                 if ours(text) != theirs(text):
                     wrong.append(text)
+        ended.append(seed)
 
     threads = [threading.Thread(target=run, args=(seed,)) for seed in range(4)]
     for thread in threads:
@@ -450,6 +451,8 @@ def test_threads():
     for thread in threads:
         thread.join()
     assert not wrong, wrong[0]
+    # One that raises doesn't end.
+    assert sorted(ended) == [0, 1, 2, 3], ended
 
 
 def test_other_threads_run():

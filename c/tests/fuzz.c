@@ -119,7 +119,8 @@ static void compare(escape_status status, size_t count, const struct outcome *wa
     else memset(from, CANARY, (size_t)(to - from));
 }
 
-static struct outcome refused(escape_status status, size_t count) {
+/* The outcome of a call that leaves the buffer alone. */
+static struct outcome unchanged(escape_status status, size_t count) {
     struct outcome outcome = {status, count, canaries, 0, 0};
     return outcome;
 }
@@ -127,7 +128,6 @@ static struct outcome refused(escape_status status, size_t count) {
 /* The outcome of a call that writes these bytes, and perhaps up to `lanes` past them, but none from the bound on. */
 static struct outcome written(const byte *bytes, size_t size, size_t lanes, size_t bound) {
     struct outcome outcome = {ESCAPE_OK, size, bytes, size, size + lanes < bound ? size + lanes : bound};
-    outcome.count = size;
     return outcome;
 }
 
@@ -144,8 +144,8 @@ static void by_exact(size_t room, const struct place *place, const struct output
     size_t count = 12345;
     escape_status status;
     struct outcome wanted = written(output->bytes, output->size, 0, output->size);
-    if (room < output->size) wanted = refused(ESCAPE_TOO_SHORT, output->size);
-    if (!output->is_utf8) wanted = refused(ESCAPE_NOT_UTF8, 0);
+    if (room < output->size) wanted = unchanged(ESCAPE_TOO_SHORT, output->size);
+    if (!output->is_utf8) wanted = unchanged(ESCAPE_NOT_UTF8, 0);
     call.name = "exact";
     call.kernel = 0;
     call.room = room;
@@ -157,7 +157,7 @@ static void by_exact(size_t room, const struct place *place, const struct output
 static void by_length(const struct output *output) {
     size_t count = 12345;
     escape_status status;
-    struct outcome wanted = refused(output->is_utf8 ? ESCAPE_OK : ESCAPE_NOT_UTF8, output->is_utf8 ? output->size : 0);
+    struct outcome wanted = unchanged(output->is_utf8 ? ESCAPE_OK : ESCAPE_NOT_UTF8, output->is_utf8 ? output->size : 0);
     call.name = "length";
     call.kernel = 0;
     status = escape_length(call.mode, (const char *)call.text, call.length, &count);
@@ -171,7 +171,7 @@ static void each_kernel_call(escape_kernel kernel, size_t bound, const struct ou
     size_t quotes = strlen(MODES[call.mode].quote);
     struct outcome whole = written(output->bytes, output->size, LANES[kernel], bound), inner = whole;
     if (output->is_utf8) inner = written(output->bytes + quotes, output->size - 2 * quotes, LANES[kernel], bound);
-    else whole = inner = refused(ESCAPE_NOT_UTF8, 0);
+    else whole = inner = unchanged(ESCAPE_NOT_UTF8, 0);
     by_kernel("checked", escape_text, kernel, whole);
     by_kernel("inner", escape_inner, kernel, inner);
     if (!output->is_utf8) return;
@@ -193,10 +193,10 @@ static void kernel_calls(const struct place *place, const struct output *output)
     call.buffer = placed(&buffer_block, call.room, place->at_end, place->buffer_shift);
     for (kernel = 0; kernel < KERNELS; kernel++) each_kernel_call(kernel, bound, output);
     if (output->is_utf8) by_kernel("write", write_default, ESCAPE_DEFAULT, written(output->bytes, output->size, LANES[ESCAPE_DEFAULT], bound));
-    by_kernel("no kernel", escape_text, KERNELS, refused(ESCAPE_NO_KERNEL, 0));
+    by_kernel("no kernel", escape_text, KERNELS, unchanged(ESCAPE_NO_KERNEL, 0));
     call.room = bound - 1;
     call.buffer = placed(&buffer_block, call.room, place->at_end, place->buffer_shift);
-    by_kernel("too short", escape_text, texts % KERNELS, refused(ESCAPE_TOO_SHORT, 0));
+    by_kernel("too short", escape_text, texts % KERNELS, unchanged(ESCAPE_TOO_SHORT, 0));
 }
 
 /* Buffers of the output's size, and in turn a byte shorter, a byte longer, much longer and of none. */

@@ -370,16 +370,26 @@ static int passes(const char *name, void (*body)(void), double seconds) {
     part.end = clock() + (clock_t)(seconds * CLOCKS_PER_SEC);
     part.is_cut = part.faults = 0;
     body();
+    if (calls == before) {
+        puts("  no call was made");
+        count_fault();
+    }
     printf("%s %s: %s: %llu calls%s\n", part.faults ? "failed" : "passed", NAME, name, (unsigned long long)(calls - before), part.is_cut ? ", until its time was up" : "");
     fflush(stdout);
     return !part.faults;
+}
+
+static int answers_pass(double seconds) {
+    if (getenv("ANSWERS")) return passes("answers", answers, seconds);
+    puts("skipped " NAME ": answers: ANSWERS names no list");
+    return 1;
 }
 
 /* Half of the time is for random texts. The first part that fails is the last. */
 static int all_pass(double seconds) {
     return passes("random texts", random_texts, seconds / 2) && passes("each length", each_length, seconds / 10)
         && passes("a character at each place", each_place, seconds / 10) && passes("runs beside gaps", runs_and_gaps, seconds / 10)
-        && passes("separators at borders", separators_at_borders, seconds / 10) && (!getenv("ANSWERS") || passes("answers", answers, seconds / 10))
+        && passes("separators at borders", separators_at_borders, seconds / 10) && answers_pass(seconds / 10)
         && passes("long texts", long_texts, seconds / 10);
 }
 

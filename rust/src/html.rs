@@ -80,6 +80,10 @@ pub fn escape_html_into<S: AsRef<str>>(value: S, dst: &mut Vec<u8>) -> Result<()
 ///
 /// As [`escape_html`].
 ///
+/// # Panics
+///
+/// As [`escape_html`].
+///
 /// # Examples
 ///
 /// ```

@@ -96,7 +96,7 @@ typedef uint32_t escape_kernel;
 #define ESCAPE_DEFAULT UINT32_C(0) /* ESCAPE_AVX2 */
 #define ESCAPE_V128 UINT32_C(1)    /* vectors of 16 bytes, as two words of 64 bits */
 #define ESCAPE_SSE2 UINT32_C(2)    /* vectors of 16 bytes */
-#define ESCAPE_NEON UINT32_C(3)    /* the same, with four bits for a byte in its masks */
+#define ESCAPE_NEON UINT32_C(3)    /* the same; HTML by tables of half bytes */
 #define ESCAPE_AVX2 UINT32_C(4)    /* vectors of 32 bytes */
 #define ESCAPE_AVX512 UINT32_C(5)  /* vectors of 64 bytes */
 

@@ -1,11 +1,15 @@
 //! The calls that C can't make, those that take memory, a writer or a reader, for `c/tests/appends.c`. It is for tests alone.
 #![tactic(auto)]
 
-use escape_checks::appends::{KERNELS, MODES, differing_call, runs_write};
+mod appends;
+
+use appends::{KERNELS, MODES, differing_call, runs_write};
 use std::alloc::Global;
+use std::str;
 
 /// Returns 0 if each call of the mode numbered writes `output` for the text, where vectors and strings have this spare
-/// capacity, and a run by some kernel does. Else it returns a number that tells which does not.
+/// capacity, and a run by some kernel does. Else it returns 1 and the number of the first call that does not, 99 if the
+/// run does not, and 100 if the text is not UTF-8.
 #[unsafe(no_mangle)]
 pub extern "C" fn first_wrong_append(
     alloc: Global,

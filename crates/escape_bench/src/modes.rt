@@ -1,28 +1,11 @@
 //! The modes that are measured: a further one is one more line in each list of this file.
-ghost use Rattle.std.specs.Prelude.{◌≤◌, ◌+◌, ◌*◌, length};
-
+use escape_simd::Mode;
 use escape_simd::html::{escape_html, escape_html_into};
 use escape_simd::json::{escape, escape_into, escape_script, escape_script_into};
 use escape_simd::tables::{html_row, json_row, script_entry};
-use escape_simd::{Kernel, format_html_string, format_json_string, format_script_string};
 use std::alloc::Global;
 
-#[derive(Debug, Clone, Copy, PartialEq, Eq)]
-pub enum Mode {
-    Json,
-    Html,
-    Script,
-}
-
 pub const MODES: [Mode; 3] = [Mode::Json, Mode::Html, Mode::Script];
-
-/// Whether the output begins and ends with a quotation mark.
-pub fn is_quoted(mode: Mode) -> bool {
-    match mode {
-        Mode::Json | Mode::Script => true,
-        Mode::Html => false,
-    }
-}
 
 /// The count of the bytes that stand for the byte, 0 where it stands for itself, and those bytes.
 pub fn entry_of(mode: Mode, byte: u8) -> (u8, [u8; 8]) {
@@ -31,18 +14,6 @@ pub fn entry_of(mode: Mode, byte: u8) -> (u8, [u8; 8]) {
         Mode::Html => html_row(byte).1,
         // The texts are ASCII, so no separator stands in them.
         Mode::Script => *script_entry(byte),
-    }
-}
-
-/// Escapes the text by the kernel.
-#[inline(always)]
-pub fn format_string(mode: Mode, kernel: Kernel, text: &str, dst: &mut [u8]) -> usize
-    requires { 6 * length text.now + 35 ≤ length dst.old }
-{
-    match mode {
-        Mode::Json => format_json_string(kernel, text, dst),
-        Mode::Html => format_html_string(kernel, text, dst),
-        Mode::Script => format_script_string(kernel, text, dst),
     }
 }
 

@@ -2,7 +2,8 @@
 //! byte, with no branch on the byte.
 ghost use Rattle.std.specs.Prelude.{◌≤◌, ◌+◌, ◌*◌, length};
 
-use crate::modes::{Mode, entry_of, is_quoted};
+use crate::modes::entry_of;
+use escape_simd::Mode;
 
 /// What is written for a byte, and how many of these bytes count.
 #[derive(Clone, Copy)]
@@ -40,7 +41,7 @@ pub fn table_of(mode: Mode) -> Table {
     }
     Table {
         entries,
-        is_quoted: is_quoted(mode),
+        is_quoted: !mode.quote().is_empty(),
     }
 }
 

@@ -1,9 +1,9 @@
 //! The best of many rounds, with the ways in turn in each round.
 ghost use Rattle.std.specs.Prelude.{◌≤◌, ◌+◌, ◌*◌, length};
 
-use crate::modes::{Mode, answer, append, format_string};
+use crate::modes::{answer, append};
 use crate::per_byte::{Table, per_byte, table_of};
-use escape_simd::Kernel;
+use escape_simd::{Kernel, Mode, format_text};
 use std::alloc::Global;
 use std::test::Fail;
 use std::time::{Clock, Instant};
@@ -139,7 +139,7 @@ fn once(way: Way, escaping: &mut Escaping, text: &str, dst: &mut [u8]) -> usize
     match way {
         Way::Loop => per_byte(&escaping.table, text.as_bytes(), dst),
         Way::Copy => copy(text.as_bytes(), dst),
-        Way::Of(kernel) => format_string(escaping.mode, kernel, text, dst),
+        Way::Of(kernel) => format_text(kernel, escaping.mode, text, dst),
         Way::Appending => {
             escaping.appended.clear();
             if append(escaping.mode, text, &mut escaping.appended) {

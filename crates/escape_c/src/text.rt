@@ -2,7 +2,6 @@
 ghost use Rattle.std.specs.Prelude.{◌≡◌, ◌≢◌, ◌≤◌, ◌<◌, ◌↔◌, ◌^◌, length, IsUtf8, true, false, Err, IfOk, OnErr, IsOk};
 ghost use Rattle.escape_simd.specs.Modes.{escaping, mode_numbered};
 ghost use Rattle.escape_simd.specs.Output.{bound};
-ghost use Rattle.escape_simd.specs.declared.Kernel.{Kernel};
 ghost use Rattle.escape_c.specs.declared.call.Refusal.{Refusal};
 ghost use Rattle.escape_c.specs.Call.{kernel_numbered, Answers, Escapes, EscapesInner, NamesKernel, NamesMode, RefusesCall};
 
@@ -47,7 +46,11 @@ fn chosen(mode: u32, kernel: u32, len: usize, room: usize) -> Result<(Mode, Kern
     Ok((mode, kernel))
 }
 
-/// Whether the default kernel is to escape a text that is known to be one, or short and ASCII, and is not refused.
+/// The largest text, in bytes, of which [`is_usual`] asks whether it is ASCII.
+const SHORT: usize = 64;
+
+/// Returns whether this is the usual call: by the default kernel, of a text that is known to be UTF-8 or is short and
+/// ASCII, and not refused.
 #[inline(always)]
 fn is_usual(mode: u32, kernel: u32, text: &[u8], is_known: bool, room: usize) -> bool
     requires { is_known ≡ true → IsUtf8 text.now }
@@ -57,7 +60,7 @@ fn is_usual(mode: u32, kernel: u32, text: &[u8], is_known: bool, room: usize) ->
     // Of less than 2^60 bytes no bound overflows, which the compiler sees.
     kernel == 0
         && text.len() < 1 << 60
-        && (is_known || text.len() <= 64 && text.is_ascii())
+        && (is_known || text.len() <= SHORT && text.is_ascii())
         && chosen(mode, kernel, text.len(), room).is_ok()
 }
 
@@ -82,7 +85,7 @@ fn escape(
         → EscapesInner mode kernel text.now buffer.old buffer.new count.new }
 {
     // Of these `is_usual` asked already.
-    let is_asked = kernel == 0 && text.len() <= 64;
+    let is_asked = kernel == 0 && text.len() <= SHORT;
     let written = match chosen(mode, kernel, text.len(), buffer.len()) {
         Ok((mode, kernel)) => match as_text(text, is_known, is_asked) {
             Ok(text) if is_inner => Ok(format_inner(kernel, mode, text, buffer)),

@@ -1,8 +1,7 @@
-//! The tests of all crates, and what they share: the ways to a kernel, all that writes an output,
-//! and the replacement written out.
+//! The tests of all crates, and what they share: the ways to a kernel, what writes an output, and the replacement
+//! written out.
 #![tactic(auto)]
 
-pub mod appends;
 #[cfg(test)]
 mod plain;
 #[cfg(test)]

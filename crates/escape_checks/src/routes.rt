@@ -9,6 +9,18 @@ use escape_simd::simd::target::{Target, Ticks};
 use escape_simd::simd::{avx2, avx512, neon, sse2, v128};
 use escape_simd::{Kernel, Mode, format_text};
 
+/// Each mode.
+pub const MODES: [Mode; 3] = [Mode::Json, Mode::Html, Mode::Script];
+
+/// Each kernel.
+pub const KERNELS: [Kernel; 5] = [
+    Kernel::V128,
+    Kernel::Sse2,
+    Kernel::Neon,
+    Kernel::Avx2,
+    Kernel::Avx512,
+];
+
 /// A way to a kernel.
 #[derive(Debug, Clone, Copy)]
 pub enum Way {

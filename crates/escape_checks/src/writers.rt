@@ -1,9 +1,12 @@
-//! All that writes what stands for a text: the kernels in each way, the calls that append, and `run`.
-use crate::appends::{Call, KERNELS, differing_call, runs_write};
-use crate::routes::{WAYS, Way, format};
-use escape_simd::html::EscapeHtmlError;
+//! What writes the output of a text: the kernels in each way, and the calls that return a `String`.
+use crate::routes::{KERNELS, WAYS, Way, format};
+use escape_simd::html::{EscapeHtmlError, escape_html};
+use escape_simd::json::{escape, escape_script};
 use escape_simd::{Kernel, Mode, format_inner};
 use std::alloc::Global;
+
+/// What a target holds before.
+pub const UNTOUCHED: u8 = 0xee;
 
 /// What failed, or wrote something else than it was to write.
 #[derive(Debug, Clone, Copy)]
@@ -12,10 +15,8 @@ pub enum Writer {
     Kernel(Kernel, Way),
     /// A kernel, with no quotation marks.
     Inner(Kernel),
-    /// A call that appends, or returns a string.
-    Call(Call),
-    /// The run of the program, by this kernel.
-    Run(Kernel),
+    /// The call that returns a string.
+    Call,
 }
 
 /// The first writer in this mode that writes something else than `output` for the text, if there is one.
@@ -29,11 +30,25 @@ pub fn differing(
         if let Some(writer) = differing_kernel(alloc, kernel, mode, text, output)? {
             return Ok(Some(writer));
         }
-        if !runs_write(alloc, kernel, mode, text, output) {
-            return Ok(Some(Writer::Run(kernel)));
-        }
     }
-    Ok(differing_call(alloc, mode, text, output, 0).map(Writer::Call))
+    Ok(if is_returned(alloc, mode, text, output) {
+        None
+    } else {
+        Some(Writer::Call)
+    })
+}
+
+/// Whether the call returns the output.
+fn is_returned(alloc: Global, mode: Mode, text: &str, output: &[u8]) -> bool {
+    let returned = match mode {
+        Mode::Json => escape(alloc, text).ok(),
+        Mode::Html => escape_html(alloc, text).ok(),
+        Mode::Script => escape_script(alloc, text).ok(),
+    };
+    match returned {
+        Some(string) => string.as_bytes() == output,
+        None => false,
+    }
 }
 
 /// The first way to a kernel that writes something else.
@@ -44,15 +59,15 @@ fn differing_kernel(
     text: &str,
     output: &[u8],
 ) -> Result<Option<Writer>, EscapeHtmlError> {
-    let mut target = vec![in alloc; 0xeeu8; mode.capacity(text.len())?]?;
+    let mut target = vec![in alloc; UNTOUCHED; mode.capacity(text.len())?]?;
     for way in WAYS {
-        target.fill(0xee);
+        target.fill(UNTOUCHED);
         let count = format(way, kernel, mode, text, &mut target);
         if target.get(..count) != Some(output) {
             return Ok(Some(Writer::Kernel(kernel, way)));
         }
     }
-    target.fill(0xee);
+    target.fill(UNTOUCHED);
     let count = format_inner(kernel, mode, text, &mut target);
     if target.get(..count) != between_quotes(mode, output) {
         return Ok(Some(Writer::Inner(kernel)));

@@ -15,7 +15,7 @@ pub enum Kernel {
     V128,
     /// Vectors of 16 bytes.
     Sse2,
-    /// Vectors of 16 bytes. Its public bit masks have four bits for each byte.
+    /// Vectors of 16 bytes. HTML is classified by two tables of nibbles.
     Neon,
     /// Vectors of 32 bytes. The default.
     Avx2,

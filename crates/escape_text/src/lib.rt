@@ -10,6 +10,8 @@
 //! - [`json::escape_array_into`], [`json::escape_script_array_into`], [`json::escape_joined_into`] and
 //!   [`html::escape_html_joined_into`] append many texts to a vector, [`json::object_into`] and
 //!   [`json::object_line_into`] a JSON object of texts, [`page::page_into`] a page of markup, texts and script values.
+//!   [`page::page`] returns the page.
+//! - [`write_whole`] writes bytes to an `io::Write`, [`write_exact`] an output to a slice of its length.
 //!
 //! ```rust
 //! write!(page, "<p title=\"{}\">", html::Escaped("a \"b\""))?; // <p title="a &quot;b&quot;">

@@ -7,12 +7,15 @@ use escape_simd::output::Refusal;
 use std::alloc::Allocator;
 use std::fmt;
 
-/// The error of the calls that append a list: how many texts were appended, and why the next one was refused.
+/// The error of the calls that append a list: which text or part was refused, and why.
+///
+/// The calls for joined texts keep the outputs before it and the separators between them.
+/// [`page_into`](crate::page::page_into) keeps none.
 #[derive(Debug, Clone, Copy, PartialEq, Eq)]
 pub struct ListError<E> {
-    /// The number of texts that were appended, with the separators between them.
+    /// The index of the text or part that was refused: so many were appended before it.
     pub written: usize,
-    /// The reason for which the next text was refused.
+    /// The reason for which it was refused.
     pub reason: E,
 }
 

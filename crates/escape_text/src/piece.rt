@@ -42,6 +42,7 @@ impl<const MODE: u8> Piece<MODE> for &str {
         let Some(scratch) = scratch_bound::<MODE>(self.len()) else {
             unreachable!()
         };
+        // As `output::append`, which would be a further call for each piece.
         dst.reserve(scratch)?;
         append_reserved::<MODE, A>(self, dst);
         Ok(())

@@ -55,6 +55,7 @@ pub fn write_whole<W: Write>(bytes: &[u8], writer: &mut W) -> Result<()>
         (AppendsBeginning (W.contents writer.old) (W.contents writer.new) bytes.now) }
 {
     let mut written = 0;
+    // A loop with a bound, so that the call is proved to return.
     'writes: for _try in 0..u64::MAX {
         if written >= bytes.len() {
             return Ok(());

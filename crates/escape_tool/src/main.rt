@@ -2,8 +2,8 @@
 //! is safe inside a script element.
 //!
 //! `escape_tool json|html|script [v128|sse2|neon|avx2|avx512]`: the status is 0 where the whole output was
-//! written, 1 after a fault of the run and 2 where the words aren't such words. Standard error says
-//! which fault it was, or how the program is called.
+//! written, 1 after a fault of the run, and 2 where the words aren't such words or there is no memory for
+//! them. Standard error says which fault it was, or how the program is called.
 #![tactic(auto)]
 
 use escape_simd::Kernel;

@@ -1,76 +1,76 @@
 //! Every border: of a vector, a chunk, the rest and the target.
 
-use crate::appends::{KERNELS, MODES};
 use crate::plain::plain;
-use crate::routes::{WAYS, Way, format, lanes};
+use crate::routes::{KERNELS, MODES, WAYS, Way, format, lanes};
 use crate::tests::texts::{LENGTHS, WIDTHS, repeated};
-use crate::tests::whole_targets::{UNTOUCHED, is_right_by};
+use crate::tests::whole_targets::assert_written_by;
+use crate::writers::UNTOUCHED;
 use escape_simd::{
     Kernel, format_html_string, format_inner, format_json_inner, format_script_inner,
 };
 use escape_stream::Mode;
 use std::process::Abort;
 
-/// Each kernel writes what stands for a text of these parts character by character, in each mode.
-fn is_right(rt: &(impl Abort + AllocGlobal), parts: &[(usize, &str)]) {
+/// Asserts that each kernel writes what stands for a text of these parts character by character, in each mode.
+fn assert_written(rt: &(impl Abort + AllocGlobal), parts: &[(usize, &str)]) {
     for mode in MODES {
-        is_right_in(rt, mode, parts);
+        assert_written_in(rt, mode, parts);
     }
 }
 
-/// Each kernel writes it in one mode, into a target of exactly the bound and into a longer one.
-fn is_right_in(rt: &(impl Abort + AllocGlobal), mode: Mode, parts: &[(usize, &str)]) {
+/// Asserts that each kernel writes it in one mode, into a target of exactly the bound and into a longer one.
+fn assert_written_in(rt: &(impl Abort + AllocGlobal), mode: Mode, parts: &[(usize, &str)]) {
     let text = repeated(rt, parts);
     let wanted = plain(rt, mode, &text);
     for kernel in KERNELS {
-        is_right_by(rt, kernel, mode, &text, 0, wanted.as_bytes());
-        is_right_by(rt, kernel, mode, &text, 100, wanted.as_bytes());
+        assert_written_by(rt, kernel, mode, &text, 0, wanted.as_bytes());
+        assert_written_by(rt, kernel, mode, &text, 100, wanted.as_bytes());
     }
 }
 
 #[test]
 fn letters_or_quotes_of_each_length(rt: HostRuntime) {
     for len in 0..=257 {
-        is_right(&rt, &[(len, "a")]);
-        is_right(&rt, &[(len, "\"")]);
+        assert_written(&rt, &[(len, "a")]);
+        assert_written(&rt, &[(len, "\"")]);
     }
 }
 
-/// Each kernel writes letters with the part at each place, in one mode. What begins with e2 is told from
+/// Asserts that each kernel writes letters with the part at each place, in one mode. What begins with e2 is told from
 /// other characters by its two other bytes, which may lie in the next vector, chunk or rest.
-fn is_right_with(rt: &(impl Abort + AllocGlobal), mode: Mode, part: &str) {
+fn assert_part_written(rt: &(impl Abort + AllocGlobal), mode: Mode, part: &str) {
     for len in LENGTHS {
         for place in 0..=len {
-            is_right_in(rt, mode, &[(place, "a"), (1, part), (len - place, "a")]);
+            assert_written_in(rt, mode, &[(place, "a"), (1, part), (len - place, "a")]);
         }
     }
 }
 
 #[test]
 fn a_part_at_each_place(rt: HostRuntime) {
-    is_right_with(&rt, Mode::Json, "\"");
-    is_right_with(&rt, Mode::Html, "\"");
-    is_right_with(&rt, Mode::Script, "&");
-    is_right_with(&rt, Mode::Script, "\u{2026}");
-    is_right_with(&rt, Mode::Script, "\u{2028}");
+    assert_part_written(&rt, Mode::Json, "\"");
+    assert_part_written(&rt, Mode::Html, "\"");
+    assert_part_written(&rt, Mode::Script, "&");
+    assert_part_written(&rt, Mode::Script, "\u{2026}");
+    assert_part_written(&rt, Mode::Script, "\u{2028}");
 }
 
-/// Each kernel writes so many quotes that begin near the end of the width, in letters of three widths.
-fn is_right_with_run(rt: &(impl Abort + AllocGlobal), width: usize, count: usize) {
+/// Asserts that each kernel writes so many quotes that begin near the end of the width, in letters of three widths.
+fn assert_run_written(rt: &(impl Abort + AllocGlobal), width: usize, count: usize) {
     for place in width.saturating_sub(1)..width.saturating_add(2) {
         let letters = width.saturating_mul(3).saturating_sub(place);
         let after = letters.saturating_sub(count);
-        is_right(rt, &[(place, "a"), (count, "\""), (after, "a")]);
+        assert_written(rt, &[(place, "a"), (count, "\""), (after, "a")]);
     }
 }
 
 #[test]
 fn runs_across_each_width(rt: HostRuntime) {
     for width in WIDTHS {
-        is_right_with_run(&rt, width, 1);
-        is_right_with_run(&rt, width, 2);
-        is_right_with_run(&rt, width, 3);
-        is_right_with_run(&rt, width, width);
+        assert_run_written(&rt, width, 1);
+        assert_run_written(&rt, width, 2);
+        assert_run_written(&rt, width, 3);
+        assert_run_written(&rt, width, width);
     }
 }
 
@@ -79,7 +79,7 @@ fn runs_across_each_width(rt: HostRuntime) {
 #[test]
 fn a_quote_before_the_rest(rt: HostRuntime) {
     for kernel in KERNELS {
-        is_right(&rt, &[(lanes(kernel), "a"), (1, "\"a\"b")]);
+        assert_written(&rt, &[(lanes(kernel), "a"), (1, "\"a\"b")]);
     }
 }
 

@@ -1,18 +1,21 @@
 //! Memory that is refused, request by request, and what was asked for.
 
-use crate::appends::{MODES, append, append_text, compact};
+use crate::routes::MODES;
 use crate::tests::rationed::Rationed;
 use crate::tests::texts::repeated;
-use escape_simd::html::{escape_html_each, escape_html_in};
-use escape_simd::json::{escape_in, escape_script_in};
+use escape_simd::html::{escape_html_each, escape_html_in, escape_html_into};
+use escape_simd::json::{escape_in, escape_into, escape_script_in, escape_script_into};
 use escape_simd::{Kernel, Refusal};
 use escape_stream::{Mode, PIECE, ToolFault, run_in};
-use escape_text::html::{escape_html_cow, escape_html_joined_into};
+use escape_text::html::{
+    escape_html_compact, escape_html_cow, escape_html_into_string, escape_html_joined_into,
+};
 use escape_text::json::{
-    escape_array_into, escape_script_array_into, object_into, object_line_into,
+    escape_array_into, escape_compact, escape_into_string, escape_script_array_into,
+    escape_script_compact, escape_script_into_string, object_into, object_line_into,
 };
 use escape_text::page::{Part, page_into};
-use std::alloc::Global;
+use std::alloc::{Allocator, Global};
 use std::borrow::CowStr;
 use std::process::Abort;
 
@@ -44,7 +47,9 @@ fn one<E: Into<Refusal>>(outcome: Result<(), E>) -> Ended {
 
 fn ended<'a>(call: Call, (first, second): (&'a str, &'a str), dst: &mut Vec<u8, &Heap>) -> Ended {
     match call {
-        Call::One(mode) => one(append(mode, first, dst)),
+        Call::One(Mode::Json) => one(escape_into(first, dst)),
+        Call::One(Mode::Html) => one(escape_html_into(first, dst)),
+        Call::One(Mode::Script) => one(escape_script_into(first, dst)),
         Call::Each => match escape_html_each(&[first, second], dst) {
             Ok(()) => Ok(()),
             Err((written, error)) => Err((written, error.into())),
@@ -67,24 +72,18 @@ fn ended<'a>(call: Call, (first, second): (&'a str, &'a str), dst: &mut Vec<u8, 
     }
 }
 
-/// A call with its texts, the spare capacity of the vector, and how many requests are granted. Then how it ends, what it
-/// appends, how many requests it makes, and how many bytes the last one asks for, 0 for any number.
+/// A request for memory: for how many bytes, 0 for any number. Then, if it is refused, which text is, and what the call
+/// has appended.
+type Request = (usize, usize, &'static str);
+
+/// A call with its texts, the spare capacity of the vector, its requests, and what it appends if all are granted.
 type Row = (
     Call,
     (&'static str, &'static str),
     usize,
-    u64,
-    Ended,
+    &'static [Request],
     &'static str,
-    u64,
-    usize,
 );
-
-const OUT_OF_MEMORY: Ended = Err((0, Refusal::OutOfMemory));
-
-const AT_THE_SECOND: Ended = Err((1, Refusal::OutOfMemory));
-
-const AT_THE_THIRD: Ended = Err((2, Refusal::OutOfMemory));
 
 /// The bytes that HTML escapes.
 const SIX: &str = "\"&'/<>";
@@ -97,220 +96,87 @@ const MARKUP_AND_LETTERS: &str = "&lt;\
     aaaaaaaaaaaaaaaaaaaaaaaaaaaaaaaaaaaaaaaaaaaaaaaaaa\
     aaaaaaaaaaaaaaaaaaaaaaaaaaaaaaaaaaaaaaaaaaaaaaaaaa";
 
-static ROWS: [Row; 32] = [
-    (
-        Call::One(Mode::Json),
-        ("x", ""),
-        0,
-        0,
-        OUT_OF_MEMORY,
-        "",
-        1,
-        42,
-    ),
-    (
-        Call::One(Mode::Json),
-        ("x", ""),
-        0,
-        1,
-        Ok(()),
-        "\"x\"",
-        1,
-        42,
-    ),
+/// A request of a call whose refusal tells no text.
+const ANY: Request = (0, 0, "");
+
+static ROWS: [Row; 16] = [
+    (Call::One(Mode::Json), ("x", ""), 0, &[(42, 0, "")], "\"x\""),
     // So much less than the bound that a vector of twice the capacity would not hold it.
     (
         Call::One(Mode::Json),
         ("x", ""),
         12,
-        1,
-        Ok(()),
+        &[(42, 0, "")],
         "\"x\"",
-        1,
-        42,
     ),
-    (
-        Call::One(Mode::Json),
-        ("x", ""),
-        41,
-        0,
-        Ok(()),
-        "\"x\"",
-        0,
-        0,
-    ),
-    (
-        Call::One(Mode::Html),
-        ("<", ""),
-        0,
-        0,
-        OUT_OF_MEMORY,
-        "",
-        1,
-        39,
-    ),
-    (
-        Call::One(Mode::Html),
-        ("<", ""),
-        0,
-        1,
-        Ok(()),
-        "&lt;",
-        1,
-        39,
-    ),
-    (
-        Call::One(Mode::Html),
-        ("<", ""),
-        38,
-        0,
-        Ok(()),
-        "&lt;",
-        0,
-        0,
-    ),
+    (Call::One(Mode::Json), ("x", ""), 41, &[], "\"x\""),
+    (Call::One(Mode::Html), ("<", ""), 0, &[(39, 0, "")], "&lt;"),
+    (Call::One(Mode::Html), ("<", ""), 38, &[], "&lt;"),
     (
         Call::One(Mode::Script),
         ("&", ""),
         0,
-        0,
-        OUT_OF_MEMORY,
-        "",
-        1,
-        42,
-    ),
-    (
-        Call::One(Mode::Script),
-        ("&", ""),
-        0,
-        1,
-        Ok(()),
+        &[(42, 0, "")],
         "\"\\u0026\"",
-        1,
-        42,
     ),
-    (
-        Call::One(Mode::Script),
-        ("&", ""),
-        41,
-        0,
-        Ok(()),
-        "\"\\u0026\"",
-        0,
-        0,
-    ),
-    (Call::Each, ("<", LETTERS), 0, 0, OUT_OF_MEMORY, "", 1, 39),
+    (Call::One(Mode::Script), ("&", ""), 41, &[], "\"\\u0026\""),
     (
         Call::Each,
         ("<", LETTERS),
         0,
-        1,
-        AT_THE_SECOND,
-        "&lt;",
-        2,
-        637,
-    ),
-    (
-        Call::Each,
-        ("<", LETTERS),
-        0,
-        2,
-        Ok(()),
+        &[(39, 0, ""), (637, 1, "&lt;")],
         MARKUP_AND_LETTERS,
-        2,
-        637,
     ),
-    (
-        Call::Each,
-        ("<", LETTERS),
-        636,
-        0,
-        Ok(()),
-        MARKUP_AND_LETTERS,
-        0,
-        0,
-    ),
-    (Call::Joined, ("<", LETTERS), 0, 0, OUT_OF_MEMORY, "", 1, 39),
+    (Call::Each, ("<", LETTERS), 636, &[], MARKUP_AND_LETTERS),
     (
         Call::Joined,
-        ("<", LETTERS),
+        ("<", ">"),
         0,
-        1,
-        AT_THE_SECOND,
-        "&lt;",
-        2,
-        639,
+        &[(39, 0, ""), (0, 1, "&lt;")],
+        "&lt;; &gt;",
     ),
-    (Call::Joined, ("<", ">"), 0, 2, Ok(()), "&lt;; &gt;", 2, 0),
     // The bracket asks first, and the texts after it.
-    (Call::Array, ("x", "\n"), 0, 0, OUT_OF_MEMORY, "", 1, 0),
-    (Call::Array, ("x", "\n"), 0, 1, OUT_OF_MEMORY, "", 2, 0),
-    (Call::Array, ("x", "\n"), 0, 2, OUT_OF_MEMORY, "", 3, 0),
     (
         Call::Array,
         ("x", "\n"),
         0,
-        3,
-        Ok(()),
+        &[ANY, ANY, ANY],
         "[\"x\",\"\\n\"]",
-        3,
-        0,
     ),
     (
         Call::ScriptArray,
         ("<", ""),
         0,
-        3,
-        Ok(()),
+        &[ANY, ANY, ANY],
         "[\"\\u003c\",\"\"]",
-        3,
-        0,
     ),
-    (Call::Object, ("a", "b"), 0, 0, OUT_OF_MEMORY, "", 1, 0),
-    (Call::Object, ("a", "b"), 0, 1, OUT_OF_MEMORY, "", 2, 0),
-    (Call::Object, ("a", "b"), 0, 2, OUT_OF_MEMORY, "", 3, 0),
     (
         Call::Object,
         ("a", "b"),
         0,
-        3,
-        Ok(()),
+        &[ANY, ANY, ANY],
         "{\"a\":\"b\"}",
-        3,
-        0,
     ),
     (
         Call::Line,
         (SIX, "\n"),
         0,
-        2,
-        Ok(()),
+        &[ANY, ANY],
         "{\"\\\"&'/<>\":\"\\n\"}\n",
-        2,
-        0,
     ),
-    (Call::Page, ("<", "<"), 0, 0, OUT_OF_MEMORY, "", 1, 0),
-    (Call::Page, ("<", "<"), 0, 1, AT_THE_SECOND, "", 2, 0),
-    (Call::Page, ("<", "<"), 0, 2, AT_THE_THIRD, "", 3, 0),
     (
         Call::Page,
         ("<", "<"),
         0,
-        3,
-        Ok(()),
+        &[ANY, (0, 1, ""), (0, 2, "")],
         "<b>&lt;\"\\u003c\"",
-        3,
-        0,
     ),
     (
         Call::Page,
         (SIX, SIX),
         0,
-        3,
-        Ok(()),
+        &[ANY, (0, 1, ""), (0, 2, "")],
         "<b>&quot;&amp;&#x27;&#x2f;&lt;&gt;\"\\\"\\u0026'/\\u003c\\u003e\"",
-        3,
-        0,
     ),
 ];
 
@@ -322,24 +188,62 @@ fn vector_of<'a>(rt: &impl Abort, heap: &'a Heap, spare: usize) -> Vec<u8, &'a H
 }
 
 /// Whether so many requests were made, the last for so many bytes.
-fn is_asked(heap: &Heap, made: u64, size: usize) -> bool {
+fn is_asked(heap: &Heap, made: usize, size: usize) -> bool {
     let requests = heap.requests();
-    requests.made == made && (size == 0 || requests.last_size == size)
+    requests.made == made as u64 && (size == 0 || requests.last_size == size)
 }
 
-fn is_row(heap: &Heap, dst: &mut Vec<u8, &Heap>, row: &Row) -> bool {
-    heap.ration(row.3);
-    ended(row.0, row.1, dst) == row.4
-        && dst.strip_prefix(b"\xff") == Some(row.5.as_bytes())
-        && is_asked(heap, row.6, row.7)
+/// Whether the call appends this if so many requests are granted, and so ends.
+fn ends_so(
+    heap: &Heap,
+    row: &Row,
+    granted: usize,
+    dst: &mut Vec<u8, &Heap>,
+    end: Ended,
+    appended: &str,
+) -> bool {
+    heap.ration(granted as u64);
+    ended(row.0, row.1, dst) == end && dst.strip_prefix(b"\xff") == Some(appended.as_bytes())
+}
+
+/// Whether the request after so many is refused, and the call with it.
+fn is_row_refused(
+    heap: &Heap,
+    row: &Row,
+    granted: usize,
+    request: &Request,
+    dst: &mut Vec<u8, &Heap>,
+) -> bool {
+    let end = Err((request.1, Refusal::OutOfMemory));
+    ends_so(heap, row, granted, dst, end, request.2)
+        && is_asked(heap, granted.saturating_add(1), request.0)
+}
+
+/// Whether the call makes the requests, and appends what it has to.
+fn is_row_appended(heap: &Heap, row: &Row, dst: &mut Vec<u8, &Heap>) -> bool {
+    let granted = row.3.len();
+    let size = match row.3.last() {
+        Some(last) => last.0,
+        None => 0,
+    };
+    ends_so(heap, row, granted, dst, Ok(()), row.4) && is_asked(heap, granted, size)
 }
 
 #[test]
 fn calls_that_append(rt: HostRuntime) {
     for row in &ROWS {
+        for (granted, request) in row.3.iter().enumerate() {
+            let heap = Rationed::new(rt.alloc());
+            let mut dst = vector_of(&rt, &heap, row.2);
+            assert!(rt;
+                is_row_refused(&heap, row, granted, request, &mut dst),
+                "{} {granted}",
+                row.4
+            );
+        }
         let heap = Rationed::new(rt.alloc());
         let mut dst = vector_of(&rt, &heap, row.2);
-        assert!(rt; is_row(&heap, &mut dst, row), "{}", row.5);
+        assert!(rt; is_row_appended(&heap, row, &mut dst), "{}", row.4);
     }
 }
 
@@ -348,7 +252,7 @@ fn is_appended_often(heap: &Heap, mode: Mode) -> bool {
     heap.ration(20);
     let mut dst = Vec::new(heap);
     for _ in 0..10000 {
-        if append(mode, "x", &mut dst).is_err() {
+        if ended(Call::One(mode), ("x", ""), &mut dst).is_err() {
             return false;
         }
     }
@@ -379,7 +283,9 @@ fn returned<'a>(
         Returning::Bounded(Mode::Json) => CowStr::Owned(escape_in(heap, text)?),
         Returning::Bounded(Mode::Html) => CowStr::Owned(escape_html_in(heap, text)?),
         Returning::Bounded(Mode::Script) => CowStr::Owned(escape_script_in(heap, text)?),
-        Returning::Compact(mode) => CowStr::Owned(compact(heap, mode, text)?),
+        Returning::Compact(Mode::Json) => CowStr::Owned(escape_compact(heap, text)?),
+        Returning::Compact(Mode::Html) => CowStr::Owned(escape_html_compact(heap, text)?),
+        Returning::Compact(Mode::Script) => CowStr::Owned(escape_script_compact(heap, text)?),
         Returning::Cow => escape_html_cow(heap, text)?,
     })
 }
@@ -474,46 +380,56 @@ const HELD: &str = "é";
 
 /// A string that holds this, and has room for `spare` bytes more.
 fn string_of<'a>(rt: &impl Abort, heap: &'a Heap, spare: usize) -> String<&'a Heap> {
+    heap.ration(1);
     let capacity = HELD.len().saturating_add(spare);
     let mut string = String::with_capacity(heap, capacity).expect(rt, "no memory");
     string.push_str(HELD).expect(rt, "no memory");
     string
 }
 
-/// A mode, a text, the spare capacity of the string, and how many requests are granted. Then what the call appends, and
-/// how many bytes it asks for.
-static TEXTS: [(Mode, &str, usize, u64, &str, usize); 9] = [
-    (Mode::Json, "x", 0, 0, "", 43),
-    (Mode::Json, "x", 0, 1, "\"x\"", 43),
-    (Mode::Json, "x", 41, 0, "\"x\"", 0),
-    (Mode::Html, "<", 0, 0, "", 40),
-    (Mode::Html, "<", 0, 1, "&lt;", 40),
-    (Mode::Html, "<", 38, 0, "&lt;", 0),
-    (Mode::Script, "&", 0, 0, "", 43),
-    (Mode::Script, "&", 0, 1, "\"\\u0026\"", 43),
-    (Mode::Script, "&", 41, 0, "\"\\u0026\"", 0),
+fn append_text<A: Allocator>(mode: Mode, text: &str, dst: &mut String<A>) -> Result<(), Refusal> {
+    match mode {
+        Mode::Json => escape_into_string(text, dst)?,
+        Mode::Html => escape_html_into_string(text, dst)?,
+        Mode::Script => escape_script_into_string(text, dst)?,
+    }
+    Ok(())
+}
+
+/// A mode, a text, what the call appends, and how many bytes it asks for.
+type TextRow = (Mode, &'static str, &'static str, usize);
+
+static TEXTS: [TextRow; 3] = [
+    (Mode::Json, "x", "\"x\"", 43),
+    (Mode::Html, "<", "&lt;", 40),
+    (Mode::Script, "&", "\"\\u0026\"", 43),
 ];
 
-/// Whether the call appends this, or is refused if it is nothing.
-fn is_text_appended(mode: Mode, text: &str, dst: &mut String<&Heap>, appended: &str) -> bool {
-    append_text(mode, text, dst).is_ok() != appended.is_empty()
-        && dst.as_str().strip_prefix(HELD) == Some(appended)
+/// Whether the call asks once, is refused, and leaves the string.
+fn is_text_refused(heap: &Heap, row: &TextRow, dst: &mut String<&Heap>) -> bool {
+    heap.ration(0);
+    append_text(row.0, row.1, dst) == Err(Refusal::OutOfMemory)
+        && dst.as_str() == HELD
+        && is_asked(heap, 1, row.3)
+}
+
+/// Whether the call appends the output, and asks as often, each time for so many bytes.
+fn is_text_appended(heap: &Heap, row: &TextRow, asks: usize, dst: &mut String<&Heap>) -> bool {
+    heap.ration(asks as u64);
+    append_text(row.0, row.1, dst).is_ok()
+        && dst.as_str().strip_prefix(HELD) == Some(row.2)
+        && is_asked(heap, asks, if asks == 0 { 0 } else { row.3 })
 }
 
 #[test]
 fn calls_that_append_to_a_string(rt: HostRuntime) {
-    for (mode, text, spare, granted, appended, size) in &TEXTS {
-        let heap = Rationed::new(rt.alloc());
-        let mut dst = string_of(&rt, &heap, *spare);
-        heap.ration(*granted);
-        assert!(rt;
-            is_text_appended(*mode, text, &mut dst, appended),
-            "{text} {granted}"
-        );
-        assert!(rt;
-            is_asked(&heap, (*size != 0) as u64, *size),
-            "{text} {granted}"
-        );
+    let heap = Rationed::new(rt.alloc());
+    for row in &TEXTS {
+        let mut full = string_of(&rt, &heap, 0);
+        assert!(rt; is_text_refused(&heap, row, &mut full), "{}", row.1);
+        assert!(rt; is_text_appended(&heap, row, 1, &mut full), "{}", row.1);
+        let mut roomy = string_of(&rt, &heap, row.3.saturating_sub(HELD.len()));
+        assert!(rt; is_text_appended(&heap, row, 0, &mut roomy), "{}", row.1);
     }
 }
 

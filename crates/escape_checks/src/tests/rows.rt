@@ -1,8 +1,8 @@
 //! Texts with what stands for them, written out.
 
 use crate::tests::texts::repeated;
-use crate::tests::whole_targets::{UNTOUCHED, is_written};
-use crate::writers::differing;
+use crate::tests::whole_targets::is_written;
+use crate::writers::{UNTOUCHED, differing};
 use escape_simd::html::escape_html_each;
 use escape_simd::simd::target::Target;
 use escape_simd::simd::util::escape_unchecked;

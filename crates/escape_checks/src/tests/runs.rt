@@ -1,7 +1,7 @@
 //! Runs: how they end, what the writer then holds, and which calls a run makes of it.
 
-use crate::appends::{KERNELS, MODES};
 use crate::plain::plain;
+use crate::routes::{KERNELS, MODES};
 use crate::tests::texts::repeated;
 use escape_simd::Kernel;
 use escape_stream::{Mode, ToolFault, run};

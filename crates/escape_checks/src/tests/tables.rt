@@ -1,7 +1,7 @@
 //! The tables, entry by entry.
 
-use crate::appends::MODES;
 use crate::plain::replacement;
+use crate::routes::MODES;
 use crate::tests::texts::all_are;
 use escape_lanes::tables::{
     HTML_HI_NIBBLE_TAB, HTML_LO_NIBBLE_TAB, LINE_SEPARATOR, PARAGRAPH_SEPARATOR, SCRIPT_FLAGGED,

@@ -2,17 +2,15 @@
 
 use crate::routes::{Way, format, lanes};
 use crate::tests::texts::all_are;
+use crate::writers::UNTOUCHED;
 use escape_simd::Kernel;
 use escape_stream::Mode;
 use std::process::Abort;
 
-/// What a target holds before.
-pub const UNTOUCHED: u8 = 0xee;
-
-/// One kernel writes what stands for the text, into a target of the bound and `more` bytes. It writes
-/// nothing from the bound on, nor from a vector past the last byte on, and the three ways to it leave the
-/// same whole target.
-pub fn is_right_by(
+/// Asserts that one kernel writes what stands for the text, into a target of the bound and `more` bytes; that it writes
+/// nothing from the bound on, nor from a vector past the last byte on; and that the three ways to it leave the same
+/// whole target.
+pub fn assert_written_by(
     rt: &(impl Abort + AllocGlobal),
     kernel: Kernel,
     mode: Mode,

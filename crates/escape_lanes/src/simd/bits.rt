@@ -109,7 +109,7 @@ impl BitMask for u64 {
     }
 }
 
-/// Sixteen lanes, told by four bits each: a lane is set where its four bits aren't all zero.
+/// The bit mask of the kernel `neon`: sixteen lanes. [`NeonBits::new`] takes four bits for each.
 #[derive(Drop)]
 pub struct NeonBits {
     // Bit `i` is set where lane `i` is.
@@ -117,7 +117,7 @@ pub struct NeonBits {
 }
 
 impl NeonBits {
-    /// Returns the sixteen lanes of a number: lane `i` is bits `4i` to `4i + 3`.
+    /// Returns the sixteen lanes of a number: lane `i` is set if one of the bits `4i` to `4i + 3` is.
     ///
     /// `NeonBits::new(0x200).first_offset()` is 2.
     #[inline(always)]

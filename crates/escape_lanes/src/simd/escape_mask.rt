@@ -156,7 +156,8 @@ impl<const MODE: u8> EscapeMask<MODE> {
         }
     }
 
-    /// Returns the mask of the bytes from `count` on, below 64. The mask tells of all of its bytes.
+    /// Returns the mask of the bytes from `count` on. `count` is below 64, and the mask tells of all of its
+    /// bytes.
     #[inline(always)]
     pub fn skip(self, count: usize) -> Self
         requires { (self.from ≡ 0) × (count < 64) × (count ≤ length self.bytes) }

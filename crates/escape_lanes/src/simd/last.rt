@@ -2,7 +2,7 @@
 //!
 //! They never pass through memory: a copy of a number of bytes that is known only at run time is a
 //! call, and a vector that is loaded from words just written has to wait for all of them.
-ghost use Rattle.std.specs.Prelude.{◌≡◌, ◌+◌, ◌*◌, ◌-◌, ◌<◌, ◌≤◌, ◌++◌, length, take, drop, replicate};
+ghost use Rattle.std.specs.Prelude.{◌≡◌, ◌+◌, ◌-◌, ◌<◌, ◌≤◌, ◌++◌, length, take, drop, replicate};
 ghost use Rattle.std.specs.Simd.Lanes.{number_l};
 ghost use Rattle.escape_lanes.specs.Lanes.{AreBytes};
 

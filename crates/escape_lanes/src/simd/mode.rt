@@ -44,7 +44,7 @@ pub fn is_quoted<const MODE: u8>() -> bool
 pub fn has_short_escapes<const MODE: u8>() -> bool
     ensures { (result ≡ false) ↔ (mode_numbered MODE ≡ html) }
 {
-    MODE == JSON_MODE || SCRIPT_MODE <= MODE
+    is_quoted::<MODE>()
 }
 
 /// Returns whether the output is a literal for a script element, in which U+2028 and U+2029 are escaped too.
@@ -52,5 +52,6 @@ pub fn has_short_escapes<const MODE: u8>() -> bool
 pub fn is_script<const MODE: u8>() -> bool
     ensures { (result ≡ true) ↔ (mode_numbered MODE ≡ script) }
 {
+    // To `mode_numbered`, a number past 2 is that of script mode.
     SCRIPT_MODE <= MODE
 }

@@ -1,7 +1,7 @@
 //! Which lanes need an escape, at every width.
 //!
 //! Of a flag only the lane's top bit counts, so a difference can set it.
-ghost use Rattle.std.specs.Prelude.{◌≡◌, ℕ, if◌then◌else◌, ◌<◌, ◌≤◌, ◌^◌, ◌%◌, length, map, nat_eq, slice_index, bit_and, ◌-◌};
+ghost use Rattle.std.specs.Prelude.{◌≡◌, if◌then◌else◌, ◌<◌, ◌≤◌, ◌^◌, map, nat_eq, bit_and, ◌-◌};
 ghost use Rattle.escape_lanes.specs.Bits.{bits_of};
 ghost use Rattle.escape_lanes.specs.Lanes.{AreBytes, flagged_lanes};
 ghost use Rattle.escape_lanes.specs.Mode.{json, html, script};
@@ -40,7 +40,7 @@ pub(crate) fn is_without<const N: usize>(v: &Simd<u8, N>, bit: u8, byte: u8) -> 
 /// Returns flags where JSON needs an escape.
 ///
 /// A flip of bit 1 brings the quotation mark, 0x22, to 0x20, past the control characters, which stay below
-/// it. Of 0xa0 these leave 0x80 or more.
+/// it. Subtracted from 0xa0, these leave 0x80 or more.
 #[inline(always)]
 pub(crate) fn json_needs<const N: usize>(v: &Simd<u8, N>) -> Simd<u8, N>
     requires { AreBytes N v.now }

@@ -15,7 +15,7 @@ use std::simd::prelude::*;
 ///
 /// Of a line feed that is `n`, and of a byte without such a letter the byte itself.
 #[inline(always)]
-pub fn shorten(text: &[u8], at: usize) -> u8x16
+fn shorten(text: &[u8], at: usize) -> u8x16
     requires { at + 16 ≤ length text.now }
     ensures { result ≡ map shortened (take 16 (drop at text.now)) }
 {

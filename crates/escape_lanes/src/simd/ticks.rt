@@ -40,10 +40,11 @@ impl Tally {
     }
 }
 
-/// How often a classifier was called. A contract sees that number.
+/// How often bytes were classified: those of a vector by its classifier, or the rest of them by
+/// [`EscapeMask::rest`](crate::simd::escape_mask::EscapeMask::rest). A contract sees that number.
 ///
-/// Only the classifiers raise it, by one in each call, and it can't be cloned: so a kernel that is
-/// lent the ticks of its caller has called a classifier as often as they rose.
+/// Only these raise it, by one in each call, and it can't be cloned. So a kernel that is lent the ticks of
+/// its caller has classified as often as they rose.
 #[derive(Drop)]
 pub struct Ticks {
     tally: Tally,
@@ -56,7 +57,7 @@ impl Model for Ticks {
 }
 
 impl Ticks {
-    /// Returns ticks at which no classifier was called.
+    /// Returns ticks at which nothing was classified.
     #[inline(always)]
     pub fn new() -> Self
         ensures { result ≡ 0 }
@@ -66,7 +67,7 @@ impl Ticks {
         }
     }
 
-    /// One more call of a classifier.
+    /// One more classification.
     #[inline(always)]
     pub(crate) fn tick(&mut self)
         ensures { self.new ≡ self.old + 1 }

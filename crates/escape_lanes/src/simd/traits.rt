@@ -1,5 +1,5 @@
 //! Vectors and bit masks, as lists of numbers and of truth values.
-ghost use Rattle.std.specs.Prelude.{◌≡◌, ℕ, ◌+◌, ◌-◌, ◌<◌, ◌≤◌, Bool, List, ◌++◌, length, take, drop, replicate, nat_eq, nat_le, slice_index_or};
+ghost use Rattle.std.specs.Prelude.{◌≡◌, ℕ, ◌-◌, ◌<◌, ◌≤◌, Bool, List, ◌++◌, length, take, drop, replicate, nat_eq, nat_le, slice_index_or};
 ghost use Rattle.std.specs.Simd.Lanes.{zip2};
 ghost use Rattle.escape_lanes.specs.Bits.{first_set, none_set, clear_last};
 
@@ -95,7 +95,7 @@ pub trait Simd: Sized + Drop {
     ghost mask_width: { Self.Mask.BitMask.LEN ≡ LANES };
 }
 
-/// What short texts need of a vector beside: a text's last bytes.
+/// What short texts need besides: a text's last bytes in a vector.
 pub trait LoadLast: Simd {
     /// Returns the last `count` bytes of `src` in the first lanes, and zeros in the others.
     ///

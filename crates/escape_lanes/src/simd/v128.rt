@@ -173,10 +173,10 @@ impl<const MODE: u8> Classifier<MODE, 16> for Simd128u {
     }
 }
 
-/// Returns in each lane the bits of `kept`, with those of `flipped` flipped, and `more` on top: 0x80 or more
-/// where what is kept and flipped is not below `80 - more`.
+/// Returns in each lane its bits `kept`, with the bits `flipped` flipped, plus `more`: 0x80 or more where what
+/// is kept and flipped is at least `0x80 - more`.
 ///
-/// All three are below 80, so no lane runs over into the next.
+/// All three are below 0x80, so no sum carries into the next lane.
 #[inline(always)]
 fn sums(lanes: u64, kept: u8, flipped: u8, more: u8) -> u64
     requires kept { kept < 0x80 }

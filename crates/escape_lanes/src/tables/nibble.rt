@@ -29,8 +29,8 @@ pub(crate) static SCRIPT_LO_NIBBLE_TAB: [u8; 16] = [
 
 /// The sums where the low four bits add nothing.
 ///
-/// Control characters, 0 and 1, are far from both ends. Of the others, 2 and e fall short of 80,
-/// and 3 and 5 are past ff: 2 and 6 among the low bits add what `"`, `&` and e2 lack, and c and e
+/// Control characters, 0 and 1, are far from both ends. Of the others, 2 and e fall short of 0x80,
+/// and 3 and 5 are past 0xff: 2 and 6 among the low bits add what `"`, `&` and e2 lack, and c and e
 /// take away what `<`, `>` and `\` are too much.
 pub(crate) static SCRIPT_HI_NIBBLE_TAB: [u8; 16] = [
     0xc0, 0xc0, 0x70, 0x00, 0x40, 0x10, 0x40, 0x40, 0x40, 0x40, 0x40, 0x40, 0x40, 0x40, 0x60, 0x40,

@@ -1,5 +1,5 @@
 //! Many texts, one after another.
-ghost use Rattle.std.specs.Prelude.{◌≡◌, ◌+◌, ◌<◌, ◌≤◌, ◌↔◌, ◌++◌, length, map, take, All, IfErr, OnOk, IfSome, slice_get};
+ghost use Rattle.std.specs.Prelude.{◌≡◌, ◌<◌, ◌≤◌, ◌↔◌, ◌++◌, length, map, take, All, IfErr, OnOk, IfSome, slice_get};
 ghost use Rattle.std.specs.List.{concat};
 ghost use Rattle.escape_lanes.specs.Mode.{html};
 ghost use Rattle.escape_simd.specs.Output.{plain, bound};

@@ -1,5 +1,5 @@
 //! Which bytes of a text are flagged, and whether nothing in a text needs an escape.
-ghost use Rattle.std.specs.Prelude.{◌≡◌, ◌+◌, ◌-◌, ◌*◌, ◌<◌, ◌≤◌, ◌↔◌, true, false, length, take, drop};
+ghost use Rattle.std.specs.Prelude.{◌≡◌, ◌+◌, ◌<◌, ◌≤◌, ◌↔◌, true, false, length, take, drop};
 ghost use Rattle.std.specs.List.{count_by};
 ghost use Rattle.escape_lanes.specs.Masks.{IsMaskOf};
 ghost use Rattle.escape_lanes.specs.Replacement.{needs_escape};

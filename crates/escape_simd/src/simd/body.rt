@@ -1,5 +1,5 @@
 //! The body of all kernels: a text's bytes by chunks, by vectors, and the last ones.
-ghost use Rattle.std.specs.Prelude.{◌+◌, ◌*◌, ◌/◌, ◌<◌, ◌≤◌, true, length};
+ghost use Rattle.std.specs.Prelude.{◌+◌, ◌/◌, true, length};
 ghost use Rattle.escape_lanes.specs.Written.{bytes_of};
 ghost use Rattle.escape_simd.specs.Modes.{mode_numbered};
 ghost use Rattle.escape_simd.specs.Stretch.{Advanced, HasRoom, reach, state};

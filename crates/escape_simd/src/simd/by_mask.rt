@@ -14,7 +14,7 @@ use escape_lanes::simd::mode::is_script;
 use escape_lanes::simd::target::{Target, Ticks};
 use escape_lanes::simd::traits::LoadStore;
 
-/// Passes the clean bytes from `from` on of a vector that ends at `border`, whose last escape was written.
+/// Stores the clean bytes from `from` on of a vector that ends at `border`, whose last escape was written.
 /// Returns the places after them.
 #[inline]
 fn finish_vector<V: LoadStore, const MODE: u8, const N: usize, const LAST: bool>(
@@ -52,7 +52,7 @@ fn finish_vector<V: LoadStore, const MODE: u8, const N: usize, const LAST: bool>
 /// The vector is stored. Then each turn passes the clean bytes before a run, escapes it and stores the vector
 /// after it. The loop ends in mid-turn: so a vector of one run takes no branch of the loop.
 #[inline(always)]
-pub(crate) fn escape_by_turns<V: LoadStore, const MODE: u8, const N: usize, const LAST: bool>(
+fn escape_by_turns<V: LoadStore, const MODE: u8, const N: usize, const LAST: bool>(
     text: &[u8],
     valid: usize,
     mut mask: EscapeMask<MODE>,

@@ -11,8 +11,8 @@ use crate::simd::store::{load_vector, store_lanes};
 use escape_lanes::simd::escape_mask::{EscapeMask, classify_four};
 use escape_lanes::simd::target::{Target, Ticks};
 
-/// Escapes the text's vector at `at` by its mask, from `from` on: a separator may begin in the one before.
-/// Returns the places after it.
+/// Escapes the text's vector at `at` by its mask, from `from` on: a separator of the vector before may end
+/// there. Returns the places after it.
 #[inline(always)]
 pub(crate) fn vector_from<V: Classifier<MODE, N>, const MODE: u8, const N: usize>(
     src: &[u8],

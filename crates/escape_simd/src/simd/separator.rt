@@ -1,5 +1,5 @@
 //! The separators, U+2028 and U+2029: the two characters of more than one byte that a mode escapes.
-ghost use Rattle.std.specs.Prelude.{◌≡◌, ◌+◌, ◌<◌, ◌==◌, true, false, length, drop, codes, if◌then◌else◌};
+ghost use Rattle.std.specs.Prelude.{◌≡◌, ◌<◌, ◌==◌, true, false, length, drop, codes, if◌then◌else◌};
 ghost use Rattle.escape_lanes.specs.Entry.{padded};
 ghost use Rattle.escape_lanes.specs.Mode.{script};
 ghost use Rattle.escape_simd.specs.Modes.{mode_numbered};

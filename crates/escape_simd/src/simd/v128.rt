@@ -1,5 +1,5 @@
 //! The kernel of 16 lanes in two words of 64 bits, by plain arithmetic.
-ghost use Rattle.std.specs.Prelude.{◌+◌, ◌≤◌, length, take, chars};
+ghost use Rattle.std.specs.Prelude.{◌≤◌, length, take, chars};
 ghost use Rattle.escape_lanes.specs.Mode.{mode_of, script};
 ghost use Rattle.escape_lanes.specs.Written.{bytes_of};
 ghost use Rattle.escape_simd.specs.Output.{bound};
@@ -11,11 +11,18 @@ use crate::simd::{HTML_MODE, JSON_MODE, SCRIPT_MODE, whole};
 use escape_lanes::simd::target::{Target, Ticks};
 pub use escape_lanes::simd::v128::{Mask128, Simd128u, escaped_mask, script_mask};
 
-/// Escapes the text to the front of the target, as HTML if `HTML`, else as a JSON string literal,
-/// and returns how many bytes it became.
+/// Writes the output of a text to the front of the target: as HTML if `HTML`, else as a JSON string literal.
+/// Returns the length of the output in bytes. The call allocates nothing and does not fail.
 ///
-/// A text of n bytes needs a target of at least 6n + 35 bytes in JSON, and 6n + 32 in HTML. No byte
-/// from that place on changes, and none that is 16 or more past the output's end.
+/// For a text of `n` bytes, the target must have at least `6 * n + 35` bytes, in HTML `6 * n + 32`. Its bytes
+/// from that index on are unchanged, and so are those that are 16 or more past the end of the output. The
+/// target counts the writes, `ticks` the classifications.
+///
+/// ```rust
+/// let mut dst = [0; 38];
+/// let mut target = target::Target::new(&mut dst);
+/// let len = v128::format_target::<true>("<", &mut target, &mut target::Ticks::new()); // 4
+/// ```
 #[inline(never)]
 pub fn format_target<const HTML: bool>(
     value: &str,
@@ -50,11 +57,13 @@ pub fn format_string<const HTML: bool>(value: &str, dst: &mut [u8]) -> usize
     whole::format_string::<Simd128u, { JSON_MODE }, 16>(value, dst)
 }
 
-/// Escapes the text to the front of the target as a JSON string literal that can stand in a script
-/// element, and returns how many bytes it became.
+/// As [`format_target`], as a JSON string literal that is safe inside a script element.
 ///
-/// A text of n bytes needs a target of at least 6n + 35 bytes. No byte from that place on changes, and
-/// none that is 16 or more past the output's end.
+/// ```rust
+/// let mut dst = [0; 41];
+/// let mut target = target::Target::new(&mut dst);
+/// let len = v128::format_script_target("<", &mut target, &mut target::Ticks::new()); // 8
+/// ```
 #[inline(never)]
 pub fn format_script_target(value: &str, target: &mut Target<'_, 16>, ticks: &mut Ticks) -> usize
     requires has_room { bound script (length value.now) ≤ length (bytes_of target.old) }

@@ -1,5 +1,5 @@
 //! Whole texts: to a target, and to a slice with quotation marks or without.
-ghost use Rattle.std.specs.Prelude.{◌+◌, ◌*◌, ◌<◌, ◌≤◌, true, length, take, chars};
+ghost use Rattle.std.specs.Prelude.{◌+◌, ◌<◌, ◌≤◌, true, length, take, chars};
 ghost use Rattle.escape_lanes.specs.Written.{bytes_of};
 ghost use Rattle.escape_simd.specs.Formatted.{IsFormatted, IsQuoted, IsWritten};
 ghost use Rattle.escape_simd.specs.Headline.{IsOnlyOutput};
@@ -64,7 +64,7 @@ pub(crate) fn format_string<V: Classifier<MODE, N>, const MODE: u8, const N: usi
 
 /// Escapes the text to `dst` from `to` on, between quotation marks if `QUOTED`. Returns the place after it.
 ///
-/// A clean short text needs no frame: the other two write what it wrote again, and are tail calls.
+/// A clean short text needs no stack frame: the two calls are tail calls, and write the first mark again.
 #[inline(never)]
 pub(crate) fn escape_to_slice<
     V: Classifier<MODE, N>,

@@ -12,7 +12,7 @@ use crate::simd::v128::{Simd128u, lane_bits, sums};
 /// Returns flags where a script literal has to look at the byte, in one word.
 ///
 /// Each sum takes the low seven bits: those of the wanted bytes are flipped to the greatest numbers
-/// below 80. Of the bytes that are not ASCII, e2 alone is wanted.
+/// below 0x80. Of the bytes that are not ASCII, e2 alone is wanted.
 #[inline(always)]
 fn script_needs(lanes: u64) -> u64
     ensures { flagged_lanes (lanes_of_word result) ≡ map (needs_escape script) (lanes_of_word lanes) }

@@ -12,7 +12,7 @@ use escape_text::json::{
     escape_script_array_into, escape_script_compact, escape_script_into_string,
     escape_script_to_writer, escape_to_writer,
 };
-use std::alloc::{AllocError, Allocator, Global};
+use std::alloc::{AllocError, Global};
 use std::fmt::Write;
 
 /// Each mode.
@@ -27,7 +27,7 @@ pub const KERNELS: [Kernel; 5] = [
     Kernel::Avx512,
 ];
 
-/// A call that each mode has.
+/// A call that [some modes](is_of) have.
 #[derive(Debug, Clone, Copy)]
 pub enum Call {
     /// To a vector.
@@ -36,7 +36,7 @@ pub enum Call {
     Writer,
     /// Of a text twice, to a vector: as an array, in HTML with nothing between.
     Twice,
-    /// Of a text twice with a separator, to a vector; in script mode as an array.
+    /// Of a text twice with a separator, to a vector.
     Joined,
     /// To a string.
     Text,
@@ -46,7 +46,7 @@ pub enum Call {
     Returned,
     /// Returns a string of the output's length.
     Compact,
-    /// Returns the text itself if it is clean; in another mode than HTML as `Compact`.
+    /// Returns the text itself if it is clean.
     Borrowed,
 }
 
@@ -65,7 +65,16 @@ const CALLS: [Call; 9] = [
 /// What a vector or a string holds before.
 const BEFORE: &str = "\u{e9}\"";
 
-/// The first call that fails or writes something else than `output` for the text, where vectors and strings have this
+/// Whether the mode has the call.
+fn is_of(mode: Mode, call: Call) -> bool {
+    match call {
+        Call::Joined => mode != Mode::Script,
+        Call::Borrowed => mode == Mode::Html,
+        _ => true,
+    }
+}
+
+/// The first call of the mode that fails or writes something else than `output` for the text, where vectors and strings have this
 /// spare capacity.
 pub fn differing_call(
     alloc: Global,
@@ -75,7 +84,7 @@ pub fn differing_call(
     spare: usize,
 ) -> Option<Call> {
     for call in CALLS {
-        if !writes(alloc, call, mode, text, output, spare) {
+        if is_of(mode, call) && !writes(alloc, call, mode, text, output, spare) {
             return Some(call);
         }
     }
@@ -97,7 +106,8 @@ fn writes(alloc: Global, call: Call, mode: Mode, text: &str, output: &[u8], spar
             Err(_) => false,
         },
         Call::Joined => match vector(alloc, spare) {
-            Ok(mut dst) => append_joined(mode, text, &mut dst) && is_joined(mode, &dst, output),
+            Ok(mut dst) => append_joined(mode, text, &mut dst)
+                && has(&dst, &[output, b"; ", output]),
             Err(_) => false,
         },
         Call::Text => match string(alloc, spare) {
@@ -111,7 +121,7 @@ fn writes(alloc: Global, call: Call, mode: Mode, text: &str, output: &[u8], spar
         },
         Call::Returned => is_string(returned(alloc, mode, text), output),
         Call::Compact => is_string(compact(alloc, mode, text), output),
-        Call::Borrowed => is_borrowed(alloc, mode, text, output),
+        Call::Borrowed => is_borrowed(alloc, text, output),
     }
 }
 
@@ -141,11 +151,7 @@ fn has(bytes: &[u8], parts: &[&[u8]]) -> bool {
     rest.is_empty()
 }
 
-pub(crate) fn append<A: Allocator>(
-    mode: Mode,
-    text: &str,
-    dst: &mut Vec<u8, A>,
-) -> Result<(), Refusal> {
+fn append(mode: Mode, text: &str, dst: &mut Vec<u8>) -> Result<(), Refusal> {
     match mode {
         Mode::Json => escape_into(text, dst)?,
         Mode::Html => escape_html_into(text, dst)?,
@@ -179,24 +185,12 @@ fn is_twice(mode: Mode, bytes: &[u8], output: &[u8]) -> bool {
 
 fn append_joined(mode: Mode, text: &str, dst: &mut Vec<u8>) -> bool {
     match mode {
-        Mode::Json => escape_joined_into(&[text, text], "; ", dst).is_ok(),
         Mode::Html => escape_html_joined_into(&[text, text], "; ", dst).is_ok(),
-        Mode::Script => append_twice(mode, text, dst),
+        _ => escape_joined_into(&[text, text], "; ", dst).is_ok(),
     }
 }
 
-fn is_joined(mode: Mode, bytes: &[u8], output: &[u8]) -> bool {
-    match mode {
-        Mode::Script => is_twice(mode, bytes, output),
-        _ => has(bytes, &[output, b"; ", output]),
-    }
-}
-
-pub(crate) fn append_text<A: Allocator>(
-    mode: Mode,
-    text: &str,
-    dst: &mut String<A>,
-) -> Result<(), Refusal> {
+fn append_text(mode: Mode, text: &str, dst: &mut String) -> Result<(), Refusal> {
     match mode {
         Mode::Json => escape_into_string(text, dst)?,
         Mode::Html => escape_html_into_string(text, dst)?,
@@ -228,11 +222,7 @@ fn returned(alloc: Global, mode: Mode, text: &str) -> Result<String, Refusal> {
     })
 }
 
-pub(crate) fn compact<A: Allocator>(
-    alloc: A,
-    mode: Mode,
-    text: &str,
-) -> Result<String<A>, Refusal> {
+fn compact(alloc: Global, mode: Mode, text: &str) -> Result<String, Refusal> {
     Ok(match mode {
         Mode::Json => escape_compact(alloc, text)?,
         Mode::Html => escape_html_compact(alloc, text)?,
@@ -240,10 +230,7 @@ pub(crate) fn compact<A: Allocator>(
     })
 }
 
-fn is_borrowed(alloc: Global, mode: Mode, text: &str, output: &[u8]) -> bool {
-    if mode != Mode::Html {
-        return is_string(compact(alloc, mode, text), output);
-    }
+fn is_borrowed(alloc: Global, text: &str, output: &[u8]) -> bool {
     match escape_html_cow(alloc, text) {
         Ok(string) => string.as_bytes() == output,
         Err(_) => false,

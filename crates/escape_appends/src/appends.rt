@@ -74,8 +74,8 @@ fn is_of(mode: Mode, call: Call) -> bool {
     }
 }
 
-/// The first call of the mode that fails or writes something else than `output` for the text, where vectors and strings have this
-/// spare capacity.
+/// The first call of the mode that fails or writes something else than `output` for the text, where vectors and
+/// strings have this spare capacity.
 pub fn differing_call(
     alloc: Global,
     mode: Mode,

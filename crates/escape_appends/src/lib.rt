@@ -1,4 +1,5 @@
-//! The calls that C can't make, those that take memory, a writer or a reader, for `c/tests/appends.c`. It is for tests alone.
+//! The calls that C can't make, those that take memory, a writer or a reader, for `c/tests/appends.c`. It is for tests
+//! alone.
 #![tactic(auto)]
 
 mod appends;

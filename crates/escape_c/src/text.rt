@@ -64,8 +64,8 @@ fn is_usual(mode: u32, kernel: u32, text: &[u8], is_known: bool, room: usize) ->
         && chosen(mode, kernel, text.len(), room).is_ok()
 }
 
-/// Escapes the text to the front of `buffer`, with quotation marks or, if `is_inner`, without. The text is checked unless
-/// `is_known` says that it is one. The exports do the usual calls themselves: they need no frame then.
+/// Escapes the text to the front of `buffer`, with quotation marks or, if `is_inner`, without. The text is checked
+/// unless `is_known` says that it is one. The exports do the usual calls themselves: they need no frame then.
 #[tactic(auto, using(crate::proofs::PieceLemmas::bound_least, crate::proofs::PieceLemmas::joins_pieces))]
 #[inline(never)]
 fn escape(

@@ -54,7 +54,8 @@ fn masks_that_are_cut(rt: HostRuntime) {
     assert!(rt; are_cut(&CUTS_OF_64));
 }
 
-/// `NeonBits::new` takes four bits for each lane. Its number, how many of its last lanes are cut, and the first lane that is left.
+/// `NeonBits::new` takes four bits for each lane. Its number, how many of its last lanes are cut, and the first lane
+/// that is left.
 static NEON_CUTS: [(u64, usize, usize); 9] = [
     (0, 0, 16),
     (0x200, 0, 2),

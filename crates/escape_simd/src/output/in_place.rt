@@ -11,7 +11,8 @@ use escape_lanes::simd::escape_mask::EscapeMask;
 use escape_lanes::simd::lane_bits::count_flagged;
 use std::alloc::Allocator;
 
-/// The largest number of bytes of a text that are escaped at a time: so the zeros for them are still in the first cache.
+/// The largest number of bytes of a text that are escaped at a time: so the zeros for them are still in the first
+/// cache.
 const PIECE: usize = 2048;
 
 /// How many zeros are enough for most short texts: a text's own bytes, five more for each escape, and a vector.

@@ -31,8 +31,7 @@ pub(crate) fn mode_of_number(mode: u32) -> Result<Mode, Refusal>
     }
 }
 
-/// Returns the bytes as a text, if they are UTF-8. `is_known` skips that check. `is_asked` skips the question whether
-/// they are ASCII, which the caller asked.
+/// Returns the bytes as a text, if they are UTF-8. `is_known` skips the check, `is_asked` the test for ASCII before it.
 #[inline(always)]
 pub(crate) fn as_text(bytes: &[u8], is_known: bool, is_asked: bool) -> Result<&str, Refusal>
     requires { is_known ≡ true → IsUtf8 bytes.now }

@@ -46,11 +46,10 @@ fn chosen(mode: u32, kernel: u32, len: usize, room: usize) -> Result<(Mode, Kern
     Ok((mode, kernel))
 }
 
-/// The largest text, in bytes, of which [`is_usual`] asks whether it is ASCII.
+/// The largest text, in bytes, of which [`is_usual`] asks whether it is ASCII, so that [`escape`] need not.
 const SHORT: usize = 64;
 
-/// Returns whether this is the usual call: by the default kernel, of a text that is known to be UTF-8 or is short and
-/// ASCII, and not refused.
+/// Returns whether the call is usual: by the default kernel, of a known text or a short ASCII one, and not refused.
 #[inline(always)]
 fn is_usual(mode: u32, kernel: u32, text: &[u8], is_known: bool, room: usize) -> bool
     requires { is_known ≡ true → IsUtf8 text.now }
@@ -84,7 +83,6 @@ fn escape(
     ensures inner { result ≡ 0 → is_inner ≡ true
         → EscapesInner mode kernel text.now buffer.old buffer.new count.new }
 {
-    // Of these `is_usual` asked already.
     let is_asked = kernel == 0 && text.len() <= SHORT;
     let written = match chosen(mode, kernel, text.len(), buffer.len()) {
         Ok((mode, kernel)) => match as_text(text, is_known, is_asked) {

@@ -16,20 +16,24 @@ def copied():
         yield Path(shutil.copytree(TOP, Path(room) / "copy", symlinks=True, ignore=made))
 
 
-def path_of(edit):
-    """The file of an edit, which is named as CRATE/FUNCTION.NAME: a must-fail edit, or one of tools/bodies."""
-    crate, name = edit.split("/")
-    must_fail = TOP / "crates" / crate / "must-fail" / f"{name}.edit"
-    return must_fail if must_fail.exists() else TOP / "tools/bodies" / f"{crate}.{name}.edit"
+def crate_of(path):
+    """The crate that an edit changes: crates/CRATE/must-fail/FUNCTION.NAME.edit or tools/bodies/CRATE.FUNCTION.NAME.edit."""
+    return path.parents[1].name if path.parent.name == "must-fail" else path.name.split(".")[0]
 
 
-def says_answer(edit):
-    """Whether tools/answers.list has the edit, named as CRATE/FUNCTION.NAME: an answer by hand alone refuses it."""
-    return edit in (TOP / "tools/answers.list").read_text().split()
+def note(path, word):
+    """What a comment of the edit says behind the word, or None."""
+    lines = path.read_text().splitlines()
+    return next((line.partition(": ")[2] for line in lines if line.startswith(f"# {word}: ")), None)
+
+
+def says_answer(path):
+    """Whether the edit notes that an answer by hand alone refuses it."""
+    return note(path, "refused by") == "an answer"
 
 
 def edited(folder, path):
-    """The texts of the crate in the folder that the edit of that path changes, by their files, as it leaves them."""
+    """The texts of the crate in the folder that the edit changes, by their files, as it leaves them."""
     texts = {}
     for line in path.read_text().splitlines():
         word, _, value = line.partition(":")
@@ -47,9 +51,9 @@ def edited(folder, path):
 
 
 @contextlib.contextmanager
-def applied(copy, edit):
+def applied(copy, path):
     """Applies an edit to the copy, and takes it back at the end."""
-    texts = edited(copy / "crates" / edit.split("/")[0], path_of(edit))
+    texts = edited(copy / "crates" / crate_of(path), path)
     before = {path: path.read_text() for path in texts}
     try:
         for path, text in texts.items():

@@ -31,16 +31,16 @@ pub(crate) fn mode_of_number(mode: u32) -> Result<Mode, Refusal>
     }
 }
 
-/// Returns the bytes as a text, if they are UTF-8. `is_known` skips the check, `is_asked` the test for ASCII before it.
+/// Returns the bytes as a text, if they are UTF-8. `is_known` skips the check, `is_ascii_asked` the first test.
 #[inline(always)]
-pub(crate) fn as_text(bytes: &[u8], is_known: bool, is_asked: bool) -> Result<&str, Refusal>
+pub(crate) fn as_text(bytes: &[u8], is_known: bool, is_ascii_asked: bool) -> Result<&str, Refusal>
     requires { is_known ≡ true → IsUtf8 bytes.now }
     ensures text { IfOk result (λ text. text.now ≡ bytes.now) }
     ensures ok { IsOk result ↔ IsUtf8 bytes.now }
     ensures err { OnErr result (result ≡ Err Refusal.NotUtf8) }
 {
     // Most texts are ASCII: this is asked by words, with no call.
-    if is_known || !is_asked && bytes.is_ascii() {
+    if is_known || !is_ascii_asked && bytes.is_ascii() {
         return Ok(unsafe { str::from_utf8_unchecked(bytes) });
     }
     str::from_utf8(bytes).ok().ok_or(Refusal::NotUtf8)

@@ -83,9 +83,9 @@ fn escape(
     ensures inner { result ≡ 0 → is_inner ≡ true
         → EscapesInner mode kernel text.now buffer.old buffer.new count.new }
 {
-    let is_asked = kernel == 0 && text.len() <= SHORT;
+    let is_ascii_asked = kernel == 0 && text.len() <= SHORT;
     let written = match chosen(mode, kernel, text.len(), buffer.len()) {
-        Ok((mode, kernel)) => match as_text(text, is_known, is_asked) {
+        Ok((mode, kernel)) => match as_text(text, is_known, is_ascii_asked) {
             Ok(text) if is_inner => Ok(format_inner(kernel, mode, text, buffer)),
             Ok(text) => Ok(format_text(kernel, mode, text, buffer)),
             Err(why) => Err(why),

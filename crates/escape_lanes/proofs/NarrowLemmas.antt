@@ -2,7 +2,7 @@
 use Rattle.std.proofs.Common.{◌≡◌, ℕ, zero, suc, ◌+◌, ◌*◌, ◌/◌, ◌%◌, ◌<◌, true, not, ◌∷◌, length, map, nat_eq, nat_le, bit_and, bit_or, get_or, refl, ap, ◌∙◌, arith}
 use Rattle.std.proofs.lemmas.Bool.{agree_below_at, eqb-true}
 use Rattle.std.specs.Simd.Lanes.{number_l, digits_l}
-use Rattle.escape_lanes.specs.Bits.{lanes_of, nibbles_of}
+use Rattle.escape_lanes.specs.Bits.{groups_of, nibbles_of}
 use Rattle.escape_lanes.specs.Lanes.{AreBytes, flagged_lanes}
 
 -- both halves of a byte, each in a byte of its own, and 0x7f more
@@ -17,8 +17,8 @@ half-flagged : (p : ℕ) → p < 16 → nat_le 0x80 (p + 127) ≡ not (nat_eq p 
 half-flagged p small = agree_below_at (λ p. nat_le 0x80 (p + 127)) (λ p. not (nat_eq p 0)) 16 p refl small
 
 -- the halves of k bytes of a number, each in a lane
-widened : (k n : ℕ) → flagged_lanes (digits_l 256 (2 * k) (number_l 65536 (map apart (digits_l 256 k n)))) ≡ lanes_of 4 (2 * k) n
-unfolding lanes_of
+widened : (k n : ℕ) → flagged_lanes (digits_l 256 (2 * k) (number_l 65536 (map apart (digits_l 256 k n)))) ≡ groups_of 4 (2 * k) n
+unfolding groups_of
 widened zero n = refl
 widened (suc k) n =
     let b : ℕ = n % 256 in let r = number_l 65536 (map apart (digits_l 256 k (n / 256))) in

@@ -38,11 +38,11 @@ unfolding bits_of
 length-bits_of zero n = refl
 length-bits_of (suc k) n = ap suc (length-bits_of k (n / 2))
 
--- the lowest k lanes of w bits each, lowest first: a lane is set where its bits aren't all zero
-unfoldable pub lanes_of : ℕ → ℕ → ℕ → List Bool
-lanes_of w zero n = []
-lanes_of w (suc k) n = not (nat_eq (n % 2 ^ w) 0) ∷ lanes_of w k (n / 2 ^ w)
+-- the lowest k groups of w bits, lowest first: one is set where its bits aren't all zero
+unfoldable pub groups_of : ℕ → ℕ → ℕ → List Bool
+groups_of w zero n = []
+groups_of w (suc k) n = not (nat_eq (n % 2 ^ w) 0) ∷ groups_of w k (n / 2 ^ w)
 
--- the lowest k lanes of four bits each
+-- the lowest k groups of four bits
 abbrev pub nibbles_of : ℕ → ℕ → List Bool
-nibbles_of = lanes_of 4
+nibbles_of = groups_of 4

@@ -11,13 +11,13 @@ begins_separator bytes =
     (slice_index_or bytes 0 0 == 0xe2) && (slice_index_or bytes 1 0 == 0x80)
     && ((slice_index_or bytes 2 0 == 0xa8) || (slice_index_or bytes 2 0 == 0xa9))
 
--- how many of the bytes the first of what stands for them stands for
+-- how many of the bytes the first replacement stands for: three for a separator in a script, else one
 abbrev pub source_len : Mode → List ℕ → ℕ
 source_len json bytes = 1
 source_len html bytes = 1
 source_len script bytes = if begins_separator bytes then 3 else 1
 
--- what stands for so many of the bytes
+-- what stands for so many of the bytes, the first ones
 abbrev pub first_replacement : Mode → List ℕ → List ℕ
 first_replacement json bytes = replacement json (slice_index_or bytes 0 0)
 first_replacement html bytes = replacement html (slice_index_or bytes 0 0)

@@ -111,9 +111,7 @@ pub fn format_json_str<'a>(kernel: Kernel, value: &str, dst: &'a mut [u8]) -> &'
     requires has_room { bound json (length value.now) ≤ length dst.old }
     ensures output { IsEscaping json value.now result.now }
 {
-    let count = format_json_string(kernel, value, dst);
-    // The output for a text is a text.
-    unsafe { str::from_utf8_unchecked(&dst[..count]) }
+    format_str(kernel, Mode::Json, value, dst)
 }
 
 /// Writes a text as HTML, with `"`, `&`, `'`, `/`, `<` and `>` as entities, to the front of `dst`, with the kernel
@@ -151,9 +149,7 @@ pub fn format_html_str<'a>(kernel: Kernel, value: &str, dst: &'a mut [u8]) -> &'
     // Examples of what HTML reads as.
     ensures examples { HtmlExamples }
 {
-    let count = format_html_string(kernel, value, dst);
-    // The output for a text is a text.
-    unsafe { str::from_utf8_unchecked(&dst[..count]) }
+    format_str(kernel, Mode::Html, value, dst)
 }
 
 /// Writes a JSON string literal of a text that is safe inside a script element of an HTML page, with its quotation
@@ -190,9 +186,7 @@ pub fn format_script_str<'a>(kernel: Kernel, value: &str, dst: &'a mut [u8]) -> 
     requires has_room { bound script (length value.now) ≤ length dst.old }
     ensures output { IsEscaping script value.now result.now }
 {
-    let count = format_script_string(kernel, value, dst);
-    // The output for a text is a text.
-    unsafe { str::from_utf8_unchecked(&dst[..count]) }
+    format_str(kernel, Mode::Script, value, dst)
 }
 
 /// Writes the JSON string literal of a text without its quotation marks to the front of `dst`, with the kernel
@@ -244,6 +238,16 @@ pub fn format_script_inner(kernel: Kernel, value: &str, dst: &mut [u8]) -> usize
     ensures examples { ScriptExamples }
 {
     format_inner(kernel, Mode::Script, value, dst)
+}
+
+/// Writes what [`format_text`] writes, and returns it.
+fn format_str<'a>(kernel: Kernel, mode: Mode, value: &str, dst: &'a mut [u8]) -> &'a str
+    requires { bound (escaping mode) (length value.now) ≤ length dst.old }
+    ensures { IsEscaping (escaping mode) value.now result.now }
+{
+    let count = format_text(kernel, mode, value, dst);
+    // The output for a text is a text.
+    unsafe { str::from_utf8_unchecked(&dst[..count]) }
 }
 
 /// Writes what stands for the text in the mode numbered `MODE` to the front of `dst`, by the kernel, between quotation

@@ -117,13 +117,12 @@ pub fn append<const MODE: u8, A: Allocator>(
     ensures too_large { (result ≡ Err Refusal.TooLarge)
         ↔ (usize.MAX < bound (mode_numbered MODE) (length value.now)) }
     ensures fits { OnOk result (bound (mode_numbered MODE) (length value.now) ≤ usize.MAX) }
-    ensures vector_size { OnOk result (vec_len dst.old + bound (mode_numbered MODE) (length value.now) < 2 ^ 63) }
+    ensures vector_size { OnOk result
+        (vec_len dst.old + bound (mode_numbered MODE) (length value.now) < 2 ^ 63) }
     ensures has_room { vec_len dst.old + bound (mode_numbered MODE) (length value.now)
         ≤ vec_capacity dst.old → IsOk result }
 {
-    let Some(scratch) = scratch_bound::<MODE>(value.len()) else {
-        return Err(Refusal::TooLarge);
-    };
+    let scratch = scratch_bound::<MODE>(value.len()).ok_or(Refusal::TooLarge)?;
     dst.reserve(scratch)?;
     append_reserved::<MODE, A>(value, dst);
     Ok(())
@@ -149,9 +148,7 @@ pub(crate) fn text<const MODE: u8, A: Allocator>(
     ensures too_large { (result ≡ Err Refusal.TooLarge)
         ↔ (usize.MAX < bound (mode_numbered MODE) (length value.now)) }
 {
-    let Some(capacity) = scratch_bound::<MODE>(value.len()) else {
-        return Err(Refusal::TooLarge);
-    };
+    let capacity = scratch_bound::<MODE>(value.len()).ok_or(Refusal::TooLarge)?;
     let mut bytes = Vec::with_capacity(alloc, capacity)?;
     append_reserved::<MODE, A>(value, &mut bytes);
     // The output for a text is a text.

@@ -2,6 +2,7 @@
 
 pub mod avx2;
 pub mod avx512;
+mod blocks;
 mod body;
 mod by_mask;
 mod chunk;
@@ -16,7 +17,6 @@ pub(crate) mod whole;
 
 pub(crate) use escape_lanes::simd::classifier::Classifier;
 pub use escape_lanes::simd::mode::{HTML_MODE, JSON_MODE, SCRIPT_MODE};
-pub(crate) use escape_lanes::simd::traits::LoadStore;
 pub use escape_lanes::simd::{BitMask, Mask, Simd, bits, target};
 pub(crate) use store::load_vector;
 pub(crate) use tail::{classify_pair, classify_short};

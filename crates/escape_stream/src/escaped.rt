@@ -43,22 +43,13 @@ pub(crate) fn write_escaped<A: Allocator, W: Write>(
     if mode.capacity(text.len()).is_err() {
         return Err(ToolFault::TooLarge);
     }
-    let mut room = zeros(alloc, 6 * PIECE.min(text.len()) + 32)?;
-    write_whole(mode, kernel, text, room.as_mut_slice(), output)
-}
-
-fn zeros<A: Allocator>(alloc: A, count: usize) -> Result<Vec<u8, A>, ToolFault>
-    ensures length { IfOk result (λ zeros. length zeros.items ≡ count) }
-    ensures fault { IfErr result (λ fault. fault ≡ ToolFault.OutOfMemory) }
-{
-    match vec![in alloc; 0; count] {
-        Ok(zeros) => Ok(zeros),
-        Err(_) => Err(ToolFault::OutOfMemory),
-    }
+    let zeros = vec![in alloc; 0; 6 * PIECE.min(text.len()) + 32];
+    let mut room = zeros.map_err(|_| ToolFault::OutOfMemory)?;
+    write_output(mode, kernel, text, room.as_mut_slice(), output)
 }
 
 /// Writes the output of the text, whose pieces are escaped in `room`, and flushes once.
-fn write_whole<W: Write>(
+fn write_output<W: Write>(
     mode: Mode,
     kernel: Kernel,
     text: &str,

@@ -50,13 +50,9 @@ fn make_room<A: Allocator>(bytes: &mut Vec<u8, A>, filled: usize) -> Result<(), 
     if filled < bytes.len() {
         return Ok(());
     }
-    if bytes.reserve(WINDOW).is_err() {
-        return Err(ToolFault::OutOfMemory);
-    }
-    if bytes.resize(bytes.len() + WINDOW, 0).is_err() {
-        return Err(ToolFault::OutOfMemory);
-    }
-    Ok(())
+    bytes.reserve(WINDOW).map_err(|_| ToolFault::OutOfMemory)?;
+    let len = bytes.len() + WINDOW;
+    bytes.resize(len, 0).map_err(|_| ToolFault::OutOfMemory)
 }
 
 /// Reads once into the bytes past the first `filled` ones, and returns the number of bytes read.
@@ -69,8 +65,6 @@ fn read_after<R: Read>(input: &mut R, bytes: &mut [u8], filled: usize) -> Result
     ensures end { IfOk result (λ count. count ≡ 0 → IsAtEnd (R.remaining input.new)) }
     ensures fault { IfErr result (λ fault. fault ≡ ToolFault.ReadFailed) }
 {
-    match input.read(&mut bytes[filled..]) {
-        Ok(count) => Ok(count),
-        Err(_) => Err(ToolFault::ReadFailed),
-    }
+    let read = input.read(&mut bytes[filled..]);
+    read.map_err(|_| ToolFault::ReadFailed)
 }

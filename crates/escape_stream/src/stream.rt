@@ -112,8 +112,6 @@ pub fn run_in<A: Allocator + Copy, R: Read, W: Write>(
         (λ bytes. IsUtf8 bytes × (usize.MAX < bound (escaping mode) (length bytes))) }
 {
     let bytes = read_whole(alloc, input)?;
-    let Ok(text) = str::from_utf8(bytes.as_slice()) else {
-        return Err(ToolFault::NotUtf8);
-    };
+    let text = str::from_utf8(bytes.as_slice()).map_err(|_| ToolFault::NotUtf8)?;
     write_escaped(alloc, mode, kernel, text, output)
 }

@@ -21,7 +21,7 @@ pub fn choose(mode: &str, kernel: Option<&str>) -> Option<(Mode, Kernel)>
     let mode = mode_of_word(mode)?;
     let kernel = match kernel {
         Some(word) => kernel_of_word(word)?,
-        None => Kernel::Avx2,
+        None => Kernel::default(),
     };
     Some((mode, kernel))
 }

@@ -37,8 +37,5 @@ pub(crate) fn flush<W: Write>(output: &mut W) -> Result<(), ToolFault>
     ensures kept { Keeps (W.contents output.old) (W.contents output.new) }
     ensures fault { IfErr result (λ fault. fault ≡ ToolFault.WriteFailed) }
 {
-    match output.flush() {
-        Ok(()) => Ok(()),
-        Err(_) => Err(ToolFault::WriteFailed),
-    }
+    output.flush().map_err(|_| ToolFault::WriteFailed)
 }

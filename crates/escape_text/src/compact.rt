@@ -18,13 +18,8 @@ pub(crate) fn compact_text<const MODE: u8, A: Allocator>(
     ensures too_large { (result ≡ Err Refusal.TooLarge)
         ↔ (usize.MAX < length (plain (mode_numbered MODE) value.now)) }
 {
-    let Some(len) = escaped_len::<MODE>(value) else {
-        return Err(Refusal::TooLarge);
-    };
-    let mut bytes = Vec::with_capacity(alloc, len)?;
-    let Ok(()) = bytes.resize(len, 0) else {
-        unreachable!()
-    };
+    let len = escaped_len::<MODE>(value).ok_or(Refusal::TooLarge)?;
+    let mut bytes = vec![in alloc; 0; len]?;
     write_exact::<MODE>(value, &mut bytes);
     // The output for a text is a text.
     Ok(unsafe { String::from_utf8_unchecked(bytes) })

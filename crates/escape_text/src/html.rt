@@ -101,7 +101,8 @@ pub fn escape_html_into_string<A: Allocator>(
 /// reserves the length of the output and no more.
 ///
 /// The call makes at most one allocation, from `alloc`, of `n` to `6 * n` bytes for a text of `n` bytes. It goes
-/// through the text twice. [`escape_html`](escape_simd::html::escape_html) is faster, and its `String` keeps `6 * n + 32` bytes.
+/// through the text twice. [`escape_html`](escape_simd::html::escape_html) is faster, and its `String` keeps
+/// `6 * n + 32` bytes.
 ///
 /// # Errors
 ///

@@ -13,7 +13,7 @@ use std::fmt;
 /// [`page_into`](crate::page::page_into) keeps none.
 #[derive(Debug, Clone, Copy, PartialEq, Eq)]
 pub struct ListError<E> {
-    /// The index of the text or part that was refused: so many were appended before it.
+    /// The index of the text or part that was refused.
     pub written: usize,
     /// The reason for which it was refused.
     pub reason: E,

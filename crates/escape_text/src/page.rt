@@ -82,6 +82,7 @@ pub fn page_into<A: Allocator>(
         (stop.reason ≡ Refusal.TooLarge) ↔ (usize.MAX < bound_of_part part))) }
 {
     let len = dst.len();
+    // Each part has a mode of its own, so any number serves.
     let appended = append_joined::<{ HTML_MODE }, _, A>(parts, "", dst);
     if appended.is_err() {
         dst.truncate(len);

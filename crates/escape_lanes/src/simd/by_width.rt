@@ -6,7 +6,7 @@ use crate::simd::halves::{both_16, both_32};
 use crate::simd::last::{last_16, last_32, last_64};
 use std::simd::prelude::*;
 
-/// A width, as its vector.
+/// The steps that `std::simd` has only for a fixed width.
 pub trait ByWidth<const N: usize> {
     /// Returns what the table has at each place.
     fn look_up(table: &[u8; 16], places: &Simd<u8, N>) -> Simd<u8, N>

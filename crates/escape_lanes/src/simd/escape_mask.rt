@@ -6,7 +6,7 @@ ghost use Rattle.escape_lanes.specs.Masks.{is_clear, lanes_of_mask, mask_from, u
 ghost use Rattle.escape_lanes.specs.Mode.{mode_numbered};
 
 use crate::simd::classifier::Classifier;
-use crate::simd::lane_bits::{clear_first_lane, shift_lanes};
+use crate::simd::lane_bits::{clear_first_flag, shift_lanes};
 use crate::simd::ticks::{Tally, Ticks};
 use crate::simd::traits::BitMask;
 use std::marker::Model;
@@ -32,7 +32,7 @@ impl Known {
         Known {}
     }
 
-    // So many of the bytes, without the first ones, and told from one of them on.
+    // At most `_count` of the bytes, from `_skip` on. The mask tells of those from `_from` on.
     #[inline(always)]
     fn part(_whole: &Known, _skip: usize, _count: usize, _from: usize) -> Known
         ensures { (result.bytes ≡ take _count (drop _skip _whole.now.bytes)) × (result.from ≡ _from) }
@@ -133,7 +133,7 @@ impl<const MODE: u8> EscapeMask<MODE> {
             self.old.stored }
     {
         let next = self.first_offset() + 1;
-        let bits = clear_first_lane(self.bits);
+        let bits = clear_first_flag(self.bits);
         let of = Known::part(&self.of, 0, 64, next);
         (self.bits, self.of) = (bits, of);
     }

@@ -10,7 +10,7 @@ use crate::simd::traits::BitMask;
 /// Of `0b0110` that is `0b0100`.
 #[inline(always)]
 #[tactic(auto, using(crate::proofs::BitLemmas::some_bit, crate::proofs::BitLemmas::bits_first_cleared))]
-pub fn clear_first_lane(flags: u64) -> u64
+pub fn clear_first_flag(flags: u64) -> u64
     requires { none_set (bits_of 64 flags) ≡ false }
     ensures { bits_of 64 result ≡ clear_first (first_set (bits_of 64 flags) + 1) (bits_of 64 flags) }
 {

@@ -59,7 +59,7 @@ fn bytes_of(word: u64) -> [u8; 8]
 
 /// Returns the lanes of both words.
 #[inline(always)]
-fn lanes_of(v: &Simd128u) -> u8x16
+fn to_lanes(v: &Simd128u) -> u8x16
     ensures { result ≡ lanes_of_words v.now.low v.now.high }
 {
     let mut lanes = [0; 16];
@@ -126,7 +126,7 @@ impl Simd for Simd128u {
 
     #[inline(always)]
     fn eq(&self, rhs: &Self) -> Mask128 {
-        LaneMask::new(lanes::eq(&lanes_of(self), &lanes_of(rhs)))
+        LaneMask::new(lanes::eq(&to_lanes(self), &to_lanes(rhs)))
     }
 
     #[inline(always)]
@@ -139,7 +139,7 @@ impl Simd for Simd128u {
 
     #[inline(always)]
     fn le(&self, rhs: &Self) -> Mask128 {
-        LaneMask::new(lanes::le(&lanes_of(self), &lanes_of(rhs)))
+        LaneMask::new(lanes::le(&to_lanes(self), &to_lanes(rhs)))
     }
 }
 

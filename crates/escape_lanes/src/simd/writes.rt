@@ -16,7 +16,8 @@ const FIRST_HALVES: [usize; 16] = [0, 1, 2, 3, 4, 5, 6, 7, 16, 17, 18, 19, 20, 2
 impl<'a, const N: usize> Target<'a, N> {
     /// Writes the `N` lanes of `v` at `at`.
     ///
-    /// The vector has `N` lanes, and the target `N` bytes from `at` on.
+    /// The vector has `N` lanes, and the target `N` bytes from `at` on. A vector of your own needs
+    /// [`Simd`](crate::simd::traits::Simd) and [`LoadLast`](crate::simd::traits::LoadLast).
     #[inline(always)]
     pub fn store<S: LoadStore>(&mut self, at: usize, v: &S)
         requires lanes { S.LANES ≡ N }

@@ -9,9 +9,9 @@ ghost use Rattle.escape_simd.specs.Parts.{IsFront};
 
 use crate::output::length::part_len;
 use crate::output::{N, V};
-use crate::simd::LoadStore;
 use escape_lanes::simd::escape_mask::{EscapeMask, classify, classify_four, classify_front};
 use escape_lanes::simd::target::Ticks;
+use escape_lanes::simd::traits::LoadStore;
 
 /// Returns the mask of `count` bytes of the text from `at` on: of a vector, or of the last bytes if they are fewer.
 #[inline(always)]

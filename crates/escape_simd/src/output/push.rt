@@ -36,8 +36,8 @@ pub(super) fn lanes(v: &V) -> [u8; N]
     lanes
 }
 
-/// Returns the text's vector at `at` as an array, to be appended. For a slice of the text, which might overlap the target, the
-/// compiler would add a copy byte by byte.
+/// Returns the text's vector at `at` as an array, to be appended. For a slice of the text, which might overlap the
+/// target, the compiler would add a copy byte by byte.
 #[inline(always)]
 pub(super) fn lanes_at(text: &[u8], at: usize) -> [u8; N]
     requires { at + N ≤ length text.now }

@@ -7,8 +7,9 @@ ghost use Rattle.escape_simd.specs.Runs.{run_count, run_count_after};
 ghost use Rattle.escape_simd.specs.Stretch.{Advanced, IsRunEnd, IsVectorAt, Reached, Stretch, reach, state};
 
 use crate::simd::Classifier;
+use crate::simd::blocks::{are_paid, are_short, escape_blocks};
 use crate::simd::store::store_vector;
-use crate::simd::util::{are_paid, are_short, escape_blocks, escape_run};
+use crate::simd::util::escape_run;
 use escape_lanes::simd::escape_mask::EscapeMask;
 use escape_lanes::simd::mode::is_script;
 use escape_lanes::simd::target::{Target, Ticks};
@@ -131,6 +132,6 @@ pub(crate) fn escape_by_mask<
     if is_script::<MODE>() {
         return (at + next, end);
     }
-    // Both places are the same. By this one the next vector's address does not depend on this one's bytes.
+    // Without separators `next` is `valid`, which the next load need not wait for.
     (at + valid, end)
 }

@@ -1,4 +1,4 @@
-//! What stands for a byte that needs an escape, the run of escapes, and its form in blocks.
+//! What stands for a byte that needs an escape, and the run of escapes.
 ghost use Rattle.std.specs.Prelude.{◌≡◌, ◌+◌, ◌-◌, ◌*◌, ◌<◌, ◌≤◌, ◌++◌, IsTrue, length, take, drop, slice_index, slice_range};
 ghost use Rattle.escape_lanes.specs.Mode.{mode_of};
 ghost use Rattle.escape_lanes.specs.Replacement.{needs_escape};
@@ -7,12 +7,10 @@ ghost use Rattle.escape_simd.specs.Modes.{mode_numbered};
 ghost use Rattle.escape_simd.specs.Output.{inner, source_len};
 ghost use Rattle.escape_simd.specs.Stretch.{EscapedRun, HasRunRoom, IsFlaggedAt, Stretch, run_end, run_reach};
 
-mod blocks;
 mod run;
 
 use crate::simd::separator::{is_separator, separator_entry};
 use crate::simd::{HTML_MODE, JSON_MODE};
-pub(crate) use blocks::{are_paid, are_short, escape_blocks};
 use escape_lanes::simd::mode::entry;
 use escape_lanes::simd::target::Target;
 pub(crate) use run::{Entries, RunEnd};

@@ -18,7 +18,7 @@ use escape_lanes::simd::target::{Target, Ticks};
 
 /// Writes a quotation mark if `QUOTED` and the mode has one. Returns the place after it.
 #[inline(always)]
-pub(crate) fn quote<const MODE: u8, const QUOTED: bool, const N: usize>(
+fn write_quote<const MODE: u8, const QUOTED: bool, const N: usize>(
     target: &mut Target<'_, N>,
     to: usize,
 ) -> usize
@@ -43,9 +43,9 @@ pub(crate) fn format<V: Classifier<MODE, N>, const MODE: u8, const N: usize>(
     ensures { IsFormatted (mode_numbered MODE) value.now
         target.old target.new result ticks.old ticks.new }
 {
-    let open = quote::<MODE, true, N>(target, 0);
+    let open = write_quote::<MODE, true, N>(target, 0);
     let close = escape_bytes::<V, MODE, N>(value.as_bytes(), target, open, ticks);
-    quote::<MODE, true, N>(target, close)
+    write_quote::<MODE, true, N>(target, close)
 }
 
 /// As [`format`], to `dst`, and with no count.
@@ -80,9 +80,9 @@ pub(crate) fn escape_to_slice<
         return escape_long::<V, MODE, QUOTED, N>(text, dst, to);
     }
     let mut target = Target::<N>::new(dst);
-    let open = quote::<MODE, QUOTED, N>(&mut target, to);
+    let open = write_quote::<MODE, QUOTED, N>(&mut target, to);
     match store_clean_tail::<V, MODE, N>(text, &mut target, open, &mut Ticks::new()) {
-        Ok(close) => quote::<MODE, QUOTED, N>(&mut target, close),
+        Ok(close) => write_quote::<MODE, QUOTED, N>(&mut target, close),
         Err(masks) => {
             escape_flagged::<V, MODE, QUOTED, N>(text, masks.first, masks.last, dst, to)
         }
@@ -100,9 +100,9 @@ fn escape_long<V: Classifier<MODE, N>, const MODE: u8, const QUOTED: bool, const
     ensures { IsEscapedAt (reach true N) (mode_numbered MODE) QUOTED text.now dst.old dst.new to result }
 {
     let mut target = Target::<N>::new(dst);
-    let open = quote::<MODE, QUOTED, N>(&mut target, to);
+    let open = write_quote::<MODE, QUOTED, N>(&mut target, to);
     let close = escape_bytes::<V, MODE, N>(text, &mut target, open, &mut Ticks::new());
-    quote::<MODE, QUOTED, N>(&mut target, close)
+    write_quote::<MODE, QUOTED, N>(&mut target, close)
 }
 
 /// As [`escape_to_slice`], of a text shorter than two vectors, by its masks.
@@ -121,8 +121,8 @@ pub(crate) fn escape_flagged<
     ensures { IsEscapedAt (reach true N) (mode_numbered MODE) QUOTED text.now dst.old dst.new to result }
 {
     let mut target = Target::<N>::new(dst);
-    let open = quote::<MODE, QUOTED, N>(&mut target, to);
+    let open = write_quote::<MODE, QUOTED, N>(&mut target, to);
     let mut ticks = Ticks::new();
     let close = escape_flagged_tail::<V, MODE, N>(text, first, last, &mut target, open, &mut ticks);
-    quote::<MODE, QUOTED, N>(&mut target, close)
+    write_quote::<MODE, QUOTED, N>(&mut target, close)
 }

@@ -15,7 +15,7 @@ invariant_of-self g c =
     let mode = mode_numbered g.row.MODE in let of = c.self.inside.of in
     let is = c.first_offset-next.ensures ∙ ap (λ m. first_set (lanes_of_mask mode m)) (sym c.self.view_is) ∙ ap first_set (sym c.self.invariant) in
     rw (c.part-of.ensures.0, c.part-of.ensures.1, mask-all mode of.bytes of.from c.self.inside.bits c.self.invariant, is)
-    (mask-cleared mode of.bytes of.from c.self.inside.bits c.self.invariant c.clear_first_lane-bits.result c.clear_first_lane-bits.ensures)
+    (mask-cleared mode of.bytes of.from c.self.inside.bits c.self.invariant c.clear_first_flag-bits.result c.clear_first_flag-bits.ensures)
 
 pub returns : goal.returns
 returns g c =

@@ -1,6 +1,6 @@
 use Rattle.escape_simd.proofs.Words.{◌≡◌, ◌+◌, ◌*◌, ◌-◌, ◌<◌, drop, IsMaskOf, lanes_of_mask, mode_numbered, state, true}
 use Rattle.escape_simd.proofs.Pasted.{BlocksSoFar}
-use Rattle.escape_simd.proofs.simd.util.blocks.escape_blocks.Given as goal
+use Rattle.escape_simd.proofs.simd.blocks.escape_blocks.Given as goal
 
 abbrev pub invariant-blocks-2 : goal.invariant-blocks-2
 invariant-blocks-2 g l = record {

@@ -1,7 +1,7 @@
 use Rattle.escape_simd.proofs.Words.{arith, ◌≡◌, ◌<◌, ℕ, bits_of, first_set, false, get_or_past, nat_tests, none_set, length-bits_of}
 use Rattle.escape_simd.proofs.Lanes.{first_set-here}
 use Rattle.escape_simd.proofs.PutApart.{blocks-some, flags-most}
-use Rattle.escape_simd.proofs.simd.util.blocks.are_paid.Goals as goal
+use Rattle.escape_simd.proofs.simd.blocks.are_paid.Goals as goal
 
 -- the first flag is one of the 64
 first-lt : (f : ℕ) → none_set (bits_of 64 f) ≡ false → first_set (bits_of 64 f) < 64

@@ -27,8 +27,8 @@ pub(crate) fn are_paid(bits: u64, valid: usize) -> bool
 {
     let blocks = (valid + 7) / 8;
     let escapes = count_flagged(bits);
-    // Blocks are faster than turns if there are as many escapes. Of two blocks one has an escape. A block has at
-    // most eight: so an eighth of the escapes is at most the count of blocks that have one.
+    // With fewer escapes than blocks turns are faster. The bound is the blocks with an escape, and the gaps, and one
+    // more. A block has at most eight escapes, so at least an eighth of their count are blocks with one.
     blocks <= escapes && (blocks <= 2 || 8 * blocks < escapes + 8 * count_gaps(bits, valid) + 16)
 }
 
@@ -46,7 +46,7 @@ pub(crate) fn are_short<const MODE: u8, const N: usize>(src: &[u8], at: usize, b
 
 /// Returns whether one of eight lanes is flagged.
 #[inline(always)]
-fn is_flagged(eight: u8) -> bool
+fn has_flag(eight: u8) -> bool
     ensures { result ≡ not (nat_eq eight 0) }
 {
     eight != 0
@@ -71,7 +71,7 @@ fn pay_block<const MODE: u8>(
         + (if not unused && nat_eq (flag_count (take 8 (lanes_of_mask (mode_numbered MODE) mask.entry))) 0
         then 1 else 0) }
 {
-    if is_flagged(first_eight(mask.bits())) {
+    if has_flag(first_eight(mask.bits())) {
         return (mask, unused);
     }
     if unused {
@@ -104,7 +104,7 @@ fn put_block<const MODE: u8, const N: usize>(
         then 1 else mask.old.stored) }
 {
     let eight = first_eight(mask.bits());
-    if !is_flagged(eight) {
+    if !has_flag(eight) {
         mask.count_store();
     }
     target.escape_block(to, block, eight)

@@ -1,6 +1,6 @@
 use Rattle.escape_simd.proofs.Words.{◌≡◌, ◌∙◌, Bool, true, false, not, refl, sym, ap, ◌+◌, ◌-◌, arith, bits_of, length-bits_of, mode_numbered}
 use Rattle.escape_simd.proofs.Vectors.{short-lanes}
-use Rattle.escape_simd.proofs.simd.util.blocks.are_short.Goals as goal
+use Rattle.escape_simd.proofs.simd.blocks.are_short.Goals as goal
 
 -- not that it is not
 twice : (a b : Bool) → a ≡ not b → not a ≡ true → b ≡ true

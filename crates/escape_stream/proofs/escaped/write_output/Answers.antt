@@ -4,7 +4,7 @@ use Rattle.escape_simd.specs.Output.{inner, plain, quote_of}
 use Rattle.escape_simd.specs.Modes.{escaping}
 use Rattle.escape_stream.proofs.Transfer.{beginning-all}
 use Rattle.escape_stream.proofs.Written.{ends-in_open, ends-in_text, ends-in_close, written-whole}
-use Rattle.escape_stream.proofs.escaped.write_whole.Goals as goal
+use Rattle.escape_stream.proofs.escaped.write_output.Goals as goal
 
 pub returns-in_err-write_quote-clause-beginning : goal.returns-in_err-write_quote-clause-beginning
 returns-in_err-write_quote-clause-beginning g c =

@@ -1,8 +1,8 @@
 use Rattle.escape_simd.proofs.Words.{ℕ, List, ◌≡◌, ◌+◌, ◌*◌, ◌/◌, ◌≤◌, take, drop, rules, refl, ap, sym, ◌∙◌, length, arith, nat_tests, drop-drop, length-drop, length-map, length-take-le, shortened, flag_count, flagged_blocks, mode_numbered}
 use Rattle.escape_simd.proofs.Pasted.{blocks-next, done-stored, done-stretch, done-ticks, left-blocks, left-long, left-told, paid-lanes, paid-left}
 use Rattle.escape_simd.proofs.Shortened.{block-half}
-use Rattle.escape_simd.proofs.simd.util.blocks.escape_blocks.Goals as goal
-use Rattle.escape_simd.proofs.simd.util.blocks.escape_blocks.Goals.{else-blocks-2-test, then-blocks-2-test+then-valid-block}
+use Rattle.escape_simd.proofs.simd.blocks.escape_blocks.Goals as goal
+use Rattle.escape_simd.proofs.simd.blocks.escape_blocks.Goals.{else-blocks-2-test, then-blocks-2-test+then-valid-block}
 
 pub blocks-2-init : goal.blocks-2-init
 unfolding flagged_blocks

@@ -1,7 +1,7 @@
 use Rattle.escape_simd.proofs.Words.{ℕ, ◌+◌, ◌∙◌, refl, ap, arith, take, drop, length, mode_numbered}
 use Rattle.escape_simd.proofs.Pasted.{block-escaped}
 use Rattle.escape_simd.proofs.RestSteps.{rest-between}
-use Rattle.escape_simd.proofs.simd.util.blocks.put_block.Goals as goal
+use Rattle.escape_simd.proofs.simd.blocks.put_block.Goals as goal
 
 pub escape_block-requires : goal.escape_block-requires
 escape_block-requires g c =

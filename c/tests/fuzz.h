@@ -385,21 +385,25 @@ static int answers_pass(double seconds) {
     return 1;
 }
 
-/* Half of the time is for random texts. The first part that fails is the last. */
-static int all_pass(double seconds) {
-    return passes("random texts", random_texts, seconds / 2) && passes("each length", each_length, seconds / 10)
-        && passes("a character at each place", each_place, seconds / 10) && passes("runs beside gaps", runs_and_gaps, seconds / 10)
-        && passes("separators at borders", separators_at_borders, seconds / 10) && answers_pass(seconds / 10)
-        && passes("long texts", long_texts, seconds / 10);
+/* Random texts for so many seconds, and each other part for at most so many. The first part that fails is the last. */
+static int all_pass(double random, double other) {
+    return passes("random texts", random_texts, random) && passes("each length", each_length, other)
+        && passes("a character at each place", each_place, other) && passes("runs beside gaps", runs_and_gaps, other)
+        && passes("separators at borders", separators_at_borders, other) && answers_pass(other)
+        && passes("long texts", long_texts, other);
 }
 
-/* By the program's words, SEED and SECONDS, or so many seconds; then there have to be so many calls. Returns the
- * program's status. */
-static int run_parts(int words, char **word, double seconds, uint64_t least) {
+/* More seconds than a part takes. */
+enum { NO_LIMIT = 3600 };
+
+/* By the program's words, SEED and SECONDS. Without SECONDS, random texts take so many, the other parts run to their end,
+ * and there have to be so many calls. Returns the program's status. */
+static int run_parts(int words, char **word, double random, uint64_t least) {
     uint64_t seed = words > 1 ? strtoull(word[1], NULL, 0) : 88172645463325252u;
+    double most = words > 2 ? strtod(word[2], NULL) : 0;
     int passed;
     state = seed ? seed : 1;
-    passed = all_pass(words > 2 ? strtod(word[2], NULL) : seconds);
+    passed = words > 2 ? all_pass(most / 2, most / 10) : all_pass(random, NO_LIMIT);
     printf("  %llu calls in %.1f seconds, by seed %llu\n", (unsigned long long)calls, (double)clock() / CLOCKS_PER_SEC, (unsigned long long)seed);
     if (words > 2 || !passed || calls >= least) return !passed;
     printf("failed %s: fewer than %llu calls\n", NAME, (unsigned long long)least);

@@ -103,7 +103,7 @@ pub fn escape_html_cow(value: &str) -> Result<Cow<'_, str>, InputTooLarge> {
     }
 }
 
-/// Is displayed as the text as HTML.
+/// Displays the text as HTML.
 ///
 /// It allocates nothing. Width and fill have no effect.
 ///

@@ -84,7 +84,7 @@ pub fn escape_script_into<S: AsRef<str>>(value: S, dst: &mut Vec<u8>) {
     output::append(Mode::Script, value.as_ref(), dst).expect(TOO_LARGE)
 }
 
-/// Is displayed as the JSON string literal of the text, including its quotation marks.
+/// Displays the JSON string literal of the text, including its quotation marks.
 ///
 /// It allocates nothing. Width and fill have no effect.
 ///
@@ -104,7 +104,7 @@ impl fmt::Display for Escaped<'_> {
     }
 }
 
-/// Is displayed as the JSON string literal of the text for a script element, including its quotation marks.
+/// Displays the JSON string literal of the text for a script element, including its quotation marks.
 ///
 /// It allocates nothing. Width and fill have no effect.
 ///

@@ -23,9 +23,9 @@
 //! # Memory
 //!
 //! A call that appends or returns reserves [`CAPACITY_FACTOR`](json::CAPACITY_FACTOR) times the text's length and the
-//! `CAPACITY_SLACK` of its module ([JSON](json::CAPACITY_SLACK), [HTML](html::CAPACITY_SLACK)) in bytes, since a text may consist of characters to escape. It allocates
-//! nothing if the vector has that much spare capacity. A returned `String` keeps it: call
-//! [`shrink_to_fit`](alloc::string::String::shrink_to_fit) if you keep the `String`.
+//! `CAPACITY_SLACK` of its module ([JSON](json::CAPACITY_SLACK), [HTML](html::CAPACITY_SLACK)) in bytes, since a text
+//! may consist of characters to escape. It allocates nothing if the vector has that much spare capacity. A returned
+//! `String` keeps it: call [`shrink_to_fit`](alloc::string::String::shrink_to_fit) if you keep the `String`.
 //!
 //! # Features
 //!

@@ -69,9 +69,12 @@ static void put(struct output *output, const char *piece, size_t count) {
     else output->size = decode(4, output->data, at, piece, end);
 }
 
-/* Escapes the text, which is known to be UTF-8 or not, and measures or writes each piece. Returns whether it is. */
-static int escape_pieces(
-    escape_mode mode, int is_known, const char *text, size_t length, char *piece, struct output *output) {
+/* What is done with the output of a piece: `measure`, or `put`. */
+typedef void take_piece(struct output *, const char *, size_t);
+
+/* Escapes the text, which is known to be UTF-8 or not, and takes each piece. Returns whether it is. */
+static int escape_pieces(escape_mode mode, int is_known, const char *text, size_t length, char *piece, take_piece *take,
+                         struct output *output) {
     PyThreadState *thread = length > RELEASE ? PyEval_SaveThread() : NULL;
     escape_status status = ESCAPE_OK;
     while (length && status == ESCAPE_OK) {
@@ -79,7 +82,7 @@ static int escape_pieces(
         /* A piece ends at a character. */
         while (next < length && next > PIECE - 3 && (text[next] & 0xc0) == 0x80) next--;
         status = (is_known ? escape_inner_unchecked : escape_inner)(mode, ESCAPE_DEFAULT, text, next, piece, ROOM, &count);
-        (output->data ? put : measure)(output, piece, count);
+        take(output, piece, count);
         text += next;
         length -= next;
     }
@@ -113,7 +116,7 @@ static PyObject *escape(const struct mode *mode, PyObject *object) {
     char piece[ROOM];
     PyObject *answer;
     if (!text) return NULL;
-    if (!escape_pieces(mode->number, is_str, text, (size_t)length, piece, &output)) {
+    if (!escape_pieces(mode->number, is_str, text, (size_t)length, piece, measure, &output)) {
         /* It raises what Python raises for these bytes. */
         Py_XDECREF(PyUnicode_DecodeUTF8(text, length, NULL));
         return NULL;
@@ -131,7 +134,7 @@ static PyObject *escape(const struct mode *mode, PyObject *object) {
     } else if (length <= PIECE) {
         put(&output, piece, output.bytes);
     } else {
-        escape_pieces(mode->number, 1, text, (size_t)length, piece, &output);
+        escape_pieces(mode->number, 1, text, (size_t)length, piece, put, &output);
     }
     return answer;
 }

@@ -10,8 +10,9 @@ use escape_text::html::{
 use escape_text::json::{
     self, escape_array_into, escape_compact, escape_into_string, escape_joined_into,
     escape_script_array_into, escape_script_compact, escape_script_into_string,
-    escape_script_to_writer, escape_to_writer,
+    escape_script_to_writer, escape_to_writer, object_into,
 };
+use escape_text::page::{Part, page_into};
 use std::alloc::{AllocError, Global};
 use std::fmt::Write;
 
@@ -38,6 +39,8 @@ pub enum Call {
     Twice,
     /// Of a text twice with a separator, to a vector.
     Joined,
+    /// Of a text twice, to a vector: as key and value of an object, in HTML and script as parts of a page.
+    Record,
     /// To a string.
     Text,
     /// To a string, by `write!`.
@@ -50,11 +53,12 @@ pub enum Call {
     Borrowed,
 }
 
-const CALLS: [Call; 9] = [
+const CALLS: [Call; 10] = [
     Call::Vector,
     Call::Writer,
     Call::Twice,
     Call::Joined,
+    Call::Record,
     Call::Text,
     Call::Formatter,
     Call::Returned,
@@ -108,6 +112,10 @@ fn writes(alloc: Global, call: Call, mode: Mode, text: &str, output: &[u8], spar
         Call::Joined => match vector(alloc, spare) {
             Ok(mut dst) => append_joined(mode, text, &mut dst)
                 && has(&dst, &[output, b"; ", output]),
+            Err(_) => false,
+        },
+        Call::Record => match vector(alloc, spare) {
+            Ok(mut dst) => append_record(mode, text, &mut dst) && is_record(mode, &dst, output),
             Err(_) => false,
         },
         Call::Text => match string(alloc, spare) {
@@ -187,6 +195,22 @@ fn append_joined(mode: Mode, text: &str, dst: &mut Vec<u8>) -> bool {
     match mode {
         Mode::Html => escape_html_joined_into(&[text, text], "; ", dst).is_ok(),
         _ => escape_joined_into(&[text, text], "; ", dst).is_ok(),
+    }
+}
+
+fn append_record(mode: Mode, text: &str, dst: &mut Vec<u8>) -> bool {
+    let part = match mode {
+        Mode::Json => return object_into(&[(text, text)], dst).is_ok(),
+        Mode::Html => Part::Text(text),
+        Mode::Script => Part::Script(text),
+    };
+    page_into(&[part, Part::Markup("; "), part], dst).is_ok()
+}
+
+fn is_record(mode: Mode, bytes: &[u8], output: &[u8]) -> bool {
+    match mode {
+        Mode::Json => has(bytes, &[b"{", output, b":", output, b"}"]),
+        _ => has(bytes, &[output, b"; ", output]),
     }
 }
 

@@ -23,6 +23,9 @@ enum Way {
     RowByHand,
     /// An object of a constant and the line, by `object_into`.
     Object,
+    /// The keys are escaped, as in `object_into`.
+    ObjectByCalls,
+    /// The keys are constant.
     ObjectByHand,
     /// By the toolchain's `json::Writer`.
     ObjectByWriter,
@@ -31,12 +34,13 @@ enum Way {
     LiteralByWriter,
 }
 
-const WAYS: [Way; 9] = [
+const WAYS: [Way; 10] = [
     Way::Page,
     Way::PartsByHand,
     Way::Row,
     Way::RowByHand,
     Way::Object,
+    Way::ObjectByCalls,
     Way::ObjectByHand,
     Way::ObjectByWriter,
     Way::Literal,
@@ -51,7 +55,7 @@ pub fn measure_records(
     lines: &[&str],
 ) -> Result<(), Fail> {
     let parts = parts_of(rt.alloc(), lines)?;
-    let mut best = [u32::MAX; 9];
+    let mut best = [u32::MAX; 10];
     let mut memory = Vec::new(rt.alloc());
     for _ in 0..ROUNDS {
         for (place, way) in WAYS.iter().enumerate() {
@@ -79,7 +83,7 @@ fn timed(
 }
 
 /// Prints the microseconds of each way.
-fn report(rt: &impl Print, nanos: &[u32; 9]) -> Result<(), Fail> {
+fn report(rt: &impl Print, nanos: &[u32; 10]) -> Result<(), Fail> {
     for (place, way) in WAYS.iter().enumerate() {
         let micros = nanos[place] as f64 / 1000.0;
         println!(rt; "{micros:>8.1} {way:?}")?;
@@ -158,6 +162,17 @@ fn append_line(way: Way, last: &str, line: &str, out: &mut Vec<u8>) -> Result<()
             out.extend_from_slice(b"</td></tr>\n")?;
         }
         Way::Object => object_into(&[("level", "info"), ("message", line)], out)?,
+        Way::ObjectByCalls => {
+            out.extend_from_slice(b"{")?;
+            escape_into("level", out)?;
+            out.extend_from_slice(b":")?;
+            escape_into("info", out)?;
+            out.extend_from_slice(b",")?;
+            escape_into("message", out)?;
+            out.extend_from_slice(b":")?;
+            escape_into(line, out)?;
+            out.extend_from_slice(b"}")?;
+        }
         Way::ObjectByHand => {
             out.extend_from_slice(b"{\"level\":")?;
             escape_into("info", out)?;

@@ -7,6 +7,7 @@ mod memory;
 mod messages;
 mod numbers;
 mod rationed;
+mod records;
 mod rows;
 mod runs;
 mod tables;

@@ -96,7 +96,7 @@ const MARKUP_AND_LETTERS: &str = "&lt;\
     aaaaaaaaaaaaaaaaaaaaaaaaaaaaaaaaaaaaaaaaaaaaaaaaaa\
     aaaaaaaaaaaaaaaaaaaaaaaaaaaaaaaaaaaaaaaaaaaaaaaaaa";
 
-/// A request of a call whose refusal tells no text.
+/// A request for any number of bytes. If it is refused, the first text is, and nothing was appended.
 const ANY: Request = (0, 0, "");
 
 static ROWS: [Row; 16] = [

@@ -1,4 +1,4 @@
-//! What faults print, and errors as an `io::Error`, of which no clause tells the words; a formatter with a width.
+//! What errors print, also as an `io::Error`; a formatter with a width.
 
 use escape_simd::Refusal;
 use escape_simd::html::EscapeHtmlError;

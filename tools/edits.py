@@ -17,7 +17,7 @@ def copied():
 
 
 def crate_of(path):
-    """The crate that an edit changes: crates/CRATE/must-fail/FUNCTION.NAME.edit or tools/bodies/CRATE.FUNCTION.NAME.edit."""
+    """The crate of crates/CRATE/must-fail/FUNCTION.NAME.edit or tools/bodies/CRATE.FUNCTION.NAME.edit."""
     return path.parents[1].name if path.parent.name == "must-fail" else path.name.split(".")[0]
 
 

@@ -59,7 +59,7 @@ module _ (mode : Mode) (text : List ℕ) (k : ℕ) where
 
 -- two clean vectors that may have some of the same bytes
 pub two-clean : {N : ℕ} {mode : Mode} {slack n : ℕ} {text : List ℕ} {old mid new : Target N} {to t : ℕ} → n ≤ length text → length text < 2 * n → CleanFrom mode text 0 n → CleanFrom mode text (length text - n) (length text)
-    → IsStored slack text old mid 0 n to → IsStored slack text mid new (length text - n) n (to + (length text - n)) → Advanced mode slack (length text) 2 2 text (state old 0 to t) (state new (length text) (to + length text) t)
+    → IsStored slack (drop 0 text) old mid n to → IsStored slack (drop (length text - n) text) mid new n (to + (length text - n)) → Advanced mode slack (length text) 2 2 text (state old 0 to t) (state new (length text) (to + length text) t)
 two-clean {mode = mode} {slack = slack} {n = n} {text = text} {old = old} {mid = mid} {new = new} {to = to} inside few clean1 clean2 s1 s2 =
     let last : ℕ = length text - n in
     let p = ahead-passed mode slack text mid 0 n last to (ahead-front mode text mid 0 n to n (omega arith) s1.ahead) (omega arith) (omega (arith, few, inside)) inside (λ p late early. clean1 p late (omega (arith, early, few, inside))) in

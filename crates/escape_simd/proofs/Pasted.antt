@@ -1,5 +1,5 @@
 -- A vector escaped in blocks, block after block.
-use Rattle.escape_simd.proofs.Words.{◌≡◌, ℕ, ◌+◌, ◌-◌, ◌*◌, ◌/◌, ◌<◌, ◌≤◌, min, Bool, true, false, cond, not, ◌&&◌, List, ◌++◌, length, take, drop, map, replicate, nat_eq, get_or, refl, sym, ap, ap₂, subst, ◌∙◌, arith, append_assoc, length-append, length-take-le, length-drop, drop-append-le, drop-map, take-append-le, replicate-append-replicate, paste, nat_tests, drop-drop, length-map, take-map, take-take, get_or-take, get_or-drop, get_or_past, bits_of, clear_first, length-bits_of, IsMaskOf, MaskOf, lanes_of_mask, mask_from, whole_mask, Mode, needs_escape, bytes_of, stored_of, Target, shortened, flag_count, flagged_blocks, put_apart, IsBlock, IsBlockAt, State, Stretch, HasBlocks, HasRoom, state, length-replicate, count_by-le-length}
+use Rattle.escape_simd.proofs.Words.{◌≡◌, ℕ, ◌+◌, ◌-◌, ◌*◌, ◌/◌, ◌<◌, ◌≤◌, min, Bool, true, false, cond, not, ◌&&◌, List, ◌++◌, length, take, drop, map, replicate, nat_eq, get_or, refl, sym, ap, ap₂, subst, ◌∙◌, arith, append_assoc, length-append, length-take-le, length-drop, drop-append-le, drop-map, take-append-le, replicate-append-replicate, paste, nat_tests, drop-drop, length-map, take-map, take-take, get_or-take, get_or-drop, get_or_past, clear_first, IsMaskOf, MaskOf, lanes_of_mask, mask_from, whole_mask, Mode, needs_escape, bytes_of, stored_of, Target, shortened, flag_count, flagged_blocks, put_apart, IsBlock, State, Stretch, HasBlocks, HasRoom, state, length-replicate, count_by-le-length}
 use Rattle.escape_simd.proofs.Lanes.{HoldsFlags, mask-holds, mask-left}
 use Rattle.escape_simd.proofs.RestSteps.{rest-between}
 use Rattle.escape_simd.proofs.PutApart.{AreMarked, count-none, blocks-none, blocks-one, blocks-onward, length-put_apart, marked-apart}
@@ -35,42 +35,35 @@ module _ {mode : Mode} {src : List ℕ} {at to size : ℕ} {mask : MaskOf} (is :
   held : HoldsFlags mode src at (length mask.bytes) at (lanes_of_mask mode mask)
   held = mask-holds mode src at (length mask.bytes) at mask is.bytes (omega (arith, h.inside)) (omega (arith, is.from))
 
-  module _ (n : ℕ) (number : bits_of 64 n ≡ lanes_of_mask mode mask) where
-    -- there are eight
-    eight : length flags ≡ 8
-    eight = length-take-le 8 (lanes_of_mask mode mask) (omega (arith, ap length number, length-bits_of 64 n))
+  -- there are eight
+  eight : length flags ≡ 8
+  eight = length-take-le 8 (lanes_of_mask mode mask) (let none = is.from in let few = h.few in grind (arith, length-append, length-drop, length-map, length-replicate))
 
-    -- each of them
-    flag : (i : ℕ) → get_or flags i false ≡ true → (i < 8) × (get_or (lanes_of_mask mode mask) i false ≡ true)
-    flag i s =
-        let l : i < 8 = grind (arith, nat_tests, get_or_past, eight) in
-        (l, sym (get_or-take 8 (lanes_of_mask mode mask) i false l) ∙ s)
+  -- each of them
+  flag : (i : ℕ) → get_or flags i false ≡ true → (i < 8) × (get_or (lanes_of_mask mode mask) i false ≡ true)
+  flag i s = let l : i < 8 = grind (arith, nat_tests, get_or_past, eight) in (l, sym (get_or-take 8 (lanes_of_mask mode mask) i false l) ∙ s)
 
-    -- they are those of the text's bytes
-    block-marked : ((i : ℕ) → get_or src i 0 < 256) → AreMarked mode flags (min 8 (length mask.bytes)) (drop at src)
-    block-marked bytes = record {
-      few = omega (arith, eight);
-      inside = omega (arith, eight, length-drop at src, h.inside);
-      bytes = λ i. rw (get_or-drop at src i 0) (bytes (at + i));
-      set = λ i s. let l = flag i s in let t = held.set i l.1 in rw (get_or-drop at src i 0) (omega (arith, l, t), t.1);
-      short = λ i s. let l = flag i s in let t = held.set i l.1 in rw (get_or-drop at src i 0) (h.short i t.0 t.1);
-      unset = λ i l c. rw (get_or-drop at src i 0) (held.unset i (sym (get_or-take 8 (lanes_of_mask mode mask) i false (omega (arith, l))) ∙ c) (omega arith) (omega (arith, l)));
-    }
+  -- they are those of the text's bytes
+  block-marked : ((i : ℕ) → get_or src i 0 < 256) → AreMarked mode flags (min 8 (length mask.bytes)) (drop at src)
+  block-marked bytes = record {
+    few = omega (arith, eight);
+    inside = omega (arith, eight, length-drop at src, h.inside);
+    bytes = λ i. rw (get_or-drop at src i 0) (bytes (at + i));
+    set = λ i s. let l = flag i s in let t = held.set i l.1 in rw (get_or-drop at src i 0) (omega (arith, l, t), t.1);
+    short = λ i s. let l = flag i s in let t = held.set i l.1 in rw (get_or-drop at src i 0) (h.short i t.0 t.1);
+    unset = λ i l c. rw (get_or-drop at src i 0) (held.unset i (sym (get_or-take 8 (lanes_of_mask mode mask) i false (omega (arith, l))) ∙ c) (omega arith) (omega (arith, l)));
+  }
 
-    -- it was escaped
-    pub block-escaped : {N : ℕ} {old new : Target N} {end : ℕ} (v : List ℕ) {fs : List Bool} → ((i : ℕ) → get_or src i 0 < 256) → size ≡ length (bytes_of old) → fs ≡ flags → take 8 v ≡ take 8 (map shortened (take 16 (drop at src))) → IsBlock fs (take 8 v) old new to end
-        → IsBlockAt mode mask src old new at to end
-    block-escaped {N} {old} {new} {end} v {fs} bytes size_is same shorter w =
-        let k : ℕ = min 8 (length mask.bytes) in
-        let half : take 8 v ≡ map shortened (take 8 (drop at src)) = shorter ∙ take-map shortened 8 (take 16 (drop at src)) ∙ ap (map shortened) (take-take 8 16 (drop at src) (omega arith)) in
-        let b = rw (same, half) at w in
-        let least = rest-between mode src at (at + length mask.bytes) (omega arith) (omega (arith, h.inside)) in
-        let step = block-stretch mode h.kept src old new at k to end flags eight (block-marked bytes) (omega (arith, h.some)) b (omega (arith, least, h.room.fits, size_is, h.some)) in
-        record {
-          stretch = ended step refl (omega (arith, b.after));
-          after = b.after;
-          stored = omega (arith, b.written.stored, counted (flag_count flags), blocks-one (lanes_of_mask mode mask));
-        }
+  -- the block has room
+  pub block-room : to + 16 ≤ size
+  block-room = omega (arith, rest-between mode src at (at + length mask.bytes) (omega arith) (omega (arith, h.inside)), h.room.fits, h.some)
+
+  -- it was escaped
+  block-escaped : {N : ℕ} {old new : Target N} {end : ℕ} (v : List ℕ) → ((i : ℕ) → get_or src i 0 < 256) → size ≡ length (bytes_of old) → take 8 v ≡ take 8 (map shortened (take 16 (drop at src))) → IsBlock flags (take 8 v) old new to end
+      → Stretch mode 16 src old new (at, to) (at + min 8 (length mask.bytes), end - (8 - min 8 (length mask.bytes)))
+  block-escaped {N} {old} {new} {end} v bytes size_is shorter w =
+      let half : take 8 v ≡ map shortened (take 8 (drop at src)) = shorter ∙ take-map shortened 8 (take 16 (drop at src)) ∙ ap (map shortened) (take-take 8 16 (drop at src) (omega arith)) in
+      ended (block-stretch mode h.kept src old new at (min 8 (length mask.bytes)) to end flags eight (block-marked bytes) (omega (arith, h.some)) (rw half at w) (omega (arith, block-room, size_is))) refl (omega (arith, w.after))
 
 -- paid for or not, it tells the same
 pub paid-left : {mask paid : MaskOf} {bytes : List ℕ} → IsMaskOf mask bytes → IsMaskOf paid mask.bytes → IsMaskOf paid bytes
@@ -108,6 +101,10 @@ module _ {mode : Mode} {src : List ℕ} {at valid to size : ℕ} {whole : MaskOf
     pub left-long : length mask.bytes ≡ valid - 8 * block
     left-long = ap length left-told ∙ length-take-le (valid - 8 * block) (drop (at + 8 * block) src) (omega (arith, length-drop (at + 8 * block) src, h.inside, more))
 
+    -- and of no more
+    left-is : IsMaskOf mask (take (length mask.bytes) (drop (at + 8 * block) src))
+    left-is = record { bytes = left-told ∙ ap (λ n. take n (drop (at + 8 * block) src)) (sym left-long); from = left.from }
+
     -- its first eight are the block's
     left-eight : take 8 (lanes_of_mask mode mask) ≡ take 8 (drop (8 * block) all)
     left-eight =
@@ -131,7 +128,7 @@ module _ {mode : Mode} {src : List ℕ} {at valid to size : ℕ} {whole : MaskOf
       left-stretch = ended b.stretch (omega (arith, more)) (omega (arith, more))
 
       -- it can be escaped by blocks
-      pub left-blocks : HasBlocks mode src (at + 8 * block) (length mask.bytes) p (length (bytes_of mid))
+      left-blocks : HasBlocks mode src (at + 8 * block) (length mask.bytes) p (length (bytes_of mid))
       left-blocks =
           let stop : at + valid ≡ at + 8 * block + length mask.bytes = omega (arith, left-long, more) in
           let room = subst (λ i. HasRoom mode 16 src (at + 8 * block) i p (length (bytes_of mid))) stop (room-on left-stretch (subst (λ n. HasRoom mode 16 src at (at + valid) to n) size_is h.room)) in
@@ -144,13 +141,19 @@ module _ {mode : Mode} {src : List ℕ} {at valid to size : ℕ} {whole : MaskOf
             room = room;
           }
 
+      -- the first of them has room
+      pub left-room : p + 16 ≤ length (bytes_of mid)
+      left-room = block-room left-is left-blocks
+
       -- with it one more is done
-      pub blocks-next : {new : Target N} {end t2 : ℕ} {unused2 : Bool} → IsBlockAt mode mask src mid new (at + 8 * block) p end → unused2 ≡ (unused && not (nat_eq (flag_count (take 8 (lanes_of_mask mode mask))) 0))
+      pub blocks-next : {new : Target N} {end t2 : ℕ} {unused2 : Bool} (v : List ℕ) → ((i : ℕ) → get_or src i 0 < 256) → take 8 v ≡ take 8 (map shortened (take 16 (drop (at + 8 * block) src))) → IsBlock (take 8 (lanes_of_mask mode mask)) (take 8 v) mid new p end → unused2 ≡ (unused && not (nat_eq (flag_count (take 8 (lanes_of_mask mode mask))) 0))
           → t2 ≡ t1 + cond (not unused && nat_eq (flag_count (take 8 (lanes_of_mask mode mask))) 0) 1 0 → BlocksSoFar mode src all valid (block + 1) unused2 (state old at to t0) (state new (at + 8 * (block + 1)) end t2)
-      blocks-next e u t =
-          let stored = e.stored in let one = blocks-one (lanes_of_mask mode mask) in let first = blocks-one (drop (8 * block) all) in record {
-            stretch = ended (onward_at left-stretch e.stretch refl refl) (omega (arith, more, left-long)) (omega (arith, left-long, more, e.after));
-            far = omega (arith, b.far, e.after);
+      blocks-next {new = new} v bytes shorter w u t =
+          let one = blocks-one (lanes_of_mask mode mask) in let first = blocks-one (drop (8 * block) all) in
+          let step = block-escaped left-is left-blocks v bytes refl shorter w in
+          let stored : stored_of new + flagged_blocks 1 (lanes_of_mask mode mask) ≡ stored_of mid + 1 = omega (arith, w.written.stored, counted (flag_count (take 8 (lanes_of_mask mode mask))), one) in record {
+            stretch = ended (onward_at left-stretch step refl refl) (omega (arith, more, left-long)) (omega (arith, left-long, more, w.after));
+            far = omega (arith, b.far, w.after);
             stored = omega (arith, b.stored, stored, blocks-onward block 1 all, first, one, ap flag_count left-eight);
             few = omega (arith, more);
             none = grind (arith, nat_tests, stored, one, u, t, b.none, b.some, b.counted);

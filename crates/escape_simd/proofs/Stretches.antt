@@ -101,9 +101,13 @@ escaped_unit mode src old new i to entry inside needed count same written room l
     (rw front (sym (inner-here mode src i inside))) (omega (arith, entry-reach mode src i needed, c)) (omega (arith, escaped-here mode src i inside needed)) quotes
 
 -- a vector that was stored, and passed no byte yet
-pub stored_ahead : {N : ℕ} (mode : Mode) (slack : ℕ) (src : List ℕ) (old new : Target N) (from left to : ℕ) → IsStored slack src old new from left to
+pub stored_ahead : {N : ℕ} (mode : Mode) (slack : ℕ) (src : List ℕ) (old new : Target N) (from left to : ℕ) → IsStored slack (drop from src) old new left to
     → from ≤ length src → Stretch mode (left + slack) src old new (from, to) (from, to)
 stored_ahead mode slack src old new from left to s inside = grind arith
+
+-- and it begins with those of other bytes
+pub stored_alike : {N slack left to : ℕ} {lanes held : List ℕ} {old new : Target N} → take left lanes ≡ take left held → IsStored slack lanes old new left to → IsStored slack held old new left to
+stored_alike same s = grind (arith, same)
 
 -- a stretch up to places that are equal
 pub ended : {N : ℕ} {mode : Mode} {slack : ℕ} {src : List ℕ} {old new : Target N} {at next i to end p : ℕ}
@@ -142,10 +146,10 @@ module _ {N : ℕ} (is_html : Bool) {slack : ℕ} {src : List ℕ} {old new : Ta
   pub stretch-end : end ≡ to + length (inner (mode_of is_html) (slice_range src at next))
   stretch-end = grind (arith, rest-is, parts, length-append {A = ℕ}, slice_range)
 
--- lanes that begin with bytes of a text were pasted in: a vector of it is stored
-pub stored_from_paste : {N slack from left : ℕ} {src : List ℕ} {old new : Target N} {to n : ℕ} (lanes : List ℕ) → IsSameSlice old new → bytes_of new ≡ paste (bytes_of old) to lanes n
+-- lanes that begin with these bytes were pasted in: a vector of them is stored
+pub stored_from_paste : {N slack left : ℕ} {held : List ℕ} {old new : Target N} {to n : ℕ} (lanes : List ℕ) → IsSameSlice old new → bytes_of new ≡ paste (bytes_of old) to lanes n
     → stored_of new ≡ stored_of old + 1 → escaped_of new ≡ escaped_of old → quotes_of new ≡ quotes_of old
-    → left ≤ n → n ≤ length lanes → n ≤ left + slack → to + n ≤ length (bytes_of old) → take left lanes ≡ take left (drop from src) → IsStored slack src old new from left to
+    → left ≤ n → n ≤ length lanes → n ≤ left + slack → to + n ≤ length (bytes_of old) → take left lanes ≡ take left held → IsStored slack held old new left to
 stored_from_paste {left = left} {old = old} {to = to} {n = n} lanes same bytes stored escaped quotes some long few room loaded =
     let is = bytes ∙ append_assoc (take to (bytes_of old)) (take n lanes) (drop (to + n) (bytes_of old)) in
     grind (arith, is, take_at, drop_at, take-append-le, take-take left n lanes some, length-take-le {A = ℕ}, drop_further, drop-paste)

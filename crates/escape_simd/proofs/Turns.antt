@@ -68,7 +68,7 @@ ahead-runs mode src from next forward clean = sym (clean_runs mode src from next
 
 -- the turns begin
 pub turns-begin : {N : ℕ} {mode : Mode} {slack : ℕ} {src : List ℕ} {old new : Target N} {valid to : ℕ} {mask : MaskOf} {ticks : ℕ} → 8 ≤ slack → mask ≡ mask_from (take valid src) 0 1 → IsVectorAt mode N slack src 0 valid to (length (bytes_of old))
-    → is_clear mode mask ≡ false → IsStored slack src old new 0 valid to → TurnsSoFar mode slack src valid mask (state old 0 to ticks) (state new 0 to ticks)
+    → is_clear mode mask ≡ false → IsStored slack (drop 0 src) old new valid to → TurnsSoFar mode slack src valid mask (state old 0 to ticks) (state new 0 to ticks)
 turns-begin {mode = mode} {slack = slack} {src = src} {old = old} {new = new} {valid = valid} {to = to} {mask = mask} eight is v some s =
     let held = mask-holds mode src 0 valid 0 mask (ap (λ m. m.bytes) is) (omega (arith, v.inside)) (omega (arith, ap (λ m. m.from) is)) in
     let first = (first-set mode src 0 valid 0 (lanes_of_mask mode mask) held some).0 in let ahead = ahead-front mode src new 0 valid to valid (omega arith) s.ahead in
@@ -138,7 +138,7 @@ module _ {N : ℕ} {mode : Mode} {slack : ℕ} {src : List ℕ} {old mid : Targe
           (ap told_by told ∙ ap (drop after) over.bytes ∙ ap (λ k. drop after (take k src)) sum ∙ drop-take after (valid - after) src, omega (arith, w.few), omega (arith, w.inside, s.0), omega (arith, least))
 
       -- it was stored, and the turns go on
-      pub turn-stored : {later : Target N} {left : MaskOf} {ticks : ℕ} → left ≡ mask_from rest.bytes after 1 → lanes_of_mask mode left ≡ lanes_of_mask mode rest → IsStored slack src new later after (valid - after) after_end → ticks ≡ ticks_new + 1
+      pub turn-stored : {later : Target N} {left : MaskOf} {ticks : ℕ} → left ≡ mask_from rest.bytes after 1 → lanes_of_mask mode left ≡ lanes_of_mask mode rest → IsStored slack (drop after src) new later (valid - after) after_end → ticks ≡ ticks_new + 1
           → TurnsSoFar mode slack src valid left (state old 0 to ticks_old) (state later after after_end ticks)
       turn-stored {later = later} {left = left} told same s tick =
           let w = so_far.left in let stops = over.stops some in let runs = turn-runs in
@@ -158,7 +158,7 @@ module _ {N : ℕ} {mode : Mode} {slack : ℕ} {src : List ℕ} {old mid : Targe
 -- after the last escape of a vector, its last clean bytes were stored
 pub finished-stored : {N : ℕ} {mode : Mode} {slack : ℕ} {src : List ℕ} {old new : Target N} {border from to size : ℕ} {mask : MaskOf} (ticks_old ticks_new : ℕ)
     → from < border → IsVectorAt mode N slack src from border to size → IsRunEnd mode src border from mask → is_clear mode mask ≡ true
-    → IsStored slack src old new from (border - from) to → ticks_new ≡ ticks_old + 1 → IsFinished mode slack src border (state old from to ticks_old) (state new border (to + (border - from)) ticks_new)
+    → IsStored slack (drop from src) old new (border - from) to → ticks_new ≡ ticks_old + 1 → IsFinished mode slack src border (state old from to ticks_old) (state new border (to + (border - from)) ticks_new)
 finished-stored {mode = mode} {slack = slack} {src = src} {old = old} {new = new} {border = border} {from = from} {to = to} {mask = mask} ticks_old ticks_new before v r none s tick =
     let held = mask-holds mode src 0 border from mask r.bytes (omega (arith, v.inside)) (omega (arith, r.from)) in
     let clean : CleanFrom mode src from border = λ p late early. held-none mode src 0 border from (lanes_of_mask mode mask) held (omega arith) none p late (omega (arith, early)) in

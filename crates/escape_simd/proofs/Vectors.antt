@@ -13,7 +13,7 @@ pub reached-to : (mode : Mode) (src : List ℕ) (border : ℕ) → Reached mode 
 reached-to mode src border = grind arith
 
 -- clean bytes that were stored are passed
-pub clean-stored : {N : ℕ} (mode : Mode) (slack : ℕ) (src : List ℕ) (old new : Target N) (at valid to : ℕ) → at + valid ≤ length src → CleanFrom mode src at (at + valid) → IsStored slack src old new at valid to
+pub clean-stored : {N : ℕ} (mode : Mode) (slack : ℕ) (src : List ℕ) (old new : Target N) (at valid to : ℕ) → at + valid ≤ length src → CleanFrom mode src at (at + valid) → IsStored slack (drop at src) old new valid to
     → Stretch mode slack src old new (at, to) (at + valid, to + valid)
 clean-stored mode slack src old new at valid to inside clean s =
     let p = ahead-passed mode slack src new at (at + valid) (at + valid) to (ahead-front mode src new at (at + valid) to valid (omega arith) s.ahead) (omega arith) (omega arith) inside clean in
@@ -21,7 +21,7 @@ clean-stored mode slack src old new at valid to inside clean s =
 
 -- a clean vector was stored
 pub vector-clean : {N : ℕ} (mode : Mode) (slack : ℕ) (src : List ℕ) (old new : Target N) (at valid to ticks : ℕ) → at + valid ≤ length src → CleanFrom mode src at (at + valid)
-    → IsStored slack src old new at valid to → Advanced mode slack (at + valid) 1 1 src (state old at to ticks) (state new (at + valid) (to + valid) ticks)
+    → IsStored slack (drop at src) old new valid to → Advanced mode slack (at + valid) 1 1 src (state old at to ticks) (state new (at + valid) (to + valid) ticks)
 vector-clean mode slack src old new at valid to ticks inside clean s =
     let same = ahead-runs mode src at (at + valid) (omega arith) clean in
     record {

@@ -29,7 +29,7 @@ unfoldable pub use Rattle.escape_lanes.specs.Spread.{flagged_blocks, put_apart}
 pub use Rattle.escape_lanes.specs.Spread.{IsBlock, flag_count}
 pub use Rattle.escape_lanes.specs.Written.{IsSameSlice, bytes_of, escaped_of, quotes_of, stored_of}
 pub use Rattle.escape_lanes.specs.declared.simd.target.Target.{Target}
-pub use Rattle.escape_simd.specs.Blocks.{AreShort, HasBlocks, IsBlockAt}
+pub use Rattle.escape_simd.specs.Blocks.{AreShort, HasBlocks}
 pub use Rattle.escape_simd.specs.Escaping.{IsEscaping, IsHarmless, IsOneLine}
 pub use Rattle.escape_simd.specs.Formatted.{IsFormatted, IsInnerWritten, IsQuoted, IsWritten, IsWrittenAt}
 pub use Rattle.escape_simd.specs.Headline.{IsOnlyOutput}

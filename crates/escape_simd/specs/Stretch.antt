@@ -122,12 +122,12 @@ pub record IsVectorAt (mode : Mode) (N slack : ℕ) (src : List ℕ) (at border 
   pub inside : border + N ≤ length src
   pub room : HasRoom mode slack src at border to size
 
--- A vector was stored at `to`, whose first `left` lanes are the text's bytes from `from` on. Nothing changed further than
--- `slack` bytes past these.
-pub record IsStored {N : ℕ} (slack : ℕ) (src : List ℕ) (old new : Target N) (from left to : ℕ) : Type 0 where
+-- A vector was stored at `to` that begins with the first `left` of these bytes. Nothing changed further than `slack` bytes past
+-- them.
+pub record IsStored {N : ℕ} (slack : ℕ) (bytes : List ℕ) (old new : Target N) (left to : ℕ) : Type 0 where
   pub same_slice : IsSameSlice old new
   pub written : take to (bytes_of new) ≡ take to (bytes_of old)
-  pub ahead : take left (drop to (bytes_of new)) ≡ take left (drop from src)
+  pub ahead : take left (drop to (bytes_of new)) ≡ take left bytes
   pub kept : drop (to + left + slack) (bytes_of new) ≡ drop (to + left + slack) (bytes_of old)
   pub stored : stored_of new ≡ stored_of old + 1
   pub escaped : escaped_of new ≡ escaped_of old

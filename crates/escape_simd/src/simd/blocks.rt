@@ -1,12 +1,12 @@
 //! The escapes of a vector in blocks of eight bytes, with no branch on a single byte.
-ghost use Rattle.std.specs.Prelude.{◌≡◌, ◌+◌, ◌-◌, ◌*◌, ◌/◌, ◌≤◌, ◌&&◌, true, false, not, nat_eq, length, map, take, drop, if◌then◌else◌};
+ghost use Rattle.std.specs.Prelude.{min, ◌≡◌, ◌+◌, ◌-◌, ◌*◌, ◌/◌, ◌≤◌, ◌&&◌, true, false, not, nat_eq, length, map, take, drop, if◌then◌else◌};
 ghost use Rattle.escape_lanes.specs.Bits.{bits_of, gaps, none_set};
 ghost use Rattle.escape_lanes.specs.Masks.{IsMaskOf, lanes_of_mask, whole_mask};
 ghost use Rattle.escape_lanes.specs.Short.{shortened};
-ghost use Rattle.escape_lanes.specs.Spread.{flag_count, flagged_blocks};
+ghost use Rattle.escape_lanes.specs.Spread.{IsBlock, flag_count, flagged_blocks};
 ghost use Rattle.escape_lanes.specs.Written.{bytes_of, stored_of};
 ghost use Rattle.escape_simd.specs.Modes.{mode_numbered};
-ghost use Rattle.escape_simd.specs.Blocks.{AreShort, HasBlocks, IsBlockAt};
+ghost use Rattle.escape_simd.specs.Blocks.{AreShort, HasBlocks};
 ghost use Rattle.escape_simd.specs.Stretch.{Stretch};
 
 use escape_lanes::simd::escape_mask::EscapeMask;
@@ -80,24 +80,22 @@ fn pay_block<const MODE: u8>(
     (mask.rest(0, ticks), false)
 }
 
-/// Escapes the text's next eight bytes at `_at`, or as many as the mask tells of: `block` begins with them,
-/// shortened. Uses up the mask if none of them is flagged. Returns the place after eight.
+/// Escapes a mask's first eight bytes, or all if it has fewer, at `to`: `block` begins with them, shortened.
+/// Uses up the mask if none of them is flagged. Returns the place after eight.
 #[inline(always)]
 fn put_block<const MODE: u8, const N: usize>(
-    _src: &[u8],
-    _at: usize,
     block: u8x16,
     mask: &mut EscapeMask<MODE>,
     target: &mut Target<'_, N>,
     to: usize,
 ) -> usize
     requires { (length block ≡ 16)
-        × (take 8 block ≡ take 8 (map shortened (take 16 (drop _at _src.now))))
-        × IsMaskOf mask.old (take (length mask.old.bytes) (drop _at _src.now))
+        × (mask.old.from ≡ 0)
+        × (take (min 8 (length mask.old.bytes)) block ≡ map shortened (take 8 mask.old.bytes))
         × (flag_count (take 8 (lanes_of_mask (mode_numbered MODE) mask.old)) ≡ 0 → mask.old.stored ≡ 0)
-        × HasBlocks (mode_numbered MODE)
-        _src.now _at (length mask.old.bytes) to (length (bytes_of target.old)) }
-    ensures block { IsBlockAt (mode_numbered MODE) mask.old _src.now target.old target.new _at to result }
+        × (to + 16 ≤ length (bytes_of target.old)) }
+    ensures block { IsBlock (take 8 (lanes_of_mask (mode_numbered MODE) mask.old)) (take 8 block)
+        target.old target.new to result }
     ensures same { IsMaskOf mask.new mask.old.bytes }
     ensures used { mask.new.stored
         ≡ (if nat_eq (flag_count (take 8 (lanes_of_mask (mode_numbered MODE) mask.old))) 0
@@ -143,7 +141,7 @@ pub(crate) fn escape_blocks<const MODE: u8, const N: usize>(
     'blocks: while 8 * block < N {
         (mask, unused) = pay_block::<MODE>(mask, unused, ticks);
         let eight = half(pieces[block / 2], block);
-        end = put_block::<MODE, N>(src, at + 8 * block, eight, &mut mask, target, end);
+        end = put_block::<MODE, N>(eight, &mut mask, target, end);
         block += 1;
         if valid <= 8 * block {
             break;

@@ -58,14 +58,11 @@ pub(crate) fn chunk<V: Classifier<MODE, N>, const MODE: u8, const N: usize>(
         let v2: V = load_vector(src, at + N);
         let v3: V = load_vector(src, at + 2 * N);
         let v4: V = load_vector(src, at + 3 * N);
-        let (next, end) = store_lanes::<V, MODE, N, false>(v1, src, at, N, &mut mask1, target, to);
-        let (next, end) = store_lanes::<V, MODE, N, false>(
-            v2, src, next, N, &mut mask2, target, end,
-        );
-        let (next, end) = store_lanes::<V, MODE, N, false>(
-            v3, src, next, N, &mut mask3, target, end,
-        );
-        return store_lanes::<V, MODE, N, false>(v4, src, next, N, &mut mask4, target, end);
+        let end = store_lanes::<V, MODE, N, false>(v1, N, &mut mask1, target, to);
+        let end = store_lanes::<V, MODE, N, false>(v2, N, &mut mask2, target, end);
+        let end = store_lanes::<V, MODE, N, false>(v3, N, &mut mask3, target, end);
+        let end = store_lanes::<V, MODE, N, false>(v4, N, &mut mask4, target, end);
+        return (at + 4 * N, end);
     }
     let (next, end) = vector_from::<V, MODE, N>(src, at, at, mask1, target, to, ticks);
     let (next, end) = vector_from::<V, MODE, N>(src, at + N, next, mask2, target, end, ticks);

@@ -11,29 +11,25 @@ use escape_lanes::simd::traits::LoadStore;
 /// How far a vector's store may reach past a text: kernels of more lanes store a text's last bytes exactly.
 const WIDEST_REACH: usize = 32;
 
-/// Stores a loaded vector at `to`, whose first `left` lanes are the text's bytes from `from` on. Uses up the
-/// mask, which tells of these. Returns the places after them.
+/// Stores a vector at `to`, and uses up the mask, which tells of its first `left` lanes. Returns the place
+/// after these.
 ///
-/// Where `LAST`, these may be the text's last bytes, and the store reaches at most 32 bytes past them.
+/// Where `LAST`, they may be a text's last bytes, and the store reaches at most 32 bytes past them.
 #[inline]
 pub(crate) fn store_lanes<V: LoadStore, const MODE: u8, const N: usize, const LAST: bool>(
     v: V,
-    _src: &[u8],
-    from: usize,
     left: usize,
     mask: &mut EscapeMask<MODE>,
     target: &mut Target<'_, N>,
     to: usize,
-) -> (usize, usize)
+) -> usize
     requires { (V.LANES ≡ N)
         × (left ≤ N)
-        × (from + left ≤ length _src.now)
-        × (take left (V.lanes v) ≡ take left (drop from _src.now))
-        × (told_by mask.old ≡ take left (drop from _src.now))
+        × (told_by mask.old ≡ take left (V.lanes v))
         × (to + left + reach LAST N ≤ length (bytes_of target.old))
         × (mask.old.stored ≡ 0) }
-    ensures stored { IsStored (reach LAST N) _src.now target.old target.new from left to }
-    ensures places { (result.0 ≡ from + left) × (result.1 ≡ to + left) }
+    ensures stored { IsStored (reach LAST N) (V.lanes v) target.old target.new left to }
+    ensures place { result ≡ to + left }
     ensures used { mask.new ≡ used_up mask.old }
 {
     mask.count_store();
@@ -42,7 +38,7 @@ pub(crate) fn store_lanes<V: LoadStore, const MODE: u8, const N: usize, const LA
     } else {
         target.store(to, &v);
     }
-    (from + left, to + left)
+    to + left
 }
 
 /// Loads the text's vector at `at`.
@@ -54,7 +50,7 @@ pub(crate) fn load_vector<V: LoadStore>(src: &[u8], at: usize) -> V
     V::load(&src[at..])
 }
 
-/// Stores the text's vector at `from`, as [`store_lanes`] does.
+/// Stores the text's vector at `from`, as [`store_lanes`] does. Returns the places after its `left` bytes.
 #[inline(always)]
 pub(crate) fn store_vector<V: LoadStore, const MODE: u8, const N: usize, const LAST: bool>(
     src: &[u8],
@@ -70,9 +66,13 @@ pub(crate) fn store_vector<V: LoadStore, const MODE: u8, const N: usize, const L
         × (told_by mask.old ≡ take left (drop from src.now))
         × (to + left + reach LAST N ≤ length (bytes_of target.old))
         × (mask.old.stored ≡ 0) }
-    ensures stored { IsStored (reach LAST N) src.now target.old target.new from left to }
+    ensures stored { IsStored (reach LAST N) (drop from src.now) target.old target.new left to }
     ensures places { (result.0 ≡ from + left) × (result.1 ≡ to + left) }
     ensures used { mask.new ≡ used_up mask.old }
 {
-    store_lanes::<V, MODE, N, LAST>(load_vector(src, from), src, from, left, mask, target, to)
+    let v: V = load_vector(src, from);
+    (
+        from + left,
+        store_lanes::<V, MODE, N, LAST>(v, left, mask, target, to),
+    )
 }

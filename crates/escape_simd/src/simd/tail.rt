@@ -160,8 +160,7 @@ pub(crate) fn store_clean_tail<V: Classifier<MODE, N>, const MODE: u8, const N: 
         if !masks.are_clear() {
             return Err(masks);
         }
-        store_lanes::<V, MODE, N, true>(v, text, 0, count, &mut masks.last, target, to);
-        return Ok(to + count);
+        return Ok(store_lanes::<V, MODE, N, true>(v, count, &mut masks.last, target, to));
     }
     let mut masks = classify_pair::<V, MODE, N>(text, ticks);
     if !masks.are_clear() {

@@ -62,7 +62,7 @@ pub(crate) fn escape_run<F: RunEnd<MODE>, const MODE: u8, const N: usize>(
     let mut end = to;
     'run: loop {
         let (after, after_end) = escape::<MODE, N>(src, next, target, end);
-        if !run.goes_on(src, stop, next, after) {
+        if !run.goes_on(src, stop, after) {
             return (after, after_end);
         }
         next = after;

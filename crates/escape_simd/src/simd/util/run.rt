@@ -16,9 +16,9 @@ pub(crate) trait RunEnd<const MODE: u8>: Drop {
     // It has ended there.
     ghost ends: { Self → List ℕ → ℕ → ℕ → Type 0 };
 
-    /// Returns whether the run goes on at `next`, the place after what was escaped at `at`.
-    fn goes_on(&mut self, src: &[u8], stop: usize, at: usize, next: usize) -> bool
-        requires { goes self.old src.now stop at
+    /// Returns whether the run goes on at `next`, the place after what was escaped last.
+    fn goes_on(&mut self, src: &[u8], stop: usize, next: usize) -> bool
+        requires { (at : ℕ) × goes self.old src.now stop at
             × (next ≡ at + source_len (mode_numbered MODE) (drop at src.now))
             × (next ≤ length src.now) }
         ensures goes { result ≡ true → goes self.new src.now stop next }
@@ -36,7 +36,7 @@ impl<const MODE: u8> RunEnd<MODE> for EscapeMask<MODE> {
 
     /// Whether no flag is left is asked first: most vectors have one run, and leave here.
     #[inline(always)]
-    fn goes_on(&mut self, _: &[u8], _: usize, _: usize, next: usize) -> bool {
+    fn goes_on(&mut self, _: &[u8], _: usize, next: usize) -> bool {
         self.clear_first();
         !self.is_clear() && self.is_flagged(next)
     }
@@ -54,8 +54,8 @@ impl<const MODE: u8> RunEnd<MODE> for Entries {
     ghost ends = { λ _ src _ at. run_end (mode_numbered MODE) src at ≡ at };
 
     #[inline(always)]
-    fn goes_on(&mut self, src: &[u8], _: usize, _: usize, next: usize) -> bool {
-        next < src.len() && entry::<MODE>(src[next]).0 != 0
+    fn goes_on(&mut self, src: &[u8], stop: usize, next: usize) -> bool {
+        next < stop && entry::<MODE>(src[next]).0 != 0
     }
 
     ghost flagged = { λ _ src stop at goes. entry-flagged (mode_numbered MODE) src stop at goes };

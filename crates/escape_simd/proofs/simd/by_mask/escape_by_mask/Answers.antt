@@ -36,20 +36,10 @@ returns-then-are_short g c =
 pub escape_by_turns-next-requires : goal.escape_by_turns-next-requires
 escape_by_turns-next-requires g c =
     let src : List ℕ = c.args.src.now in let at : ℕ = c.args.at in
-    let is = take_all (length src - at) (drop at src) (omega (arith, length-drop at src)) in (
-      omega arith,
-      (
-        omega arith,
-        (
-          g.met.V.Classifier.lane_count,
-          g.met.V.Classifier.several,
-          g.met.V.Classifier.most,
-          c.requires.0 ∙ ap (λ xs. whole_mask (take c.args.valid xs)) (sym is),
-          sym c.is_clear.ensures ∙ c.if-is_clear.false,
-          vector-later (mode_numbered g.row.MODE) g.row.N (reach (not (nat_eq (value_of (number g.row.LAST)) 0)) g.row.N) src (take (length src - at) (drop at src)) at c.args.valid c.args.to (length (bytes_of c.args.target.now)) is c.requires.1,
-        ),
-      ),
-    )
+    let is = take_all (length src - at) (drop at src) (omega (arith, length-drop at src)) in let met = g.met.V.Classifier in
+    let told = c.requires.0 ∙ ap (λ xs. whole_mask (take c.args.valid xs)) (sym is) in
+    let room = vector-later (mode_numbered g.row.MODE) g.row.N (reach (not (nat_eq (value_of (number g.row.LAST)) 0)) g.row.N) src (take (length src - at) (drop at src)) at c.args.valid c.args.to (length (bytes_of c.args.target.now)) is c.requires.1 in
+    (omega arith, (omega arith, (met.lane_count, met.several, met.most, told, sym c.is_clear.ensures ∙ c.if-is_clear.false, room)))
 
 -- the first bytes of a text, as they were escaped as a text of their own
 by-turns : {N : ℕ} {mode : Mode} {slack valid size : ℕ} {src : List ℕ} {at to end t0 t1 next : ℕ} {old new : Target N} → IsVectorAt mode N slack src at (at + valid) to size

@@ -1,55 +1,55 @@
 use Rattle.escape_simd.proofs.Words.{take-take, ◌≡◌, ◌≤◌, ℕ, ◌+◌, ◌*◌, ◌∙◌, List, length, take, drop, ap, refl, subst, sym, arith, bytes_of, mode_numbered, told_by, Advanced, HasRoom, IsStored, MaskOf, Mode, Reached, Target, state, whole_mask}
 use Rattle.escape_simd.proofs.Lanes.{CleanFrom}
 use Rattle.escape_simd.proofs.Parts.{clean-four}
-use Rattle.escape_simd.proofs.Stretches.{room-least, room-near, room-on}
+use Rattle.escape_simd.proofs.Stretches.{room-least, room-near, room-on, stored_alike}
 use Rattle.escape_simd.proofs.Vectors.{advanced-asked, advanced-bordered, advanced-ended, advanced-onward, reached-to, vector-clean}
 use Rattle.escape_simd.proofs.simd.chunk.chunk.Goals as goal
 
 -- each of the vectors can be stored
 module _ {N : ℕ} (vectors : ℕ) {mode : Mode} {src : List ℕ} {at to size : ℕ} (inside : at + (vectors + 1) * N ≤ length src) (room : HasRoom mode N src at (at + vectors * N) to size) where
-  store-at : (k j i p : ℕ) (target : Target N) {width : ℕ} {lanes : List ℕ} {mask : MaskOf} → width ≡ N → lanes ≡ take width (drop j src) → mask ≡ whole_mask (take N (drop j src)) → j ≡ at + k → i ≡ j → p ≡ to + k → k + N ≤ vectors * N → (vectors + 1) * N ≡ vectors * N + N
-      → length (bytes_of target) ≡ size → (width ≡ N) × (N ≤ N) × (i + N ≤ length src) × (take N lanes ≡ take N (drop i src)) × (told_by mask ≡ take N (drop i src)) × (p + N + N ≤ length (bytes_of target)) × (mask.stored ≡ 0)
-  store-at k j i p target {width} wide loaded told starts is ends few more same =
+  store-at : (k j p : ℕ) (target : Target N) {width : ℕ} {lanes : List ℕ} {mask : MaskOf} → width ≡ N → lanes ≡ take width (drop j src) → mask ≡ whole_mask (take N (drop j src)) → p ≡ to + k → k + N ≤ vectors * N → (vectors + 1) * N ≡ vectors * N + N
+      → length (bytes_of target) ≡ size → (width ≡ N) × (N ≤ N) × (told_by mask ≡ take N lanes) × (p + N + N ≤ length (bytes_of target)) × (mask.stored ≡ 0)
+  store-at k j p target {width} wide loaded told ends few more same =
       let least = room-least (omega arith) (omega (arith, inside, more)) room in
-      (wide, omega arith, omega (arith, inside, starts, is, few, more), ap (take N) loaded ∙ take-take N width (drop j src) (omega (arith, wide)) ∙ ap (λ k. take N (drop k src)) (sym is), ap told_by told ∙ ap (λ k. take N (drop k src)) (sym is), omega (arith, ends, few, least, same), ap (λ m. m.stored) told)
+      (wide, omega arith, ap told_by told ∙ sym (ap (take N) loaded ∙ take-take N width (drop j src) (omega (arith, wide))), omega (arith, ends, few, least, same), ap (λ m. m.stored) told)
 
-pub store_lanes-next-requires : goal.store_lanes-next-requires
-store_lanes-next-requires g c =
-    (omega arith, (omega arith, store-at 4 c.requires.0 c.requires.1 0 c.args.at c.args.at c.args.to c.args.target.now g.met.V.Classifier.lane_count c.load_vector-v1.ensures c.classify_four-mask1.ensures.first (omega arith) refl (omega arith) (omega arith) (omega arith) refl))
+pub store_lanes-end-requires : goal.store_lanes-end-requires
+store_lanes-end-requires g c =
+    (omega arith, (omega arith, store-at 4 c.requires.0 c.requires.1 0 c.args.at c.args.to c.args.target.now g.met.V.Classifier.lane_count c.load_vector-v1.ensures c.classify_four-mask1.ensures.first (omega arith) (omega arith) (omega arith) refl))
 
-pub store_lanes-next-requires-then-clear : goal.store_lanes-next-requires-then-clear
-store_lanes-next-requires-then-clear g c =
-    let n : ℕ = g.row.N in let s = c.store_lanes-next in let e = s.ensures in
-    (omega arith, (omega arith, store-at 4 c.requires.0 c.requires.1 n (c.args.at + n) s.result.0 s.result.1 s.new.target g.met.V.Classifier.lane_count c.load_vector-v2.ensures c.classify_four-mask1.ensures.second refl e.places.0 e.places.1 (omega arith) (omega arith) e.stored.same_slice.len))
+pub store_lanes-end-requires-then-clear : goal.store_lanes-end-requires-then-clear
+store_lanes-end-requires-then-clear g c =
+    let n : ℕ = g.row.N in let s = c.store_lanes-end in let e = s.ensures in
+    (omega arith, (omega arith, store-at 4 c.requires.0 c.requires.1 n (c.args.at + n) s.result s.new.target g.met.V.Classifier.lane_count c.load_vector-v2.ensures c.classify_four-mask1.ensures.second e.place (omega arith) (omega arith) e.stored.same_slice.len))
 
-pub store_lanes-next-requires-then-clear-2 : goal.store_lanes-next-requires-then-clear-2
-store_lanes-next-requires-then-clear-2 g c =
-    let n : ℕ = g.row.N in let e = c.store_lanes-next.ensures in let s = c.store_lanes-next-then-clear in let e2 = s.ensures in
-    (omega arith, (omega arith, store-at 4 c.requires.0 c.requires.1 (2 * n) (c.args.at + 2 * n) s.result.0 s.result.1 s.new.target g.met.V.Classifier.lane_count c.load_vector-v3.ensures c.classify_four-mask1.ensures.third refl (omega (arith, e.places.0, e2.places.0)) (omega (arith, e.places.1, e2.places.1)) (omega arith) (omega arith) (e2.stored.same_slice.len ∙ e.stored.same_slice.len)))
+pub store_lanes-end-requires-then-clear-2 : goal.store_lanes-end-requires-then-clear-2
+store_lanes-end-requires-then-clear-2 g c =
+    let n : ℕ = g.row.N in let e = c.store_lanes-end.ensures in let s = c.store_lanes-end-then-clear in let e2 = s.ensures in
+    (omega arith, (omega arith, store-at 4 c.requires.0 c.requires.1 (2 * n) (c.args.at + 2 * n) s.result s.new.target g.met.V.Classifier.lane_count c.load_vector-v3.ensures c.classify_four-mask1.ensures.third (omega (arith, e.place, e2.place)) (omega arith) (omega arith) (e2.stored.same_slice.len ∙ e.stored.same_slice.len)))
 
-pub store_lanes-requires : goal.store_lanes-requires
-store_lanes-requires g c =
-    let n : ℕ = g.row.N in let e = c.store_lanes-next.ensures in let e2 = c.store_lanes-next-then-clear.ensures in let s = c.store_lanes-next-then-clear-2 in let e3 = s.ensures in
-    (omega arith, (omega arith, store-at 4 c.requires.0 c.requires.1 (3 * n) (c.args.at + 3 * n) s.result.0 s.result.1 s.new.target g.met.V.Classifier.lane_count c.load_vector-v4.ensures c.classify_four-mask1.ensures.fourth refl (omega (arith, e.places.0, e2.places.0, e3.places.0)) (omega (arith, e.places.1, e2.places.1, e3.places.1)) (omega arith) (omega arith) (e3.stored.same_slice.len ∙ e2.stored.same_slice.len ∙ e.stored.same_slice.len)))
+pub store_lanes-end-requires-then-clear-3 : goal.store_lanes-end-requires-then-clear-3
+store_lanes-end-requires-then-clear-3 g c =
+    let n : ℕ = g.row.N in let e = c.store_lanes-end.ensures in let e2 = c.store_lanes-end-then-clear.ensures in let s = c.store_lanes-end-then-clear-2 in let e3 = s.ensures in
+    (omega arith, (omega arith, store-at 4 c.requires.0 c.requires.1 (3 * n) (c.args.at + 3 * n) s.result s.new.target g.met.V.Classifier.lane_count c.load_vector-v4.ensures c.classify_four-mask1.ensures.fourth (omega (arith, e.place, e2.place, e3.place)) (omega arith) (omega arith) (e3.stored.same_slice.len ∙ e2.stored.same_slice.len ∙ e.stored.same_slice.len)))
 
 -- a vector of a clean chunk was stored
-module _ {N : ℕ} {mode : Mode} {src : List ℕ} {at : ℕ} (inside : at + 4 * N ≤ length src) (clean : CleanFrom mode src at (at + 4 * N)) where
-  stored-on : {old new : Target N} {i p next end t : ℕ} → IsStored N src old new i N p → next ≡ i + N → end ≡ p + N → at ≤ i → next ≤ at + 4 * N → Advanced mode N next 1 1 src (state old i p t) (state new next end t)
-  stored-on {old} {new} {i} {p} {next} {end} {t} s is ends after before =
-      advanced-ended (sym is) (sym is) (sym ends) (vector-clean mode N src old new i N p t (omega (arith, inside, is, before)) (λ q from until. clean q (omega (arith, after, from)) (omega (arith, before, is, until))) s)
+module _ {N : ℕ} {mode : Mode} {src : List ℕ} {at : ℕ} (inside : at + 4 * N ≤ length src) (clean : CleanFrom mode src at (at + 4 * N)) {width : ℕ} (wide : width ≡ N) where
+  stored-on : (i next t : ℕ) {lanes : List ℕ} {old new : Target N} {p end : ℕ} → lanes ≡ take width (drop i src) → IsStored N lanes old new N p → end ≡ p + N → next ≡ i + N → at ≤ i → next ≤ at + 4 * N → Advanced mode N next 1 1 src (state old i p t) (state new next end t)
+  stored-on i next t {lanes} {old} {new} {p} {end} loaded s ends is after before =
+      let held = stored_alike (ap (take N) loaded ∙ take-take N width (drop i src) (omega (arith, wide))) s in
+      advanced-ended (sym is) (sym is) (sym ends) (vector-clean mode N src old new i N p t (omega (arith, inside, is, before)) (λ q from until. clean q (omega (arith, after, from)) (omega (arith, before, is, until))) held)
 
 pub returns-then-clear : goal.returns-then-clear
 returns-then-clear g c =
     let mode = mode_numbered g.row.MODE in let n : ℕ = g.row.N in let src : List ℕ = c.args.src.now in let at : ℕ = c.args.at in let four = c.classify_four-mask1.ensures in
-    let inside : at + 4 * n ≤ length src = omega (arith, c.requires.0) in
+    let inside : at + 4 * n ≤ length src = omega (arith, c.requires.0) in let wide = g.met.V.Classifier.lane_count in let t = c.classify_four-mask1.new.ticks in
     let clean = clean-four mode n src at inside four.first four.second four.third four.fourth four.clear c.if-clear.true in
-    let e1 = c.store_lanes-next.ensures in let e2 = c.store_lanes-next-then-clear.ensures in let e3 = c.store_lanes-next-then-clear-2.ensures in let e4 = c.store_lanes.ensures in
-    let p1 = e1.places.0 in let p2 = e2.places.0 in let p3 = e3.places.0 in let p4 = e4.places.0 in
-    let s1 = stored-on inside clean e1.stored p1 e1.places.1 (omega arith) (omega (arith, p1)) in
-    let s2 = stored-on inside clean e2.stored p2 e2.places.1 (omega (arith, p1)) (omega (arith, p1, p2)) in
-    let s3 = stored-on inside clean e3.stored p3 e3.places.1 (omega (arith, p1, p2)) (omega (arith, p1, p2, p3)) in
-    let s4 = stored-on inside clean e4.stored p4 e4.places.1 (omega (arith, p1, p2, p3)) (omega (arith, p1, p2, p3, p4)) in
-    advanced-asked c.args.ticks.now 4 (omega (arith, four.ticks)) (advanced-bordered (omega (arith, p1, p2, p3, p4)) (advanced-onward (advanced-onward (advanced-onward s1 s2) s3) s4))
+    let e1 = c.store_lanes-end.ensures in let e2 = c.store_lanes-end-then-clear.ensures in let e3 = c.store_lanes-end-then-clear-2.ensures in let e4 = c.store_lanes-end-then-clear-3.ensures in
+    let s1 = stored-on inside clean wide at (at + n) t c.load_vector-v1.ensures e1.stored e1.place (omega arith) (omega arith) (omega arith) in
+    let s2 = stored-on inside clean wide (at + n) (at + 2 * n) t c.load_vector-v2.ensures e2.stored e2.place (omega arith) (omega arith) (omega arith) in
+    let s3 = stored-on inside clean wide (at + 2 * n) (at + 3 * n) t c.load_vector-v3.ensures e3.stored e3.place (omega arith) (omega arith) (omega arith) in
+    let s4 = stored-on inside clean wide (at + 3 * n) (at + 4 * n) t c.load_vector-v4.ensures e4.stored e4.place (omega arith) (omega arith) (omega arith) in
+    advanced-asked c.args.ticks.now 4 (omega (arith, four.ticks)) (advanced-onward (advanced-onward (advanced-onward s1 s2) s3) s4)
 
 -- a vector more is there, where those before it were escaped
 module _ {N : ℕ} (vectors : ℕ) {mode : Mode} {src : List ℕ} {at to : ℕ} {old mid : Target N} (whole : at + (vectors + 1) * N ≤ length src) (room : HasRoom mode N src at (at + vectors * N) to (length (bytes_of old))) where

@@ -2,8 +2,7 @@ use Rattle.escape_simd.proofs.Words.{◌≡◌, ◌-◌, ◌∙◌, ℕ, List, l
 use Rattle.escape_simd.proofs.Last.{loaded-short}
 use Rattle.escape_simd.proofs.simd.tail.classify_short.Goals as goal
 
--- What is loaded is the text,
--- with zeros after it.
+-- what is loaded is the text, with zeros after it
 pub classify_front-last-requires : goal.classify_front-last-requires
 classify_front-last-requires g c =
     let text : List ℕ = c.args.text.now in

@@ -1,15 +1,15 @@
 use Rattle.escape_simd.proofs.Words.{◌≡◌, ℕ, List, true, ◌+◌, ◌-◌, ◌∙◌, and_parts, length, take, length-drop, drop, replicate, ap, sym, subst, arith, is_clear, mode_numbered, take-append_seam, take_all, told_by, Advanced, reach, state}
 use Rattle.escape_simd.proofs.Last.{one-begun, tail-clean_back, tail-clean_front, two-begun, two-clean}
-use Rattle.escape_simd.proofs.Stretches.{room-least}
+use Rattle.escape_simd.proofs.Stretches.{room-least, stored_alike}
 use Rattle.escape_simd.proofs.Vectors.{advanced-asked, advanced-ended, vector-clean}
 use Rattle.escape_simd.proofs.simd.tail.store_clean_tail.Goals as goal
 
 pub store_lanes-requires : goal.store_lanes-requires
 store_lanes-requires g c =
     let text : List ℕ = c.args.text.now in let count : ℕ = length text in let v = c.classify_short-v.ensures in let least = room-least (omega arith) (omega arith) c.requires.1 in
-    let start : count - g.row.N ≡ 0 = omega (arith, c.if-count.true) in let all : take count text ≡ text = take_all count text (omega arith) in
-    let loaded = ap (take count) v.loaded ∙ take-append_seam text (replicate (g.row.N - count) 0) ∙ sym all in
-    (omega arith, (omega arith, (g.met.V.Classifier.lane_count, omega (arith, c.if-count.true), omega arith, loaded, ap told_by v.masks.back ∙ ap (λ k. drop k text) start ∙ sym all, omega (arith, least), ap (λ m. m.stored) v.masks.back)))
+    let start : count - g.row.N ≡ 0 = omega (arith, c.if-count.true) in
+    let loaded = ap (take count) v.loaded ∙ take-append_seam text (replicate (g.row.N - count) 0) in
+    (omega arith, (omega arith, (g.met.V.Classifier.lane_count, omega (arith, c.if-count.true), ap told_by v.masks.back ∙ ap (λ k. drop k text) start ∙ sym loaded, omega (arith, least), ap (λ m. m.stored) v.masks.back)))
 
 pub store_vector-requires : goal.store_vector-requires
 store_vector-requires g c =
@@ -27,9 +27,10 @@ returns-then-count-clause-clean g c =
     let mode = mode_numbered g.row.MODE in let n : ℕ = g.row.N in let text : List ℕ = c.args.text.now in
     let clear = (and_parts (is_clear mode c.classify_short-v.result.1.first) (is_clear mode c.classify_short-v.result.1.last) (sym c.are_clear.ensures ∙ c.if-not-are_clear.false)).1 in
     let clean = tail-clean_back mode c.classify_short-v.ensures.masks clear in
-    let e = vector-clean mode (reach true n) text c.args.target.now c.store_lanes.new.target 0 (length text) c.args.to c.classify_short-v.new.ticks (omega arith) (λ p late early. clean p (omega (arith, c.if-count.true)) (omega (arith, early))) c.store_lanes.ensures.stored in
-    subst (λ v. Advanced mode (reach true n) (length text) v 0 text (state c.args.target.now 0 c.args.to c.args.ticks.now) (state c.store_lanes.new.target (length text) (c.args.to + length text) c.classify_short-v.new.ticks)) (one-begun n (length text) c.if-count.true)
-    (advanced-asked c.args.ticks.now 1 c.classify_short-v.ensures.tick (advanced-ended (omega arith) (omega arith) (omega arith) e))
+    let s = c.store_lanes.ensures in let loaded = ap (take (length text)) c.classify_short-v.ensures.loaded ∙ take-append_seam text (replicate (n - length text) 0) ∙ sym (take_all (length text) text (omega arith)) in
+    let e = vector-clean mode (reach true n) text c.args.target.now c.store_lanes.new.target 0 (length text) c.args.to c.classify_short-v.new.ticks (omega arith) (λ p late early. clean p (omega (arith, c.if-count.true)) (omega (arith, early))) (stored_alike loaded s.stored) in
+    subst (λ v. Advanced mode (reach true n) (length text) v 0 text (state c.args.target.now 0 c.args.to c.args.ticks.now) (state c.store_lanes.new.target (length text) c.store_lanes.result c.classify_short-v.new.ticks)) (one-begun n (length text) c.if-count.true)
+    (advanced-asked c.args.ticks.now 1 c.classify_short-v.ensures.tick (advanced-ended (omega arith) (omega arith) (omega (arith, s.place)) e))
 
 pub returns-clause-clean : goal.returns-clause-clean
 returns-clause-clean g c =

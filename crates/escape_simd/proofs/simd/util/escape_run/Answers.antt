@@ -12,6 +12,9 @@ escape-after-requires g c =
     let i = c.run.invariant in let f = g.met.F.RunEnd.flagged c.run.run c.args.src.now c.args.stop c.run.next i.goes in
     (omega arith, (f.0, run-room i.room f.1 f.2))
 
+pub goes_on-requires : goal.goes_on-requires
+goes_on-requires g c = (c.run.next, c.run.invariant.goes, c.escape-after.ensures.place, c.escape-after.ensures.stretch.inside)
+
 pub returns-then-not-goes_on-clause-escaped : goal.returns-then-not-goes_on-clause-escaped
 returns-then-not-goes_on-clause-escaped g c =
     let i = c.run.invariant in let f = g.met.F.RunEnd.flagged c.run.run c.args.src.now c.args.stop c.run.next i.goes in

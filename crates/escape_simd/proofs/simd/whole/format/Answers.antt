@@ -4,10 +4,8 @@ use Rattle.escape_simd.proofs.simd.whole.format.Goals as goal
 
 pub escape_bytes-close-requires : goal.escape_bytes-close-requires
 escape_bytes-close-requires g c =
-    let mode = mode_numbered g.row.MODE in let o = c.write_quote-open.ensures in (
-      omega arith,
-      whole-room mode (reach true g.row.N) c.as_bytes.result.now c.write_quote-open.result (length (bytes_of c.write_quote-open.new.target)) (omega (arith, bound-quotes mode (length c.args.value.now), ap length c.as_bytes.ensures.value, o.quoted.ends, o.same_slice.len, c.requires)),
-    )
+    let mode = mode_numbered g.row.MODE in let o = c.write_quote-open.ensures in
+    (omega arith, whole-room mode (reach true g.row.N) c.as_bytes.result.now c.write_quote-open.result (length (bytes_of c.write_quote-open.new.target)) (omega (arith, bound-quotes mode (length c.args.value.now), ap length c.as_bytes.ensures.value, o.quoted.ends, o.same_slice.len, c.requires)))
 
 pub write_quote-requires : goal.write_quote-requires
 write_quote-requires g c =

@@ -71,8 +71,6 @@ pub(crate) fn store_vector<V: LoadStore, const MODE: u8, const N: usize, const L
     ensures used { mask.new ≡ used_up mask.old }
 {
     let v: V = load_vector(src, from);
-    (
-        from + left,
-        store_lanes::<V, MODE, N, LAST>(v, left, mask, target, to),
-    )
+    let end = store_lanes::<V, MODE, N, LAST>(v, left, mask, target, to);
+    (from + left, end)
 }

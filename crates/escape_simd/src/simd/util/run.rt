@@ -16,7 +16,7 @@ pub(crate) trait RunEnd<const MODE: u8>: Drop {
     // It has ended there.
     ghost ends: { Self → List ℕ → ℕ → ℕ → Type 0 };
 
-    /// Returns whether the run goes on at `next`, the place after what was escaped last.
+    /// Returns whether the run goes on at `next`, the place after what was escaped last: before `stop` alone.
     fn goes_on(&mut self, src: &[u8], stop: usize, next: usize) -> bool
         requires { (at : ℕ) × goes self.old src.now stop at
             × (next ≡ at + source_len (mode_numbered MODE) (drop at src.now))

@@ -4,7 +4,7 @@
 //     escape::append_html(page, "<a href='/x'>");            // page += &lt;a href=&#x27;&#x2f;x&#x27;&gt;
 //
 // Each call throws escape::error if the text is not UTF-8, and what std::string throws if it cannot grow
-// (std::bad_alloc, std::length_error). A call that throws leaves its target as it was.
+// (std::bad_alloc, std::length_error). A call that throws leaves its target's content as it was; it may have moved.
 //
 // A text of any size is escaped by pieces, over a buffer of 12 KiB on the stack. So a result allocates only
 // what std::string needs for the output itself. An append allocates nothing if the target has room and the text

@@ -28,6 +28,9 @@ version() {
   awk '/^#define ESCAPE_VERSION_(MAJOR|MINOR|PATCH) / { printf "%s%s", dot, $3; dot = "." } END { print "" }' "$top/c/escape.h"
 }
 
+# Prints the number in the shared library's name: with the minor one before version 1, as calls may change till then.
+major() { version | sed 's/^\(0\.[0-9]*\|[0-9]*\)\..*/\1/'; }
+
 # What a script of tests counts, and its last line.
 passed=0 failed=0 skipped=0
 pass() { passed=$((passed + 1)) && echo "passed $1"; }
@@ -82,8 +85,8 @@ make_room() {
   trap 'rm -rf "$room"' EXIT
 }
 
-# has COMMAND: whether it is there.
-has() { command -v "$1" >/dev/null; }
+# has COMMAND: whether it is there. It may have words behind it, as $CC may.
+has() { command -v "${1%% *}" >/dev/null; }
 
 # makes_wheels PYTHON: whether it is there with its headers, and a C compiler.
 makes_wheels() {
@@ -159,7 +162,7 @@ compiler_for() {
 # link_shared COMPILER LIBRARY SONAME FILE: links the static library to a shared one. It needs no library but
 # C's, of which some levels call memset. A file that is in use is replaced, and not written over.
 link_shared() {
-  "$1" -shared -Wl,-soname,"$3" -Wl,--no-undefined -o "$4.new" \
+  $1 -shared -Wl,-soname,"$3" -Wl,--no-undefined -o "$4.new" \
     -Wl,--whole-archive "$2" -Wl,--no-whole-archive &&
     mv -f "$4.new" "$4"
 }
@@ -202,7 +205,7 @@ prove_library() { (cd "$top/crates/$1" && rt lib --jobs "$(jobs_for "$1")"); }
 # were removed. Some crates lack one.
 is_fresh() {
   local crates=("${@:2}") newer
-  crates=("${crates[@]/#/$top/crates/}")
+  crates=("${crates[@]/#/"$top/crates/"}")
   newer=$(find "$top/crates.txt" "${crates[@]/%//src}" "${crates[@]/%//specs}" "${crates[@]/%//proofs}" -newer "$1" -print -quit 2>/dev/null)
   [ -e "$1" ] && [ -z "$newer" ]
 }

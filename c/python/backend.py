@@ -23,7 +23,9 @@ import zipfile
 from pathlib import Path
 
 HERE = Path(__file__).resolve().parent
-PLACES = HERE, HERE.parent, HERE.parent / "lib", HERE.parent / "include"
+# What lies around an unpacked source archive is not the library's.
+IS_ARCHIVE = (HERE / "PKG-INFO").exists()
+PLACES = (HERE,) if IS_ARCHIVE else (HERE, HERE.parent, HERE.parent / "lib", HERE.parent / "include")
 PACKAGE = "escape_simd"
 SOURCES = [PACKAGE + "/" + name for name in ("__init__.py", "__init__.pyi", "py.typed")]
 
@@ -45,12 +47,13 @@ def libraries():
 
     Of a release these are the shared ones, of which the loader takes the one for the processor; else the static one.
     """
-    shared = "libescape.so." + version().split(".")[0]
+    major, minor, _ = version().split(".")
+    shared = "libescape.so." + (major if major != "0" else "0." + minor)
     for folder in PLACES:
         if (folder / shared).exists():
             return {str(file.relative_to(folder)): file for file in (folder / shared, *folder.glob("glibc-hwcaps/*/" + shared))}
-    build_c = HERE.parents[1] / "build-c"
-    if build_c.exists() and not (HERE.parent / "libescape.a").exists():
+    build_c = HERE.parent.parent / "build-c"
+    if not IS_ARCHIVE and build_c.exists() and not (HERE.parent / "libescape.a").exists():
         subprocess.check_call([build_c])
     return {"libescape.a": find("libescape.a")}
 
@@ -58,7 +61,7 @@ def libraries():
 def compile_extension(library, target):
     compiler = shlex.split(os.environ.get("CC") or sysconfig.get_config_var("CC") or "cc")
     headers = [find("escape.h").parent, sysconfig.get_path("include"), sysconfig.get_path("platinclude")]
-    flags = ["-std=c11", "-O3", "-Wall", "-Wextra", "-fPIC", "-shared"] + ["-I%s" % folder for folder in headers]
+    flags = ["-std=c11", "-O3", "-DNDEBUG", "-Wall", "-Wextra", "-fPIC", "-shared"] + ["-I%s" % folder for folder in headers]
     # The loader looks for a shared library beside the extension, before it looks in LD_LIBRARY_PATH.
     link = "--exclude-libs,ALL" if library.suffix == ".a" else "--disable-new-dtags,-rpath,$ORIGIN"
     subprocess.check_call(compiler + flags + [HERE / PACKAGE / "_escape.c", library, "-Wl," + link, "-o", target])

@@ -1,8 +1,10 @@
 """Tests of the package escape_simd, which c/tests/python installs. Prints `passed NAME`, `failed NAME` or `skipped
 NAME` for each test, and at the end `N passed, M failed, K skipped`."""
 
+import array
 import ast
 import doctest
+import enum
 import html
 import inspect
 import json
@@ -169,7 +171,7 @@ def test_bytes():
 def test_not_text():
     """what is no text is a TypeError that names what is wanted"""
     for ours, _ in PAIRS:
-        for wrong in 5, None, ["a"], object(), str:
+        for wrong in 5, None, ["a"], object(), str, array.array("i", [60]):
             error = raised_by(ours, wrong)
             assert type(error) is TypeError and "takes a str or bytes, not %s" % type(wrong).__name__ in str(error), error
 
@@ -259,6 +261,13 @@ class Page:
         return "<p>"
 
 
+class Icon(str, enum.Enum):
+    CLOSE = "<i>"
+
+    def __html__(self):
+        return self
+
+
 class Wrong:
     def __html__(self):
         return 5
@@ -278,8 +287,9 @@ def test_html_itself():
     assert type(raised_by(library.html, Wrong())) is TypeError
     assert type(raised_by(library.html, Failing())) is KeyError
     assert type(raised_by(library.script, Page())) is TypeError
-    output = library.html(Page(), markup=True)
-    assert output == "<p>" and type(output) is library.Markup
+    for given, wanted in (Page(), "<p>"), (Icon.CLOSE, "<i>"):
+        output = library.html(given, markup=True)
+        assert output == wanted and type(output) is library.Markup
 
 
 def test_markup():

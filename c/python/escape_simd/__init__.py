@@ -32,11 +32,15 @@ def _text(name, text, as_str=False):
     """Returns the text of an object as a str if it is one or if that is wanted, else as bytes."""
     if issubclass(type(text), str):
         return str.__str__(text)
-    try:
-        # A copy, unless it is bytes: another thread could change the object.
-        text = text if type(text) is bytes else bytes(memoryview(text))
-    except TypeError:
-        raise TypeError("%s() takes a str or bytes, not %s" % (name, type(text).__name__)) from None
+    if type(text) is not bytes:
+        try:
+            view = memoryview(text)
+        except TypeError:
+            view = None
+        if view is None or view.itemsize != 1:
+            raise TypeError("%s() takes a str or bytes, not %s" % (name, type(text).__name__))
+        # A copy: another thread could change the object.
+        text = bytes(view)
     return text.decode() if as_str else text
 
 
@@ -47,11 +51,11 @@ def json(text, /):
 def html(text, /, *, markup=False):
     if hasattr(text, "__html__"):
         output = text.__html__()
-        if not isinstance(output, str):
+        if not issubclass(type(output), str):
             raise TypeError("__html__() returned %s, not a str" % type(output).__name__)
     else:
         output = _escape.html(_text("html", text, markup))
-    return Markup(output) if markup else output
+    return Markup(str.__str__(output)) if markup else output
 
 
 def script(text, /, *, markup=False):

@@ -112,10 +112,11 @@ static PyObject *escape(const struct mode *mode, PyObject *object) {
     int is_str = PyUnicode_Check(object), is_clean;
     Py_ssize_t length = is_str ? 0 : PyBytes_GET_SIZE(object);
     const char *text = is_str ? PyUnicode_AsUTF8AndSize(object, &length) : PyBytes_AS_STRING(object);
-    struct output output = {.is_decoded = is_str && !PyUnicode_IS_ASCII(object)};
+    struct output output = {0};
     char piece[ROOM];
     PyObject *answer;
     if (!text) return NULL;
+    output.is_decoded = is_str && !PyUnicode_IS_ASCII(object);
     if (!escape_pieces(mode->number, is_str, text, (size_t)length, piece, measure, &output)) {
         /* It raises what Python raises for these bytes. */
         Py_XDECREF(PyUnicode_DecodeUTF8(text, length, NULL));
@@ -175,10 +176,20 @@ static PyMethodDef methods[] = {
     {0},
 };
 
-static struct PyModuleDef definition = {PyModuleDef_HEAD_INIT, .m_name = "escape_simd._escape", .m_methods = methods};
-
-PyMODINIT_FUNC PyInit__escape(void) {
-    PyObject *module = PyModule_Create(&definition);
-    if (module && PyModule_AddIntConstant(module, "version", (long)escape_version()) < 0) Py_CLEAR(module);
-    return module;
+static int add_version(PyObject *module) {
+    return PyModule_AddIntConstant(module, "version", (long)escape_version());
 }
+
+/* Subinterpreters share nothing of it: the module keeps no state. */
+static struct PyModuleDef_Slot slots[] = {
+    {Py_mod_exec, (void *)add_version},
+#if PY_VERSION_HEX >= 0x030c0000
+    {Py_mod_multiple_interpreters, Py_MOD_PER_INTERPRETER_GIL_SUPPORTED},
+#endif
+    {0, NULL},
+};
+
+static struct PyModuleDef definition = {
+    PyModuleDef_HEAD_INIT, .m_name = "escape_simd._escape", .m_methods = methods, .m_slots = slots};
+
+PyMODINIT_FUNC PyInit__escape(void) { return PyModuleDef_Init(&definition); }

@@ -1,4 +1,4 @@
-//! The three ways to a kernel: over a target, over a slice, and by the kernel's value.
+//! The ways to a kernel: over a target, over a slice, and by the kernel's value.
 ghost use Rattle.std.specs.Prelude.{◌≡◌, ◌≤◌, length};
 ghost use Rattle.escape_lanes.specs.Mode.{mode_of, script};
 ghost use Rattle.escape_simd.specs.Kernels.{lanes_of};
@@ -7,7 +7,9 @@ ghost use Rattle.escape_simd.specs.Modes.{escaping};
 
 use escape_simd::simd::target::{Target, Ticks};
 use escape_simd::simd::{avx2, avx512, neon, sse2, v128};
-use escape_simd::{Kernel, Mode, format_text};
+use escape_simd::{
+    Kernel, Mode, format_html_string, format_json_string, format_script_string, format_text,
+};
 
 /// Each mode.
 pub const MODES: [Mode; 3] = [Mode::Json, Mode::Html, Mode::Script];
@@ -28,11 +30,13 @@ pub enum Way {
     Target,
     /// `format_string` of the kernel's module.
     Slice,
+    /// The call that is named after the mode, with the kernel's value.
+    Named,
     /// `format_text`, with the values of the kernel and the mode.
     Value,
 }
 
-pub const WAYS: [Way; 3] = [Way::Target, Way::Slice, Way::Value];
+pub const WAYS: [Way; 4] = [Way::Target, Way::Slice, Way::Named, Way::Value];
 
 /// How many bytes a vector of the kernel has.
 pub fn lanes(kernel: Kernel) -> usize
@@ -61,6 +65,11 @@ pub fn format(way: Way, kernel: Kernel, mode: Mode, text: &str, dst: &mut [u8]) 
             Mode::Json => by_slice::<false>(kernel, text, dst),
             Mode::Html => by_slice::<true>(kernel, text, dst),
             Mode::Script => script_by_slice(kernel, text, dst),
+        },
+        Way::Named => match mode {
+            Mode::Json => format_json_string(kernel, text, dst),
+            Mode::Html => format_html_string(kernel, text, dst),
+            Mode::Script => format_script_string(kernel, text, dst),
         },
         Way::Value => format_text(kernel, mode, text, dst),
     }

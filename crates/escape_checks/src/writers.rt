@@ -1,8 +1,9 @@
-//! What writes the output of a text: the kernels in each way, and the calls that return a `String`.
+//! What writes the output of a text: the kernels in each way, the runs, and the calls that return a `String`.
 use crate::routes::{KERNELS, WAYS, Way, format};
 use escape_simd::html::{EscapeHtmlError, escape_html};
 use escape_simd::json::{escape, escape_script};
 use escape_simd::{Kernel, Mode, format_inner};
+use escape_stream::run;
 use std::alloc::Global;
 
 /// What a target holds before.
@@ -15,6 +16,8 @@ pub enum Writer {
     Kernel(Kernel, Way),
     /// A kernel, with no quotation marks.
     Inner(Kernel),
+    /// A run, with this kernel.
+    Run(Kernel),
     /// The call that returns a string.
     Call,
 }
@@ -72,7 +75,18 @@ fn differing_kernel(
     if target.get(..count) != between_quotes(mode, output) {
         return Ok(Some(Writer::Inner(kernel)));
     }
-    Ok(None)
+    Ok(if is_run(alloc, kernel, mode, text, output) {
+        None
+    } else {
+        Some(Writer::Run(kernel))
+    })
+}
+
+/// Whether a run with the kernel writes the output.
+fn is_run(alloc: Global, kernel: Kernel, mode: Mode, text: &str, output: &[u8]) -> bool {
+    let mut input = text.as_bytes();
+    let mut written = Vec::new(alloc);
+    run(alloc, mode, kernel, &mut input, &mut written).is_ok() && written.as_slice() == output
 }
 
 /// A literal's bytes between its quotation marks, and all of HTML.

@@ -7,7 +7,7 @@ use Rattle.escape_lanes.specs.Replacement.{needs_escape, replacement}
 abbrev pub padded : List ℕ → List ℕ
 padded bytes = bytes ++ replicate (8 - length bytes) 0
 
--- how many bytes are written for the byte, and 0 where it stands for itself
+-- how many bytes are written for the byte, and 0 where it needs no escape
 abbrev pub entry_count : Mode → ℕ → ℕ
 entry_count mode b = if needs_escape mode b then length (replacement mode b) else 0
 

@@ -3,7 +3,7 @@ use Rattle.std.specs.Prelude.{ℕ, ◌/◌, ◌%◌, Bool, ◌||◌, ◌==◌, n
 use Rattle.std.specs.Char.{digit_char}
 use Rattle.escape_lanes.specs.Mode.{Mode, json, html, script}
 
--- The byte can't stand for itself.
+-- The byte can't stand for itself, or, e2 in script, not in every character.
 -- JSON: the quotation mark, the reverse solidus and the control characters (RFC 8259, section 7).
 -- HTML: the six bytes that have an entity.
 -- Script: those of JSON, `&`, `<` and `>`, and e2, with which the separators of lines and of paragraphs begin.

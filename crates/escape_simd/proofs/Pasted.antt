@@ -101,7 +101,7 @@ module _ {mode : Mode} {src : List ℕ} {at valid to size : ℕ} {whole : MaskOf
     pub left-long : length mask.bytes ≡ valid - 8 * block
     left-long = ap length left-told ∙ length-take-le (valid - 8 * block) (drop (at + 8 * block) src) (omega (arith, length-drop (at + 8 * block) src, h.inside, more))
 
-    -- and of no more
+    -- these are all of its bytes
     left-is : IsMaskOf mask (take (length mask.bytes) (drop (at + 8 * block) src))
     left-is = record { bytes = left-told ∙ ap (λ n. take n (drop (at + 8 * block) src)) (sym left-long); from = left.from }
 

@@ -114,6 +114,7 @@ module _ {mode : Mode} {src : List ℕ} {valid at next : ℕ} {mask rest : MaskO
         flagged = (omega (arith, t.0, r.inside), rw there at t.1);
         before = t.0;
         inside = r.inside;
+        used = ap (λ m. m.stored) cut ∙ r.used;
       }
 
   -- else it has ended
@@ -132,4 +133,5 @@ module _ {mode : Mode} {src : List ℕ} {valid at next : ℕ} {mask rest : MaskO
           clean = λ p late early. mask-between p (omega (arith, late, r.before)) early;
         };
         stops = λ some. (mask-left some, rw there at (mask-flags.unset next (other some) (omega arith) (mask-left some)));
+        used = ap (λ m. m.stored) cut ∙ r.used;
       }

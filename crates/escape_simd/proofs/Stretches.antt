@@ -105,7 +105,7 @@ pub stored_ahead : {N : ℕ} (mode : Mode) (slack : ℕ) (src : List ℕ) (old n
     → from ≤ length src → Stretch mode (left + slack) src old new (from, to) (from, to)
 stored_ahead mode slack src old new from left to s inside = grind arith
 
--- and it begins with those of other bytes
+-- a vector stored of some bytes is also one of others that begin with the same
 pub stored_alike : {N slack left to : ℕ} {lanes held : List ℕ} {old new : Target N} → take left lanes ≡ take left held → IsStored slack lanes old new left to → IsStored slack held old new left to
 stored_alike same s = grind (arith, same)
 

@@ -94,7 +94,7 @@ module _ {N : ℕ} {mode : Mode} {slack : ℕ} {src : List ℕ} {old mid : Targe
   pub turn-run : IsRunAt mode src valid flagged mask × HasRunRoom mode src flagged valid (end + (flagged - next)) (length (bytes_of mid))
   turn-run =
       let w = so_far.left in let p = turn-place in let clean = ahead-passed mode slack src mid next valid flagged end so_far.ahead p.1 (omega (arith, p)) (omega (arith, w.inside)) p.3 in (
-        record { bytes = ap (λ m. m.bytes) w.told; some = so_far.some; first = is; flagged = p.0; before = p.2; inside = omega (arith, w.inside) },
+        record { bytes = ap (λ m. m.bytes) w.told; some = so_far.some; first = is; flagged = p.0; before = p.2; inside = omega (arith, w.inside); used = ap (λ m. m.stored) w.told },
         inl (room-near valid 8 (omega arith) (omega (arith, w.inside)) (omega (arith, so_far.eight)) (room-on clean so_far.room)),
       )
 
@@ -125,10 +125,10 @@ module _ {N : ℕ} {mode : Mode} {slack : ℕ} {src : List ℕ} {old mid : Targe
     -- where it has some
     module _ (some : is_clear mode rest ≡ false) where
       -- the mask tells of the bytes from there on
-      pub turn-told : (after < length rest.bytes) × ((rest.from ≤ after) × (after ≤ first_set (lanes_of_mask mode rest)))
+      pub turn-told : (rest.stored ≡ 1) × (after < length rest.bytes) × (rest.from ≤ after) × (after ≤ first_set (lanes_of_mask mode rest))
       turn-told =
           let w = so_far.left in let s = over.stops some in
-          (omega (arith, s.0, ap length over.bytes, length-take-le valid src (omega (arith, w.inside))), (over.from, over.cleared (first_set (lanes_of_mask mode rest)) (first_set-here (lanes_of_mask mode rest) some)))
+          (over.used, omega (arith, s.0, ap length over.bytes, length-take-le valid src (omega (arith, w.inside))), over.from, over.cleared (first_set (lanes_of_mask mode rest)) (first_set-here (lanes_of_mask mode rest) some))
 
       -- the vector that begins there can be stored
       pub turn-stores : {left : MaskOf} → left ≡ mask_from rest.bytes after 0 → (told_by left ≡ take (valid - after) (drop after src)) × (valid - after ≤ N) × (after + N ≤ length src) × (after_end + (valid - after) + slack ≤ length (bytes_of new))

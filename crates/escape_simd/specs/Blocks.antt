@@ -11,7 +11,7 @@ AreShort mode n src at bits =
     (k : ℕ) → k < n → slice_index_or bits k false ≡ true → needs_escape mode (slice_index src (at + k)) ≡ true → length (replacement mode (slice_index src (at + k))) ≡ 2
 
 -- A text's `valid` bytes at `at` can be escaped by blocks: each that needs an escape has a short one, and each other one is not
--- changed.
+-- changed. The text has 16 bytes after them.
 pub record HasBlocks (mode : Mode) (src : List ℕ) (at valid to size : ℕ) : Type 0 where
   pub some : 0 < valid
   pub short : (k : ℕ) → k < valid → needs_escape mode (slice_index src (at + k)) ≡ true → length (replacement mode (slice_index src (at + k))) ≡ 2

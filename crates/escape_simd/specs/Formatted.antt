@@ -31,8 +31,8 @@ pub record IsQuoted {N : ℕ} (mark : List ℕ) (old new : Target N) (to end : �
   pub escaped : escaped_of new ≡ escaped_of old
   pub quotes : quotes_of new ≡ quotes_of old + length mark
 
--- The same in a target, at a cost of one vector stored, and one classified, for each run of escapes, and
--- one for each vector that the text fills or begins.
+-- The output of the text stands at the front of a target. At most one vector was stored, and one classified, for each run of
+-- escapes, and `length text / N + 1` more.
 pub record IsFormatted {N : ℕ} (mode : Mode) (text : List ℕ) (old new : Target N) (count ticks_old ticks_new : ℕ) : Type 0 where
   pub same_slice : IsSameSlice old new
   pub written : IsWritten N mode text (bytes_of old) (bytes_of new) count

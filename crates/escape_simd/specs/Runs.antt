@@ -38,6 +38,6 @@ run_count_after json before bytes = runs_after (needs_escape json) before bytes
 run_count_after html before bytes = runs_after (needs_escape html) before bytes
 run_count_after script before bytes = script_runs_after before 0 bytes
 
--- how many bytes need an escape and are first or follow a byte that needs none
+-- how many runs they have: maximal sequences of bytes that need an escape, in script of marked bytes
 abbrev pub run_count : Mode → List ℕ → ℕ
 run_count mode bytes = run_count_after mode false bytes

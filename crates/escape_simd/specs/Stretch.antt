@@ -41,7 +41,7 @@ pub record Stretch {N : ℕ} (mode : Mode) (slack : ℕ) (src : List ℕ) (old n
 abbrev pub IsByteWise : Mode → Type 0
 IsByteWise mode = (bytes : List ℕ) → source_len mode bytes ≡ 1
 
--- how far past what it stands for an entry of eight bytes may reach
+-- how far past a replacement its entry of eight bytes may reach: the shortest has two bytes, in script one, that of e2
 abbrev pub run_reach : Mode → ℕ
 run_reach json = 6
 run_reach html = 6
@@ -69,8 +69,9 @@ pub record State (N : ℕ) : Type 0 where
 abbrev pub state : {N : ℕ} → Target N → ℕ → ℕ → ℕ → State N
 state target at to ticks = record { target = target; at = at; to = to; ticks = ticks }
 
--- What it may cost to come from one state to another: a vector stored for each run of the text between, and `vectors` more. As many
--- vectors are classified as are stored at least, and as may be stored at most. So many of them were classified before: `asked`.
+-- What it may cost to come from one state to another. At most one vector is stored for each run of the text between, and `vectors`
+-- more. Each vector that is stored was classified, and no more are classified than may be stored. `asked` of them were classified
+-- before the old state.
 pub record Cost {N : ℕ} (mode : Mode) (vectors asked : ℕ) (src : List ℕ) (old new : State N) : Type 0 where
   pub stored : stored_of new.target + run_count mode (drop new.at src) ≤ stored_of old.target + run_count mode (drop old.at src) + vectors
   pub covered : old.ticks + stored_of new.target ≤ new.ticks + stored_of old.target + asked
@@ -86,7 +87,8 @@ pub record Advanced {N : ℕ} (mode : Mode) (slack border vectors asked : ℕ) (
 abbrev pub IsFlaggedAt : Mode → List ℕ → ℕ → Type 0
 IsFlaggedAt mode src at = (at < length src) × (needs_escape mode (slice_index src at) ≡ true)
 
--- there is room for an entry at each place that needs an escape, from `at` on and before `stop`
+-- there is room for an entry at each place that needs an escape, from `at` on and before `stop`: as in a kernel, or as
+-- `escape_unchecked` asks for it
 abbrev pub HasRunRoom : Mode → List ℕ → ℕ → ℕ → ℕ → ℕ → Type 0
 HasRunRoom mode src at stop to size = HasRoom mode 8 src at stop to size ⊎ (to + 6 * (stop - at) + 2 ≤ size)
 
@@ -97,7 +99,7 @@ pub record EscapedRun {N : ℕ} (mode : Mode) (src : List ℕ) (old new : Target
   pub run : run_count_after mode true (drop next src) + 1 ≡ run_count mode (drop at src)
   pub alone : IsByteWise mode → (run_end mode src next ≡ run_end mode src at) × (escaped_of new ≡ escaped_of old + (next - at))
 
--- A run goes on at `at`, the first byte that a mask flags of a text's first `valid` bytes.
+-- A run goes on at `at`, the first byte that a mask flags of a text's first `valid` bytes. A vector was stored by the mask.
 pub record IsRunAt (mode : Mode) (src : List ℕ) (valid at : ℕ) (mask : MaskOf) : Type 0 where
   pub bytes : mask.bytes ≡ take valid src
   pub some : is_clear mode mask ≡ false
@@ -105,8 +107,10 @@ pub record IsRunAt (mode : Mode) (src : List ℕ) (valid at : ℕ) (mask : MaskO
   pub flagged : IsFlaggedAt mode src at
   pub before : at < valid
   pub inside : valid ≤ length src
+  pub used : mask.stored ≡ 1
 
--- A run has ended at `next`: the mask tells of the bytes from there on, and flags none before. No flagged byte follows.
+-- A run has ended at `next`: the mask tells of the bytes from there on, and flags none before, nor the one there. A vector was
+-- stored by it.
 pub record IsRunEnd (mode : Mode) (src : List ℕ) (valid next : ℕ) (mask : MaskOf) : Type 0 where
   pub inside : next ≤ length src
   pub bytes : mask.bytes ≡ take valid src
@@ -114,6 +118,7 @@ pub record IsRunEnd (mode : Mode) (src : List ℕ) (valid next : ℕ) (mask : Ma
   pub cleared : (k : ℕ) → slice_index_or (lanes_of_mask mode mask) k false ≡ true → next ≤ k
   pub over : valid ≤ next → Reached mode src valid next
   pub stops : is_clear mode mask ≡ false → (next < valid) × (needs_escape mode (slice_index src next) ≡ false)
+  pub used : mask.stored ≡ 1
 
 -- The text has the bytes from `at` up to `border`, at most a vector of N, and a vector can be loaded from each place from `at` to
 -- `border`. They have room.
@@ -133,7 +138,7 @@ pub record IsStored {N : ℕ} (slack : ℕ) (bytes : List ℕ) (old new : Target
   pub escaped : escaped_of new ≡ escaped_of old
   pub quotes : quotes_of new ≡ quotes_of old
 
--- The masks of a short text: of its last vector, and where it has as many bytes as one vector, of its first one.
+-- The masks of a text shorter than two vectors: of its last vector, or of all of it, and where it fills one, of its first one.
 pub record AreTailMasks (N : ℕ) (text : List ℕ) (first last : MaskOf) : Type 0 where
   pub few : length text < 2 * N
   pub front : N ≤ length text → first ≡ whole_mask (take N text)

@@ -9,7 +9,7 @@ mod each;
 mod error;
 mod length;
 
-use crate::output::{append, scratch_bound, text};
+use crate::output::{append, output_in, scratch_bound};
 use crate::simd::HTML_MODE;
 pub use each::escape_html_each;
 pub use error::{EscapeHtmlError, InputTooLarge};
@@ -87,7 +87,7 @@ pub fn escape_html_in<A: Allocator>(alloc: A, value: &str) -> Result<String<A>, 
     ensures too_large { (result ≡ Err (EscapeHtmlError.TooLarge (record {})))
         ↔ (usize.MAX < bound html (length value.now)) }
 {
-    Ok(text::<{ HTML_MODE }, A>(alloc, value)?)
+    Ok(output_in::<{ HTML_MODE }, A>(alloc, value)?)
 }
 
 /// Appends to `dst` the output that [`escape_html`] returns. The bytes that `dst` has are kept, and may be any bytes.

@@ -9,7 +9,7 @@ ghost use Rattle.escape_simd.specs.Script.{IsSafeInScript};
 mod error;
 mod length;
 
-use crate::output::{append, scratch_bound, text};
+use crate::output::{append, output_in, scratch_bound};
 use crate::simd::{JSON_MODE, SCRIPT_MODE};
 pub use error::EscapeError;
 pub use length::{escaped_len, is_clean, is_script_clean, script_len};
@@ -87,7 +87,7 @@ pub fn escape_in<A: Allocator>(alloc: A, value: &str) -> Result<String<A>, Escap
     ensures too_large { (result ≡ Err EscapeError.TooLarge)
         ↔ (usize.MAX < bound json (length value.now)) }
 {
-    Ok(text::<{ JSON_MODE }, A>(alloc, value)?)
+    Ok(output_in::<{ JSON_MODE }, A>(alloc, value)?)
 }
 
 /// Appends to `dst` the literal that [`escape`] returns. The bytes that `dst` has are kept, and may be any bytes.
@@ -159,7 +159,7 @@ pub fn escape_script_in<A: Allocator>(alloc: A, value: &str) -> Result<String<A>
     ensures too_large { (result ≡ Err EscapeError.TooLarge)
         ↔ (usize.MAX < bound script (length value.now)) }
 {
-    Ok(text::<{ SCRIPT_MODE }, A>(alloc, value)?)
+    Ok(output_in::<{ SCRIPT_MODE }, A>(alloc, value)?)
 }
 
 /// Appends to `dst` the literal that [`escape_script`] returns. The bytes that `dst` has are kept, and may be any

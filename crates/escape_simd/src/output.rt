@@ -1,12 +1,9 @@
 //! The calls on which further calls are built. Each has the number of the mode as its constant parameter `MODE`:
 //! [`JSON_MODE`](crate::simd::JSON_MODE), [`HTML_MODE`](crate::simd::HTML_MODE) or
 //! [`SCRIPT_MODE`](crate::simd::SCRIPT_MODE). No other number is accepted.
-ghost use Rattle.std.specs.Prelude.{◌≡◌, ◌+◌, ◌*◌, ◌<◌, ◌≤◌, ◌^◌, ◌↔◌, ◌++◌, length, take, chars, string_bytes, vec_len, vec_capacity, Err, IsOk, IfOk, OnOk, OnErr, IfSome, IsNone};
+ghost use Rattle.std.specs.Prelude.{◌≡◌, ◌+◌, ◌*◌, ◌<◌, ◌≤◌, ◌^◌, ◌↔◌, ◌++◌, length, take, string_bytes, vec_len, vec_capacity, Err, IsOk, IfOk, OnOk, OnErr, IfSome, IsNone};
 ghost use Rattle.escape_simd.specs.Modes.{mode_numbered};
 ghost use Rattle.escape_simd.specs.Output.{plain, inner, bound};
-ghost use Rattle.escape_simd.specs.Spelling.{IsTextOf};
-ghost use Rattle.escape_simd.specs.Headline.{IsOnlyOutput};
-ghost use Rattle.escape_simd.specs.Laws.{JoinsTexts, IsOfOneText, HasOutputLength};
 
 mod bytes;
 mod clean;
@@ -71,7 +68,7 @@ pub fn write_inner<const MODE: u8>(value: &str, dst: &mut [u8], at: usize) -> us
     escape_to_slice::<V, MODE, false, N>(value.as_bytes(), dst, at)
 }
 
-/// Appends the output of a text in the mode `MODE` to a vector that has room for the bound ([`scratch_bound`]) past the
+/// Appends the output of a text in the mode `MODE` to a `Vec` that has room for the bound ([`scratch_bound`]) past the
 /// bytes that it has. The call allocates nothing and does not fail.
 ///
 /// ```rust
@@ -85,7 +82,7 @@ pub fn append_reserved<const MODE: u8, A: Allocator>(value: &str, dst: &mut Vec<
 {
     push_quote::<MODE, A>(dst);
     let text = value.as_bytes();
-    // The empty text goes this way too, so the short way needs no test for it.
+    // The empty text goes this way too: so the compiler drops the test for it from the short way.
     if text.is_empty() || 2 * N <= text.len() {
         return append_long::<MODE, A>(value, dst);
     }
@@ -129,21 +126,12 @@ pub fn append<const MODE: u8, A: Allocator>(
 }
 
 /// Returns the output of a text in the mode `MODE`, in memory of `alloc`.
-pub(crate) fn text<const MODE: u8, A: Allocator>(
+pub(crate) fn output_in<const MODE: u8, A: Allocator>(
     alloc: A,
     value: &str,
 ) -> Result<String<A>, Refusal>
     requires mode { MODE ≤ 2 }
-    ensures characters { OnOk result (IsTextOf value.now (chars value.now)) }
     ensures exact { IfOk result (λ output. string_bytes output ≡ plain (mode_numbered MODE) value.now) }
-    ensures headline { IfOk result (λ output. IsOnlyOutput (mode_numbered MODE)
-        (string_bytes output) (chars value.now)) }
-    ensures joined { IfOk result (λ output. JoinsTexts (mode_numbered MODE)
-        value.now (string_bytes output)) }
-    ensures equal_texts { IfOk result (λ output. IsOfOneText (mode_numbered MODE)
-        value.now (string_bytes output)) }
-    ensures len { IfOk result (λ output. HasOutputLength (mode_numbered MODE)
-        (length value.now) (string_bytes output)) }
     ensures vector_size { OnOk result (bound (mode_numbered MODE) (length value.now) < 2 ^ 63) }
     ensures too_large { (result ≡ Err Refusal.TooLarge)
         ↔ (usize.MAX < bound (mode_numbered MODE) (length value.now)) }

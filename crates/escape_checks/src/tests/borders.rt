@@ -83,24 +83,30 @@ fn a_quote_before_the_rest(rt: HostRuntime) {
     }
 }
 
-/// What one letter, the last of a text, leaves in a target. Four kernels store a whole vector for it, with
-/// zeros, and the widest just the letter.
-fn one_letter(kernel: Kernel) -> [u8; 100] {
+/// What a text of one letter leaves in a target, with quotation marks or without. Four kernels store a whole vector for
+/// it, with zeros, and the widest just the letter.
+fn one_letter(kernel: Kernel, is_quoted: bool) -> [u8; 100] {
     let stored = match kernel {
         Kernel::Avx512 => 1,
         _ => lanes(kernel),
     };
     let mut target = [UNTOUCHED; 100];
-    target[..stored.min(100)].fill(0);
-    target[0] = b'a';
+    if is_quoted {
+        target[1..stored.min(99) + 1].fill(0);
+        target[..3].copy_from_slice(b"\"a\"");
+    } else {
+        target[..stored.min(100)].fill(0);
+        target[0] = b'a';
+    }
     target
 }
 
 /// Whether this way to the kernel leaves that.
-fn is_stored(way: Way, kernel: Kernel) -> bool {
+fn is_stored(way: Way, kernel: Kernel, mode: Mode) -> bool {
+    let is_quoted = mode != Mode::Html;
     let mut target = [UNTOUCHED; 100];
-    let count = format(way, kernel, Mode::Html, "a", &mut target);
-    count == 1 && target == one_letter(kernel)
+    let count = format(way, kernel, mode, "a", &mut target);
+    count == (if is_quoted { 3 } else { 1 }) && target == one_letter(kernel, is_quoted)
 }
 
 // So a loop over bytes shows, and so does a kernel of another width.
@@ -108,7 +114,9 @@ fn is_stored(way: Way, kernel: Kernel) -> bool {
 fn byte_loop_behind_kernel(rt: HostRuntime) {
     for kernel in KERNELS {
         for way in WAYS {
-            assert!(rt; is_stored(way, kernel), "{way:?} {kernel:?}");
+            for mode in MODES {
+                assert!(rt; is_stored(way, kernel, mode), "{way:?} {kernel:?} {mode:?}");
+            }
         }
     }
 }
@@ -123,7 +131,7 @@ fn is_inner_stored(kernel: Kernel, mode: Mode) -> bool {
         Mode::Html => format_html_string(kernel, "a", &mut named),
         Mode::Script => format_script_inner(kernel, "a", &mut named),
     };
-    let wanted = one_letter(kernel);
+    let wanted = one_letter(kernel, false);
     count == 1 && target == wanted && named_count == 1 && named == wanted
 }
 

@@ -60,9 +60,9 @@ fn neon_firsts(at: usize) -> [usize; 5]
 #[test]
 fn neon_masks_of_neighbours(rt: HostRuntime) {
     for at in 0..16usize {
-        let html = (0x003f_003fu32 >> at).first_offset();
-        let json = (0x2001_2001u32 >> at).first_offset();
-        let script = (0x2033_2033u32 >> at).first_offset();
+        let html = (0x003f_003fu32 >> at).trailing_zeros() as usize;
+        let json = (0x2001_2001u32 >> at).trailing_zeros() as usize;
+        let script = (0x2033_2033u32 >> at).trailing_zeros() as usize;
         assert!(rt; neon_firsts(at) == [html, html, json, json, script], "{at}");
     }
 }

@@ -99,8 +99,10 @@ const MARKUP_AND_LETTERS: &str = "&lt;\
 /// A request for any number of bytes. If it is refused, the first text is, and nothing was appended.
 const ANY: Request = (0, 0, "");
 
-static ROWS: [Row; 16] = [
+static ROWS: [Row; 18] = [
     (Call::One(Mode::Json), ("x", ""), 0, &[(42, 0, "")], "\"x\""),
+    (Call::One(Mode::Json), ("\t", ""), 41, &[], "\"\\t\""),
+    (Call::One(Mode::Html), ("", ""), 0, &[(33, 0, "")], ""),
     // So much less than the bound that a vector of twice the capacity would not hold it.
     (
         Call::One(Mode::Json),

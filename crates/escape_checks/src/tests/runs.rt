@@ -116,11 +116,16 @@ fn writer(alloc: Global, (step, room, error, flush): Taken) -> Narrow {
 /// A writer that takes all.
 const ALL: Taken = (usize::MAX, usize::MAX, None, None);
 
-static RUNS: [(Given, Taken, Ended); 12] = [
+static RUNS: [(Given, Taken, Ended); 13] = [
     (
         (b"\xe2\x80\xa6", None),
         ALL,
         (Ok(()), b"\xe2\x80\xa6", 1, 1),
+    ),
+    (
+        (b"<a href='/x'>", None),
+        ALL,
+        (Ok(()), b"&lt;a href=&#x27;&#x2f;x&#x27;&gt;", 1, 1),
     ),
     (
         (b"<a", Some(ErrorKind::Other)),
@@ -178,8 +183,10 @@ static RUNS: [(Given, Taken, Ended); 12] = [
 #[test]
 fn runs_in_html(rt: HostRuntime) {
     for (given, taken, ended) in &RUNS {
-        let is_right = ends_so(rt.alloc(), Mode::Html, Kernel::Avx2, *given, *taken, *ended);
-        assert!(rt; is_right, "{given:?} {taken:?}");
+        for kernel in KERNELS {
+            let is_right = ends_so(rt.alloc(), Mode::Html, kernel, *given, *taken, *ended);
+            assert!(rt; is_right, "{kernel:?} {given:?} {taken:?}");
+        }
     }
 }
 

@@ -1,4 +1,4 @@
-//! The whole targets that the three ways to a kernel leave.
+//! The whole targets that the ways to a kernel leave.
 
 use crate::routes::{Way, format, lanes};
 use crate::tests::texts::all_are;
@@ -8,8 +8,8 @@ use escape_stream::Mode;
 use std::process::Abort;
 
 /// Asserts that one kernel writes what stands for the text, into a target of the bound and `more` bytes; that it writes
-/// nothing from the bound on, nor from a vector past the last byte on; and that the three ways to it leave the same
-/// whole target.
+/// nothing from the bound on, nor from a vector past the last byte on; and that all ways to it leave the same whole
+/// target.
 pub fn assert_written_by(
     rt: &(impl Abort + AllocGlobal),
     kernel: Kernel,
@@ -20,11 +20,13 @@ pub fn assert_written_by(
 ) {
     let target = whole_target(rt, Way::Target, kernel, mode, text, more);
     let slice = whole_target(rt, Way::Slice, kernel, mode, text, more);
+    let named = whole_target(rt, Way::Named, kernel, mode, text, more);
     let value = whole_target(rt, Way::Value, kernel, mode, text, more);
     let bound = target.1.len().saturating_sub(more);
     let end = bound.min(target.0.saturating_add(lanes(kernel)));
     let is_right = is_written(&target.1, target.0, end, wanted)
         && slice == target
+        && named == target
         && value == target;
     assert!(rt; is_right, "{kernel:?} {mode:?} {text}");
 }

@@ -41,11 +41,12 @@ impl Known {
     }
 }
 
-/// Which of at most 64 bytes need an escape (script: also e2): bit `i` is set where byte `i` does.
+/// Which of at most 64 bytes need an escape (script: also e2): bit `i` is set if byte `i` does, and the mask
+/// still tells of it.
 ///
 /// A contract sees the bytes, from which of them on the mask tells, and whether a vector was stored by it.
-/// Only a classifier makes a mask by which none was: of a vector, or of what is left of one. It can't be
-/// cloned, and in `escape_simd` each store of a vector uses up the mask that tells its bytes.
+/// Only a classifier makes a mask by which none was: of a vector, or, in [`rest`](Self::rest), of what is left
+/// of one. It can't be cloned, and in `escape_simd` each store of a vector uses up the mask that tells its bytes.
 #[derive(Drop)]
 pub struct EscapeMask<const MODE: u8> {
     bits: u64,
@@ -124,9 +125,9 @@ impl<const MODE: u8> EscapeMask<MODE> {
         shift_lanes(self.bits, at) % 2 == 1
     }
 
-    /// Takes the first flagged byte off the mask. Some byte is flagged.
+    /// Clears the first flag: the mask then tells only of the bytes after it. Some byte is flagged.
     #[inline(always)]
-    pub fn clear_first(&mut self)
+    pub fn clear_first_flag(&mut self)
         requires { is_clear (mode_numbered MODE) self.old ≡ false }
         ensures { self.new
             ≡ mask_from self.old.bytes (first_set (lanes_of_mask (mode_numbered MODE) self.old) + 1)
@@ -138,11 +139,16 @@ impl<const MODE: u8> EscapeMask<MODE> {
         (self.bits, self.of) = (bits, of);
     }
 
-    /// Classifies the bytes from `from` on, in front of which none is flagged, by their mask. Ticks once.
+    /// Returns the mask of what is left of the bytes from `from` on, by which no vector was stored: so a further
+    /// one can be. This is a classification, by the flags that are left: it ticks once.
+    ///
+    /// A vector was stored by the mask. Some byte is left, and none before `from` is flagged.
     #[inline(always)]
     pub fn rest(self, from: usize, ticks: &mut Ticks) -> Self
-        requires some { from < length self.bytes }
-        requires later { (self.from ≤ from) × (from ≤ first_set (lanes_of_mask (mode_numbered MODE) self)) }
+        requires { (self.stored ≡ 1)
+            × (from < length self.bytes)
+            × (self.from ≤ from)
+            × (from ≤ first_set (lanes_of_mask (mode_numbered MODE) self)) }
         ensures told { result ≡ mask_from self.entry.bytes from 0 }
         ensures lanes { lanes_of_mask (mode_numbered MODE) result
             ≡ lanes_of_mask (mode_numbered MODE) self.entry }
@@ -184,7 +190,7 @@ impl<const MODE: u8> EscapeMask<MODE> {
     }
 }
 
-/// Classifies the text's vector at `at`. Ticks once.
+/// Returns the mask of the text's vector at `at`. Ticks once.
 #[inline(always)]
 pub fn classify<V: Classifier<MODE, N>, const MODE: u8, const N: usize>(
     text: &[u8],
@@ -203,8 +209,7 @@ pub fn classify<V: Classifier<MODE, N>, const MODE: u8, const N: usize>(
     }
 }
 
-/// Classifies the first lanes of a loaded vector that begins with these bytes, of which there are some. Ticks
-/// once.
+/// Returns the mask of `bytes`, of which there are some: `v` begins with them. Ticks once.
 #[inline(always)]
 pub fn classify_front<V: Classifier<MODE, N>, const MODE: u8, const N: usize>(
     v: &V,
@@ -224,8 +229,8 @@ pub fn classify_front<V: Classifier<MODE, N>, const MODE: u8, const N: usize>(
     }
 }
 
-/// Classifies four vectors of the text from `at` on. Returns their masks, and whether no byte of them is flagged.
-/// Ticks four times.
+/// Returns the masks of the text's four vectors from `at` on, and whether no byte of them is flagged. Ticks four
+/// times.
 #[inline(always)]
 pub fn classify_four<V: Classifier<MODE, N>, const MODE: u8, const N: usize>(
     text: &[u8],

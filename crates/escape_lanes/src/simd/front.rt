@@ -1,9 +1,9 @@
 //! The copy of a vector's lanes by pieces of a few fixed sizes: a copy of a number of bytes that is
 //! known only at run time is a call.
-ghost use Rattle.std.specs.Prelude.{◌≡◌, ◌*◌, ◌+◌, ◌<◌, ◌≤◌, length, take, drop, max};
+ghost use Rattle.std.specs.Prelude.{◌≡◌, ◌*◌, ◌+◌, ◌<◌, ◌≤◌, length, take, drop};
 
-/// Returns the `P` lanes from `at` on, apart: so they are moved to the target at once. Slices
-/// might overlap, which would be tested first.
+/// Returns the `P` lanes from `at` on as an array, which can't overlap the target: so no test comes before the
+/// move.
 #[inline(always)]
 fn piece<const P: usize>(lanes: &[u8], at: usize) -> [u8; P]
     requires { at + P ≤ length lanes.now }
@@ -48,7 +48,7 @@ fn copy_up_to_three(dst: &mut [u8], lanes: &[u8])
 /// Copies all lanes, at most 64. Where their number is known when this is compiled, that is one move,
 /// and two for 64.
 #[inline]
-fn copy_front(dst: &mut [u8], lanes: &[u8])
+pub(crate) fn copy_lanes(dst: &mut [u8], lanes: &[u8])
     requires same { length lanes.now ≡ length dst.old }
     requires few { length lanes.now ≤ 64 }
     ensures { dst.new ≡ lanes.now }
@@ -64,19 +64,5 @@ fn copy_front(dst: &mut [u8], lanes: &[u8])
         copy_ends::<4>(dst, lanes);
     } else {
         copy_up_to_three(dst, lanes);
-    }
-}
-
-/// Copies all lanes of a vector of `N` bytes or of a block of 16, or the first ones.
-#[inline(always)]
-pub(crate) fn copy_lanes<const N: usize>(dst: &mut [u8], lanes: &[u8])
-    requires same { length lanes.now ≡ length dst.old }
-    requires few { length lanes.now ≤ max N 16 }
-    ensures { dst.new ≡ lanes.now }
-{
-    if N <= 64 {
-        copy_front(dst, lanes);
-    } else {
-        dst.copy_from_slice(lanes);
     }
 }

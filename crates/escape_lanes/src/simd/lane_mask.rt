@@ -1,4 +1,4 @@
-//! What a comparison of two vectors over `std::simd` returns: for callers and tests.
+//! The mask of every vector: a truth value for each lane, as a number.
 ghost use Rattle.std.specs.Prelude.{◌≡◌, ◌||◌, ◌&&◌, ◌<◌, ◌≤◌, ◌^◌, refl};
 ghost use Rattle.std.specs.Simd.Lanes.{zip2};
 ghost use Rattle.std.proofs.Common.{lit≤, rules};
@@ -9,7 +9,8 @@ use crate::simd::mask::Mask;
 use crate::simd::traits::BitMask;
 use std::ops::{BitAnd, BitOr, BitOrAssign};
 
-/// A truth value for each of the `N` lanes of a [`Vector`](crate::simd::vector::Vector).
+/// A truth value for each of `N` lanes. `BITS` tells which bit mask it has, as in
+/// [`Vector`](crate::simd::vector::Vector).
 #[derive(Debug, Clone, Copy)]
 pub struct LaneMask<const BITS: u8, const N: usize> {
     // Bit `i` is set where lane `i` is.

@@ -30,7 +30,7 @@ fn up_to_three(src: &[u8], count: usize) -> u64
 }
 
 // For each length of 4 to 15, where its bytes lie in four words of four bytes that overlap, and zeros after
-// them.
+// them: a place of 128 reads as 0. The first four rows are not used.
 #[rattlefmt::skip]
 static GATHERED: [[u8; 16]; 16] = [
     [128; 16],
@@ -60,8 +60,8 @@ fn four_lanes(src: &[u8], at: usize) -> u8x4
     lanes::load(&src[at..])
 }
 
-/// A text of 4 to 15 bytes: four words that overlap, put in place by one look-up, so that of its length
-/// nothing more is asked.
+/// Returns a text of 4 to 15 bytes with zeros after it: four words that overlap, put in place by one look-up, with
+/// no branch on the length.
 #[inline(always)]
 fn gathered(src: &[u8]) -> u8x16
     requires several { 4 ≤ length src.now }
@@ -74,7 +74,7 @@ fn gathered(src: &[u8]) -> u8x16
     both_8(low, high).swizzle_dyn(u8x16::from_array(GATHERED[src.len()]))
 }
 
-/// Returns the last `count` bytes of a text that may be short.
+/// Returns the last `count` bytes of a text of any length, with zeros after them.
 #[inline(always)]
 fn joined(src: &[u8], count: usize) -> u8x16
     requires few { count < 16 }

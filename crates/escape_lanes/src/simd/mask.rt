@@ -1,4 +1,4 @@
-//! What a comparison of two vectors returns: for callers and tests.
+//! A truth value for each lane of a vector: what a comparison returns.
 ghost use Rattle.std.specs.Prelude.{◌≡◌, Bool, List, length, ◌||◌, ◌&&◌};
 ghost use Rattle.std.specs.Simd.Lanes.{zip2};
 

@@ -26,7 +26,8 @@ pub(crate) fn flag_bits<const N: usize>(flags: &Simd<u8, N>) -> u64
     flags.simd_ge(Simd::splat(0x80)).to_bitmask()
 }
 
-/// Returns 255 where the lane is `byte` or has one bit more, `bit`, which `byte` lacks, and 0 in the others.
+/// Returns 255 where the lane is `byte`, or has one bit more, `bit`, which `byte` lacks; else 0. If `bit` is 0, only
+/// `byte` gives 255.
 #[inline(always)]
 pub(crate) fn is_without<const N: usize>(v: &Simd<u8, N>, bit: u8, byte: u8) -> Simd<u8, N>
     requires { AreBytes N v.now }
@@ -104,8 +105,7 @@ where
         .select(Simd::splat(255), Simd::splat(0))
 }
 
-/// Returns flags where a script literal has to look at the byte, by the sum of what the nibble tables have
-/// for each lane.
+/// Returns the flags of script, by the sum of what the nibble tables have for each lane.
 #[inline(always)]
 pub(crate) fn script_needs<const N: usize>(v: &Simd<u8, N>) -> Simd<u8, N>
 where

@@ -52,8 +52,8 @@ pub fn shorten_vector<const N: usize>(text: &[u8], at: usize) -> [u8x16; 4]
 /// The last eight lanes of a vector, and then the first eight.
 const LAST_HALF: [usize; 16] = [8, 9, 10, 11, 12, 13, 14, 15, 0, 1, 2, 3, 4, 5, 6, 7];
 
-/// Returns the 16 bytes of a piece from its block of that number on: each piece has two, and the even ones
-/// are the first.
+/// Returns a piece with its block of that number in front. A piece has two blocks of eight bytes, of which the
+/// first has an even number.
 #[inline(always)]
 pub fn half(piece: u8x16, block: usize) -> u8x16
     requires { length piece ≡ 16 }
@@ -75,6 +75,7 @@ fn long_lanes<const MODE: u8>(text: &[u8], at: usize) -> u64
     ensures { bits_of 64 result
         ≡ map (is_long (mode_numbered MODE)) (take 16 (drop at text.now)) ++ replicate 48 false }
 {
+    // Of the control characters, `shorten` leaves those that have no letter.
     let bytes = shorten(text, at);
     let control = bytes.simd_le(u8x16::splat(0x1f));
     if !is_script::<MODE>() {

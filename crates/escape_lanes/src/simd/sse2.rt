@@ -76,7 +76,7 @@ pub fn escaped_mask<const HTML: bool>(v: &Simd128u, ticks: &mut Ticks) -> u16
     needs::flag_bits(&flags) as u16
 }
 
-/// Returns which lanes of `v` have bytes that a script literal has to look at. It ticks once.
+/// Returns which lanes of `v` are flagged in script: their bytes need an escape, or are e2. It ticks once.
 ///
 /// Where `v` begins with the bytes of `a<b`, lane 1 is set.
 #[inline(always)]

@@ -50,8 +50,9 @@ impl<'a, const N: usize> Target<'a, N> {
         self.slice.len()
     }
 
-    /// Writes the bytes at `at`, at most a vector's `N` or a block's 16, and counts what they are. Nothing
-    /// else writes to the slice: its field is private to this file.
+    /// Writes the bytes at `at`, at most a vector's `N` or a block's 16, and counts them as so many vectors,
+    /// escapes and quotation marks, at least one of these. Nothing else writes to the slice: its field is private
+    /// to this file.
     #[inline(always)]
     pub(super) fn write(
         &mut self,
@@ -61,12 +62,12 @@ impl<'a, const N: usize> Target<'a, N> {
         escapes: usize,
         quotes: usize,
     )
-        requires few { length bytes.now ≤ max N 16 }
+        requires few { (length bytes.now ≤ max N 16) × (length bytes.now ≤ 64) }
         requires room { at + length bytes.now ≤ length (bytes_of self.old) }
         requires counted { 0 < vectors + escapes + quotes }
         ensures { Writes vectors escapes quotes self.old self.new at bytes.now }
     {
-        copy_lanes::<N>(&mut self.slice[at..at + bytes.len()], bytes);
+        copy_lanes(&mut self.slice[at..at + bytes.len()], bytes);
         self.stored.raise_by(vectors);
         self.escaped.raise_by(escapes);
         self.quotes.raise_by(quotes);

@@ -40,11 +40,11 @@ impl Tally {
     }
 }
 
-/// How often bytes were classified: those of a vector by its classifier, or what is left of them, by the mask of
-/// that vector, in [`EscapeMask::rest`](crate::simd::escape_mask::EscapeMask::rest). A contract sees that number.
+/// How often bytes were classified. A contract sees that number.
 ///
-/// Only these raise it, by one in each call, and it can't be cloned. So a kernel that is lent the ticks of its
-/// caller has called these as often as they rose.
+/// A classifier raises it by one for a vector, and [`EscapeMask::rest`](crate::simd::escape_mask::EscapeMask::rest)
+/// for what is left of one by which a vector was stored. Nothing else raises it, and it can't be cloned: so a
+/// kernel that is lent the ticks of its caller has called these as often as they rose.
 #[derive(Drop)]
 pub struct Ticks {
     tally: Tally,

@@ -1,4 +1,4 @@
-//! The bytes that HTML escapes, and those that a script literal has to look at, by the two halves of a
+//! The bytes that are flagged in HTML, and those in script, by the two halves of a
 //! byte.
 
 /// A bit for each of the bytes that HTML escapes, by the low four bits of a byte.
@@ -22,7 +22,7 @@ pub(crate) static HTML_CANDIDATE_TAB: [u8; 16] = [
 /// What the low four bits of a byte add to [`SCRIPT_HI_NIBBLE_TAB`].
 ///
 /// For a byte `b`, the sum of `SCRIPT_LO_NIBBLE_TAB[b & 15]` and `SCRIPT_HI_NIBBLE_TAB[b >> 4]`,
-/// which wraps, is 0x80 or more exactly where a script literal has to look at `b`.
+/// which wraps, is 0x80 or more exactly where `b` is flagged in script.
 pub(crate) static SCRIPT_LO_NIBBLE_TAB: [u8; 16] = [
     0, 0, 0x20, 0, 0, 0, 0x10, 0, 0, 0, 0, 0, 0xe0, 0, 0xf0, 0,
 ];

@@ -109,8 +109,8 @@ pub static SCRIPT_TAB: [(u8, [u8; 8]); 256] = [
     (0, [0; 8]), (0, [0; 8]), (0, [0; 8]), (0, [0; 8]), // fc
 ];
 
-/// 1 at each byte that a script literal has to look at, 0 at the others: those that can't stand for
-/// themselves, and e2, with which U+2028 and U+2029 begin.
+/// 1 at each byte that is flagged in script, 0 at the others: those that can't stand for themselves, and e2,
+/// with which U+2028 and U+2029 begin.
 #[rattlefmt::skip]
 pub static SCRIPT_FLAGGED: [u8; 256] = [
     1, 1, 1, 1, 1, 1, 1, 1, 1, 1, 1, 1, 1, 1, 1, 1, // 00

@@ -1,4 +1,4 @@
-//! Appending what stands for a text's bytes, and the last quotation mark, to a vector that has room for them.
+//! Appending what stands for a text's bytes, and the last quotation mark, to a `Vec` that has room for them.
 //!
 //! Each form appends that quotation mark itself, so that it is its caller's tail call.
 ghost use Rattle.std.specs.Prelude.{◌≡◌, ◌+◌, ◌*◌, ◌<◌, ◌≤◌, ◌++◌, length, vec_len, vec_capacity};
@@ -13,7 +13,8 @@ use escape_lanes::simd::escape_mask::{classify, classify_four};
 use escape_lanes::simd::target::Ticks;
 use std::alloc::Allocator;
 
-/// Appends what stands for a text shorter than two vectors: from registers if no byte is flagged.
+/// Appends what stands for a text shorter than two vectors, and the last quotation mark: from registers if no byte
+/// is flagged.
 #[inline(always)]
 pub(super) fn append_last<const MODE: u8, A: Allocator>(text: &[u8], dst: &mut Vec<u8, A>)
     requires few { length text.now < 2 * N }
@@ -48,7 +49,8 @@ pub(super) fn append_last<const MODE: u8, A: Allocator>(text: &[u8], dst: &mut V
     append_flagged::<MODE, A>(text, masks.first, masks.last, dst);
 }
 
-/// Appends what stands for a text of two vectors or more: its clean front as it is, and then the rest.
+/// Appends what stands for a text of any length, and the last quotation mark: its clean front as it is, and then
+/// the rest.
 #[inline(never)]
 pub(super) fn append_long<const MODE: u8, A: Allocator>(value: &str, dst: &mut Vec<u8, A>)
     requires { vec_len dst.old + 6 * length value.now + N ≤ vec_capacity dst.old }

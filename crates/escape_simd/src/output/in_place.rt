@@ -1,4 +1,4 @@
-//! Escaping in place: the vector is filled with zeros ahead of what is written.
+//! Escaping in place: the `Vec` is filled with zeros ahead of what is written.
 ghost use Rattle.std.specs.Prelude.{◌≡◌, ◌+◌, ◌*◌, ◌≤◌, ◌++◌, length, vec_len, vec_capacity};
 ghost use Rattle.escape_simd.specs.Modes.{mode_numbered};
 ghost use Rattle.escape_simd.specs.Output.{inner, quote_of};
@@ -18,7 +18,8 @@ const PIECE: usize = 2048;
 /// How many zeros are enough for most short texts: a text's own bytes, five more for each escape, and a vector.
 const FEW_ZEROS: usize = 128;
 
-/// Appends what stands for a text shorter than two vectors, and the last quotation mark. Some are flagged.
+/// Appends what stands for a text shorter than two vectors, by its masks, and the last quotation mark. Some byte is
+/// flagged.
 #[inline(never)]
 pub(super) fn append_flagged<const MODE: u8, A: Allocator>(
     text: &[u8],

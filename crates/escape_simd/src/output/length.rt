@@ -36,7 +36,7 @@ pub(super) fn part_len<const MODE: u8>(src: &[u8], at: usize, count: usize) -> u
     let mut mask = mask_at::<MODE>(src, at, count);
     'flags: while !mask.is_clear() {
         len += added::<MODE>(src, at + mask.first_offset());
-        mask.clear_first();
+        mask.clear_first_flag();
     }
     len
 }

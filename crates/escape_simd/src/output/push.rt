@@ -1,4 +1,4 @@
-//! Bytes at the end of a vector that has room for them.
+//! Bytes at the end of a `Vec` that has room for them.
 ghost use Rattle.std.specs.Prelude.{◌≡◌, ◌+◌, ◌<◌, ◌≤◌, ◌++◌, length, take, drop, vec_len, vec_capacity};
 ghost use Rattle.escape_simd.specs.Modes.{mode_numbered};
 ghost use Rattle.escape_simd.specs.Output.{quote_of};
@@ -8,10 +8,10 @@ use crate::simd::{Simd, load_vector};
 use escape_lanes::simd::mode::is_quoted;
 use std::alloc::Allocator;
 
-/// Appends the bytes to a vector that has room for them.
+/// Appends the bytes to a `Vec` that has room for them.
 ///
 /// It tests for room all the same, and returns if there is none: so the compiler removes the call that allocates,
-/// and keeps the vector's length in a register.
+/// and keeps the length in a register.
 #[inline(always)]
 pub(super) fn push_all<A: Allocator>(dst: &mut Vec<u8, A>, bytes: &[u8])
     requires { vec_len dst.old + length bytes.now ≤ vec_capacity dst.old }
@@ -58,7 +58,7 @@ pub(super) fn push_quote<const MODE: u8, A: Allocator>(dst: &mut Vec<u8, A>)
     }
 }
 
-/// Appends zeros until the vector has `len` bytes or more. It has room for `len`.
+/// Appends zeros until the `Vec` has `len` bytes or more. It has room for `len`.
 #[inline(always)]
 pub(super) fn fill<A: Allocator>(dst: &mut Vec<u8, A>, len: usize)
     requires room { len ≤ vec_capacity dst.old }

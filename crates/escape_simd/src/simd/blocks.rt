@@ -52,19 +52,21 @@ fn has_flag(eight: u8) -> bool
     eight != 0
 }
 
-/// Pays for the mask's first block of eight, if no byte of it is flagged: by the vector's own mask, unless
-/// that was used, else by one of what is left. Returns the mask, and whether the vector's own is unused.
+/// Returns a mask by which the first block of eight can be written, and whether the vector's own is still unused.
+///
+/// A block without a flag counts as a vector: the first one takes the vector's own mask, and each later one what
+/// `rest` returns.
 #[inline(always)]
 fn pay_block<const MODE: u8>(
     mask: EscapeMask<MODE>,
     unused: bool,
     ticks: &mut Ticks,
 ) -> (EscapeMask<MODE>, bool)
-    requires { (mask.from ≡ 0) × (1 ≤ length mask.bytes) × (unused ≡ true → mask.stored ≡ 0) }
+    requires { (mask.from ≡ 0) × (1 ≤ length mask.bytes) × (mask.stored ≡ (if unused then 0 else 1)) }
     ensures same { IsMaskOf result.0 mask.entry.bytes }
-    ensures paid { flag_count (take 8 (lanes_of_mask (mode_numbered MODE) mask.entry)) ≡ 0
-        → result.0.stored ≡ 0 }
-    ensures kept { result.1 ≡ true → result.0.stored ≡ 0 }
+    ensures stored { result.0.stored
+        ≡ (if nat_eq (flag_count (take 8 (lanes_of_mask (mode_numbered MODE) mask.entry))) 0
+        then 0 else mask.entry.stored) }
     ensures left { result.1 ≡ unused
         && not (nat_eq (flag_count (take 8 (lanes_of_mask (mode_numbered MODE) mask.entry))) 0) }
     ensures ticks { ticks.new ≡ ticks.old

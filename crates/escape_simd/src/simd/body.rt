@@ -5,7 +5,8 @@ ghost use Rattle.escape_simd.specs.Modes.{mode_numbered};
 ghost use Rattle.escape_simd.specs.Stretch.{Advanced, HasRoom, reach, state};
 
 use crate::simd::Classifier;
-use crate::simd::chunk::{chunk, vector_from};
+use crate::simd::by_mask::escape_by_mask;
+use crate::simd::chunk::chunk;
 use crate::simd::tail::{escape_flagged_tail, store_clean_tail};
 use escape_lanes::simd::escape_mask::classify;
 use escape_lanes::simd::target::{Target, Ticks};
@@ -26,12 +27,13 @@ pub(crate) fn escape_bytes<V: Classifier<MODE, N>, const MODE: u8, const N: usiz
 {
     let mut at = 0;
     let mut end = to;
+    // A vector more is left behind them: after a run, a vector is loaded from each byte on.
     'chunks: while 5 * N <= src.len() - at {
         (at, end) = chunk::<V, MODE, N>(src, at, target, end, ticks);
     }
     'vectors: while 2 * N <= src.len() - at {
         let mask = classify::<V, MODE, N>(src, at, ticks);
-        (at, end) = vector_from::<V, MODE, N>(src, at, at, mask, target, end, ticks);
+        (at, end) = escape_by_mask::<V, MODE, N, false>(src, at, N, mask, target, end, ticks);
     }
     let last = &src[at..];
     match store_clean_tail::<V, MODE, N>(last, target, end, ticks) {

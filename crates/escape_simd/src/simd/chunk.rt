@@ -1,4 +1,4 @@
-//! Whole vectors of a text that have a further one behind them: one alone, and a chunk of four.
+//! A chunk: four vectors of a text that have a further one behind them.
 ghost use Rattle.std.specs.Prelude.{◌≡◌, ◌+◌, ◌*◌, ◌≤◌, length, take, drop};
 ghost use Rattle.escape_lanes.specs.Masks.{whole_mask};
 ghost use Rattle.escape_lanes.specs.Written.{bytes_of};
@@ -14,7 +14,7 @@ use escape_lanes::simd::target::{Target, Ticks};
 /// Escapes the text's vector at `at` by its mask, from `from` on: a separator of the vector before may end
 /// there. Returns the places after it.
 #[inline(always)]
-pub(crate) fn vector_from<V: Classifier<MODE, N>, const MODE: u8, const N: usize>(
+fn vector_from<V: Classifier<MODE, N>, const MODE: u8, const N: usize>(
     src: &[u8],
     at: usize,
     from: usize,
@@ -31,8 +31,8 @@ pub(crate) fn vector_from<V: Classifier<MODE, N>, const MODE: u8, const N: usize
         src.now (state target.old from to ticks.old) (state target.new result.0 result.1 ticks.new) }
 {
     let skipped = from - at;
-    let left = mask.skip(skipped);
-    escape_by_mask::<V, MODE, N, false>(src, from, N - skipped, left, target, to, ticks)
+    let rest = mask.skip(skipped);
+    escape_by_mask::<V, MODE, N, false>(src, from, N - skipped, rest, target, to, ticks)
 }
 
 /// Escapes four vectors of the text, classified at once, since most are clean. Returns the places after them.

@@ -8,7 +8,8 @@ use escape_lanes::simd::escape_mask::EscapeMask;
 use escape_lanes::simd::target::Target;
 use escape_lanes::simd::traits::LoadStore;
 
-/// How far a vector's store may reach past a text: kernels of more lanes store a text's last bytes exactly.
+/// How far past an output the store of a whole vector may reach: kernels of more lanes store a text's last bytes
+/// exactly.
 const WIDEST_REACH: usize = 32;
 
 /// Stores a vector at `to`, and uses up the mask, which tells of its first `left` lanes. Returns the place

@@ -12,7 +12,8 @@ use crate::simd::store::{load_vector, store_lanes, store_vector};
 use escape_lanes::simd::escape_mask::{EscapeMask, classify, classify_front};
 use escape_lanes::simd::target::{Target, Ticks};
 
-/// The masks of a text shorter than two vectors: of its last vector, and if it fills one, of its first.
+/// The masks of a text shorter than two vectors: of its last vector, and of its first. If it fills no vector, the
+/// last mask is of all of it, and the first is empty.
 #[derive(Drop)]
 pub(crate) struct TailMasks<const MODE: u8> {
     pub first: EscapeMask<MODE>,
@@ -31,7 +32,8 @@ impl<const MODE: u8> TailMasks<MODE> {
     }
 }
 
-/// Loads and classifies a text of at least one byte and fewer than a vector has.
+/// Returns a text of at least one byte, and fewer than a vector has, in a vector with zeros after it, and its
+/// masks. Ticks once.
 #[inline(always)]
 pub(crate) fn classify_short<V: Classifier<MODE, N>, const MODE: u8, const N: usize>(
     text: &[u8],
@@ -48,7 +50,8 @@ pub(crate) fn classify_short<V: Classifier<MODE, N>, const MODE: u8, const N: us
     (v, TailMasks { first, last })
 }
 
-/// Classifies the first and the last vector of a text of one vector or more, and fewer than two.
+/// Returns the masks of the first and the last vector of a text of one vector or more, and fewer than two. Ticks
+/// twice.
 #[inline(always)]
 pub(crate) fn classify_pair<V: Classifier<MODE, N>, const MODE: u8, const N: usize>(
     text: &[u8],

@@ -16,7 +16,7 @@ use escape_lanes::simd::target::Target;
 pub(crate) use run::{Entries, RunEnd};
 
 /// Writes what stands for the byte at `at`, which needs an escape, or for the separator that begins
-/// with it. Returns the places after both.
+/// with it. Returns the place after it in the text, and the place after what was written.
 #[inline]
 pub(crate) fn escape<const MODE: u8, const N: usize>(
     src: &[u8],
@@ -42,7 +42,8 @@ pub(crate) fn escape<const MODE: u8, const N: usize>(
     (at + 1, end)
 }
 
-/// Escapes the run that goes on at `at`, as far as `run` tells. Returns the places after it.
+/// Escapes the run that goes on at `at`, as far as `run` tells, which it does of the bytes before `stop`. Returns
+/// the places after it.
 #[inline(always)]
 pub(crate) fn escape_run<F: RunEnd<MODE>, const MODE: u8, const N: usize>(
     src: &[u8],

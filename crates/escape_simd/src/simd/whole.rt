@@ -48,7 +48,7 @@ pub(crate) fn format<V: Classifier<MODE, N>, const MODE: u8, const N: usize>(
     write_quote::<MODE, true, N>(target, close)
 }
 
-/// As [`format`], to `dst`, and with no count.
+/// As [`format`], to `dst`, and without counts of the writes.
 #[inline(always)]
 pub(crate) fn format_string<V: Classifier<MODE, N>, const MODE: u8, const N: usize>(
     value: &str,
@@ -64,7 +64,8 @@ pub(crate) fn format_string<V: Classifier<MODE, N>, const MODE: u8, const N: usi
 
 /// Escapes the text to `dst` from `to` on, between quotation marks if `QUOTED`. Returns the place after it.
 ///
-/// A clean short text needs no stack frame: the two calls are tail calls, and write the first mark again.
+/// A clean short text needs no stack frame: the two calls are tail calls, and `escape_flagged` writes the first
+/// mark again.
 #[inline(never)]
 pub(crate) fn escape_to_slice<
     V: Classifier<MODE, N>,
@@ -75,7 +76,7 @@ pub(crate) fn escape_to_slice<
     requires { to + room_for QUOTED (mode_numbered MODE) (length text.now) ≤ length dst.old }
     ensures { IsEscapedAt (reach true N) (mode_numbered MODE) QUOTED text.now dst.old dst.new to result }
 {
-    // The empty text goes this way too, so the short way needs no test for it.
+    // The empty text goes this way too: so the compiler drops the test for it from the short way.
     if text.is_empty() || 2 * N <= text.len() {
         return escape_long::<V, MODE, QUOTED, N>(text, dst, to);
     }

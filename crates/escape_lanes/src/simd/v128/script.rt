@@ -1,4 +1,4 @@
-//! Which of 16 bytes a script literal has to look at, on all lanes of a word at once.
+//! Which of 16 bytes are flagged in script, on all lanes of a word at once.
 ghost use Rattle.std.specs.Prelude.{◌≡◌, ◌+◌, map};
 ghost use Rattle.escape_lanes.specs.Lanes.{flagged_lanes};
 ghost use Rattle.escape_lanes.specs.Mode.{script};
@@ -9,7 +9,7 @@ use crate::simd::target::Ticks;
 use crate::simd::traits::{BitMask, Simd};
 use crate::simd::v128::{Simd128u, lane_bits, sums};
 
-/// Returns flags where a script literal has to look at the byte, in one word.
+/// Returns the flags of script, in one word.
 ///
 /// Each sum takes the low seven bits: those of the wanted bytes are flipped to the greatest numbers
 /// below 0x80. Of the bytes that are not ASCII, e2 alone is wanted.
@@ -25,7 +25,7 @@ fn script_needs(lanes: u64) -> u64
     ascii ^ ((ascii ^ separator) & lanes)
 }
 
-/// Returns which lanes of `v` have bytes that a script literal has to look at. It ticks once.
+/// Returns which lanes of `v` are flagged in script: their bytes need an escape, or are e2. It ticks once.
 ///
 /// Where `v` begins with the bytes of `a<b`, lane 1 is set.
 #[inline(always)]

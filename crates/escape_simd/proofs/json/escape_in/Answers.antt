@@ -3,4 +3,4 @@ use Rattle.escape_simd.proofs.EscapingLemmas.{IsEscaping-output}
 use Rattle.escape_simd.proofs.json.escape_in.Goals as goal
 
 pub returns-clause-output : goal.returns-clause-output
-returns-clause-output g c = IsEscaping-output json _ _ c.in_ok-text.ensures.exact c.utf8.value
+returns-clause-output g c = IsEscaping-output json _ _ c.in_ok-output_in.ensures.exact c.utf8.value

@@ -10,7 +10,7 @@ use escape_lanes::simd::mode::entry;
 
 /// What tells whether a run goes on.
 pub(crate) trait RunEnd<const MODE: u8>: Drop {
-    // It goes on at a place of a text, and tells of those before a `stop` alone.
+    // The run goes on at a place of a text, the last number. The number before is the place up to which `self` tells.
     ghost goes: { Self → List ℕ → ℕ → ℕ → Type 0 };
 
     // It has ended there.
@@ -34,10 +34,10 @@ impl<const MODE: u8> RunEnd<MODE> for EscapeMask<MODE> {
 
     ghost ends = { λ mask src stop at. IsRunEnd (mode_numbered MODE) src stop at mask };
 
-    /// Whether no flag is left is asked first: most vectors have one run, and leave here.
     #[inline(always)]
     fn goes_on(&mut self, _: &[u8], _: usize, next: usize) -> bool {
-        self.clear_first();
+        // Whether no flag is left is asked first: most vectors have one run, and leave here.
+        self.clear_first_flag();
         !self.is_clear() && self.is_flagged(next)
     }
 

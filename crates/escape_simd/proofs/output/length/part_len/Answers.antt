@@ -22,19 +22,19 @@ overflow_add-len g c =
     let next = counted-next (mode_numbered g.row.MODE) c.args.src.now c.args.at c.args.count c.requires.inside c.flags.len c.flags.mask c.flags.invariant some _ c.first_offset.ensures c.added-len.result _ c.added-len.ensures refl in
     record { fits = omega (arith, counted-few (mode_numbered g.row.MODE) c.args.src.now c.args.at c.args.count c.requires.inside _ _ next, c.requires.few) }
 
-pub clear_first-requires : goal.clear_first-requires
-clear_first-requires g c = (omega arith, sym c.is_clear.ensures ∙ c.flags-test.true)
+pub clear_first_flag-requires : goal.clear_first_flag-requires
+clear_first_flag-requires g c = (omega arith, sym c.is_clear.ensures ∙ c.flags-test.true)
 
 pub flags-smaller : goal.flags-smaller
 flags-smaller g c =
     let some = sym c.is_clear.ensures ∙ c.flags-test.true in
     let first = counted-first (mode_numbered g.row.MODE) c.args.src.now c.args.at c.args.count c.requires.inside c.flags.len c.flags.mask c.flags.invariant some _ c.first_offset.ensures in
-    omega (arith, first, c.first_offset.ensures, ap (λ m. m.from) c.clear_first.ensures)
+    omega (arith, first, c.first_offset.ensures, ap (λ m. m.from) c.clear_first_flag.ensures)
 
 pub flags-preserved : goal.flags-preserved
 flags-preserved g c =
     let some = sym c.is_clear.ensures ∙ c.flags-test.true in
-    counted-next (mode_numbered g.row.MODE) c.args.src.now c.args.at c.args.count c.requires.inside c.flags.len c.flags.mask c.flags.invariant some _ c.first_offset.ensures c.added-len.result c.clear_first.new.self c.added-len.ensures c.clear_first.ensures
+    counted-next (mode_numbered g.row.MODE) c.args.src.now c.args.at c.args.count c.requires.inside c.flags.len c.flags.mask c.flags.invariant some _ c.first_offset.ensures c.added-len.result c.clear_first_flag.new.self c.added-len.ensures c.clear_first_flag.ensures
 
 pub returns : goal.returns
 returns g c = counted-end (mode_numbered g.row.MODE) c.args.src.now c.args.at c.args.count c.requires.inside c.flags.len c.flags.mask c.flags.invariant (sym c.is_clear.ensures ∙ c.flags-test.false)

@@ -9,14 +9,14 @@ unfolding flagged_blocks
 blocks-2-init g c = record {
   so_far = search rules;
   left = record { bytes = refl; from = ap (λ m. m.from) c.requires.0 };
-  fresh = λ _. ap (λ m. m.stored) c.requires.0;
+  stored = ap (λ m. m.stored) c.requires.0;
   more = omega (arith, c.requires.5.some);
 }
 
 pub pay_block-requires : goal.pay_block-requires
 pay_block-requires g c =
     let i = c.blocks-2.invariant in
-    (omega arith, (i.left.from, omega (arith, left-long c.requires.0 c.requires.5 c.blocks-2.block i.more i.left, i.more), i.fresh))
+    (omega arith, (i.left.from, omega (arith, left-long c.requires.0 c.requires.5 c.blocks-2.block i.more i.left, i.more), i.stored))
 
 pub half-eight-requires : goal.half-eight-requires
 half-eight-requires g c =
@@ -31,7 +31,7 @@ put_block-end-requires g c =
     let piece = c.shorten_vector-pieces.ensures (c.blocks-2.block / 2) (omega (arith, c.blocks-2-test.true)) in let half = block-half c.args.src.now c.args.at c.blocks-2.block _ c.half-eight.result piece c.half-eight.ensures.block in
     let begins = block-told (drop (c.args.at + 8 * c.blocks-2.block) c.args.src.now) _ c.half-eight.result _ told long half in let same = sym (paid-lanes (mode_numbered g.row.MODE) i.left p.same) in
     let room = left-room c.requires.0 c.requires.5 c.blocks-2.block i.more left refl i.so_far in
-    (omega arith, (omega arith, (c.half-eight.ensures.whole, left.from, begins, λ none. p.paid (ap (λ bits. flag_count (take 8 bits)) same ∙ none), room)))
+    (omega arith, (omega arith, (c.half-eight.ensures.whole, left.from, begins, λ none. (let paid = p.stored in let is = ap (λ bits. flag_count (take 8 bits)) same ∙ none in grind (arith, nat_tests, paid, is)), room)))
 
 pub skip-mask-requires : goal.skip-mask-requires
 skip-mask-requires g c =
@@ -49,7 +49,7 @@ blocks-2-preserved g c =
         bytes = ap (λ m. m.bytes) c.skip-mask.ensures ∙ ap (drop 8) (e.same.bytes ∙ left.bytes) ∙ drop-drop 8 (8 * c.blocks-2.block) c.args.mask.bytes ∙ ap (λ n. drop n c.args.mask.bytes) next;
         from = ap (λ m. m.from) c.skip-mask.ensures;
       };
-      fresh = λ unused. ap (λ m. m.stored) c.skip-mask.ensures ∙ (let used = e.used in grind (arith, nat_tests, used, unused, p.kept unused, rw (sym lanes) at p.left));
+      stored = ap (λ m. m.stored) c.skip-mask.ensures ∙ (let used = e.used in let kept = p.stored in let was = i.stored in grind (arith, nat_tests, used, kept, was, lanes, p.left));
       more = omega (arith, c.if-valid-block.false);
     }
 

@@ -1,6 +1,6 @@
 use Rattle.escape_simd.proofs.Words.{◌+◌, ◌*◌, ◌≤◌, length, arith, mode_numbered}
 use Rattle.escape_simd.proofs.Costs.{body-all, body-on, body-rest, body-room, room-same}
-use Rattle.escape_simd.proofs.Vectors.{advanced-asked, advanced-bordered, advanced-from, reached-to}
+use Rattle.escape_simd.proofs.Vectors.{advanced-asked, advanced-bordered, advanced-from}
 use Rattle.escape_simd.proofs.simd.body.escape_bytes.Goals as goal
 
 pub chunk-requires : goal.chunk-requires
@@ -14,17 +14,17 @@ chunks-preserved g c =
     let i = c.chunks.invariant.stretch.inside in
     body-on c.chunks.invariant 4 g.met.V.Classifier.several (omega (arith, c.chunks-test.true, i)) (omega arith) (omega arith) c.chunk.ensures
 
-pub vector_from-requires : goal.vector_from-requires
-vector_from-requires g c =
+pub escape_by_mask-requires : goal.escape_by_mask-requires
+escape_by_mask-requires g c =
     let i = c.vectors.invariant.stretch.inside in let a = c.classify-mask.ensures in
     let inside : c.vectors.at + 2 * g.row.N ≤ length c.args.src.now = omega (arith, c.vectors-test.true, i) in
     let room = body-room c.vectors.invariant (c.vectors.at + g.row.N) c.requires (omega (arith, inside)) in
-    (omega arith, (omega arith, (a.told, reached-to (mode_numbered g.row.MODE) c.args.src.now c.vectors.at, inside, room)))
+    (omega arith, (omega arith, (a.told, record { few = omega arith; inside = omega (arith, inside); room = room })))
 
 pub vectors-preserved : goal.vectors-preserved
 vectors-preserved g c =
     let i = c.vectors.invariant.stretch.inside in
-    body-on c.vectors.invariant 1 g.met.V.Classifier.several (omega (arith, c.vectors-test.true, i)) (omega arith) (omega arith) (advanced-bordered (omega arith) (advanced-asked c.vectors.ticks 1 c.classify-mask.ensures.tick c.vector_from.ensures))
+    body-on c.vectors.invariant 1 g.met.V.Classifier.several (omega (arith, c.vectors-test.true, i)) (omega arith) (omega arith) (advanced-bordered (omega arith) (advanced-asked c.vectors.ticks 1 c.classify-mask.ensures.tick c.escape_by_mask.ensures))
 
 pub store_clean_tail-requires : goal.store_clean_tail-requires
 store_clean_tail-requires g c =

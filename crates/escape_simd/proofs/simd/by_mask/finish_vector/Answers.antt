@@ -8,7 +8,7 @@ pub rest-rest-requires : goal.rest-rest-requires
 rest-rest-requires g c =
     let before = c.if-border-from.false in
     let long = ap length c.requires.3.bytes ∙ length-take-le c.args.border c.args.src.now (omega (arith, c.requires.4.inside)) in
-    (omega arith, (omega (arith, long, before), (c.requires.3.from, mask-past (mode_numbered g.row.MODE) c.args.mask c.args.from c.requires.2 (omega (arith, before, c.requires.1)))))
+    (omega arith, (c.requires.3.used, omega (arith, long, before), c.requires.3.from, mask-past (mode_numbered g.row.MODE) c.args.mask c.args.from c.requires.2 (omega (arith, before, c.requires.1))))
 
 pub store_vector-requires : goal.store_vector-requires
 store_vector-requires g c =

@@ -8,7 +8,7 @@ pub invariant_of-result : goal.invariant_of-result
 invariant_of-result g c =
     let mode = mode_numbered g.row.MODE in let of = c.self.inside.of in
     rw (c.part.ensures.0, c.part.ensures.1, mask-all mode of.bytes of.from c.self.inside.bits c.self.invariant)
-    (mask-later mode of.bytes of.from c.self.inside.bits c.self.invariant c.args.from (rw (sym c.self.view_is) at c.requires.later.0) (rw (sym c.self.view_is) at c.requires.later.1))
+    (mask-later mode of.bytes of.from c.self.inside.bits c.self.invariant c.args.from (rw (sym c.self.view_is) at c.requires.2) (rw (sym c.self.view_is) at c.requires.3))
 
 pub returns-clause-told : goal.returns-clause-told
 returns-clause-told g c =

@@ -3,7 +3,7 @@ use Rattle.escape_lanes.specs.Bits.{first_set}
 use Rattle.escape_lanes.specs.Masks.{lanes_of_mask}
 use Rattle.escape_lanes.specs.Mode.{mode_numbered}
 use Rattle.escape_lanes.proofs.EscapeMaskLemmas.{mask-all, mask-cleared, mask-first}
-use Rattle.escape_lanes.proofs.simd.escape_mask.EscapeMask.clear_first.Goals as goal
+use Rattle.escape_lanes.proofs.simd.escape_mask.EscapeMask.clear_first_flag.Goals as goal
 
 pub overflow_add-next : goal.overflow_add-next
 overflow_add-next g c =

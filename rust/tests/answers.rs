@@ -14,7 +14,9 @@ fn text_of(digits: &str) -> String {
 
 #[test]
 fn answers() {
-    for line in fs::read_to_string(ANSWERS).unwrap().lines() {
+    let answers = fs::read_to_string(ANSWERS).unwrap();
+    assert_eq!(answers.lines().count(), 2538);
+    for line in answers.lines() {
         let columns: Vec<&str> = line.split('\t').collect();
         let mode = if columns[0] == "json" { Json } else { Html };
         let text = text_of(columns[1]);

@@ -27,11 +27,6 @@ def note(path, word):
     return next((line.partition(": ")[2] for line in lines if line.startswith(f"# {word}: ")), None)
 
 
-def says_answer(path):
-    """Whether the edit notes that an answer by hand alone refuses it."""
-    return note(path, "refused by") == "an answer"
-
-
 def edited(folder, path):
     """The texts of the crate in the folder that the edit changes, by their files, as it leaves them."""
     texts = {}

@@ -465,6 +465,22 @@ def test_threads():
     assert sorted(ended) == [0, 1, 2, 3], ended
 
 
+INTERPRETERS = r"""
+try:
+    import _interpreters as interpreters
+except ImportError:
+    import _xxsubinterpreters as interpreters
+said = interpreters.run_string(interpreters.create(), "import escape_simd; assert escape_simd.html('<') == '&lt;'")
+print("refused:" if said else "imported", said or "")
+"""
+
+
+def test_other_interpreters():
+    """another interpreter of the process imports it too"""
+    said = in_another_python(INTERPRETERS)
+    assert said == "imported \n", said
+
+
 def test_other_threads_run():
     """while a long text is escaped, another thread runs; while a short one is, none does"""
     count, running, interval = 0, True, sys.getswitchinterval()

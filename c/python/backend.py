@@ -105,7 +105,9 @@ def build_wheel(wheel_directory, config_settings=None, metadata_directory=None):
     with zipfile.ZipFile(Path(wheel_directory, "%s-%s.whl" % (name, tag)), "w", zipfile.ZIP_DEFLATED) as archive:
         for path, content in files.items():
             # Each file has the same time, so that the same files make the same wheel.
-            archive.writestr(zipfile.ZipInfo(path), content, zipfile.ZIP_DEFLATED)
+            entry = zipfile.ZipInfo(path)
+            entry.external_attr = 0o644 << 16
+            archive.writestr(entry, content, zipfile.ZIP_DEFLATED)
     return "%s-%s.whl" % (name, tag)
 
 
